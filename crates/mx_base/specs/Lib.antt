@@ -1,0 +1,5 @@
+pub mod Answers
+pub mod AppName
+pub mod Causes
+pub mod MemSink
+pub mod Sink
