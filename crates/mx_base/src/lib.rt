@@ -3,16 +3,25 @@
 
 mod bytes;
 mod fault_plan;
+mod file;
 mod list_of;
 mod mem_sink;
+mod name;
+mod path;
+mod path_folder;
+mod path_join;
 mod shared;
 mod sink;
 mod text;
 
 pub use bytes::Bytes;
-pub use fault_plan::FaultPlan;
+pub use fault_plan::{FaultPlan, Faults, NoFaults};
+pub use file::{File, Files};
 pub use list_of::ListOf;
 pub use mem_sink::{MemSink, NullSink};
+pub use name::{AppName, NameError};
+pub use path::RelPath;
+pub use path_join::PathError;
 pub use shared::Shared;
 pub use sink::{Failed, Sink};
 pub use text::{Text, copy_text};

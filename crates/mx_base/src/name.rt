@@ -1,0 +1,109 @@
+// The names of applications.
+ghost use Rattle.std.specs.Prelude.{◌≡◌, ◌<◌, ◌≤◌, ◌↔◌, ℕ, [], length, slice_index, IsTrue, IsFalse, IfOk, IsErrOf, IfSome, IfNone};
+ghost use Rattle.mx_base.specs.AppName.{IsAppName, IsFirstBadByte, fits_at};
+
+use crate::text::Text;
+use std::alloc::{AllocError, Global};
+use std::marker::Model;
+use thiserror::Error;
+
+const MAX_NAME_LEN: usize = 255;
+
+/// The name of an application: `[A-Za-z_][A-Za-z0-9_]*`, of at most 255 bytes. Names are ordered by their bytes.
+#[derive(Clone, Debug, PartialEq, Eq, PartialOrd, Ord, Drop)]
+pub struct AppName {
+    text: Text,
+}
+
+impl Model for AppName {
+    ghost use Rattle.std.specs.Prelude.{List, ℕ};
+
+    ghost Value = { List ℕ };
+
+    ghost use Rattle.mx_base.specs.AppName.{IsAppName};
+
+    ghost view = { λ name. name.text };
+
+    ghost invariant = { λ name. IsAppName name.text };
+
+    ghost inverse = { λ text. record { text = text } };
+}
+
+/// Why a text is no name, the first that holds in this order.
+#[derive(Clone, Copy, Debug, PartialEq, Eq, Error)]
+pub enum NameError {
+    /// The text is empty.
+    #[error("the name is empty")]
+    Empty,
+    /// The text has more than 255 bytes.
+    #[error("the name has more than 255 bytes")]
+    TooLong,
+    /// The first byte that may not stand at its place, counted from 0.
+    #[error("no name has the byte at {at}")]
+    BadByte { at: u64 },
+    #[error("out of memory")]
+    OutOfMemory,
+}
+
+impl From<AllocError> for NameError {
+    ghost use Rattle.std.specs.Prelude.{◌≡◌};
+    ghost use Rattle.mx_base.specs.declared.name.NameError.TheVariants.{OutOfMemory};
+
+    ghost from_gives = { λ _ e. e ≡ OutOfMemory };
+
+    fn from(_: AllocError) -> NameError {
+        NameError::OutOfMemory
+    }
+}
+
+impl AppName {
+    /// The name that the text spells.
+    pub fn of(alloc: Global, text: &[u8]) -> Result<AppName, NameError>
+        ensures ok { IfOk result (λ name. name ≡ text.now) }
+        ensures empty { IsErrOf result NameError.Empty ↔ (text.now ≡ []) }
+        ensures too_long { IsErrOf result NameError.TooLong ↔ (255 < length text.now) }
+        ensures bad_byte { (at : ℕ) → IsErrOf result (NameError.BadByte at) ↔ ((length text.now ≤ 255) × IsFirstBadByte text.now at) }
+    {
+        if text.is_empty() {
+            return Err(NameError::Empty);
+        }
+        if text.len() > MAX_NAME_LEN {
+            return Err(NameError::TooLong);
+        }
+        if let Some(at) = first_bad_byte(text) {
+            return Err(NameError::BadByte { at: at as u64 });
+        }
+        Ok(AppName {
+            text: Text::from_slice(alloc, text)?,
+        })
+    }
+
+    pub fn as_slice(&self) -> &[u8]
+        ensures value { result.now ≡ self.now }
+        ensures name { IsAppName self.now }
+    {
+        self.text.as_slice()
+    }
+}
+
+// The first byte that no name has at its place.
+fn first_bad_byte(text: &[u8]) -> Option<usize>
+    ensures found { IfSome result (IsFirstBadByte text.now) }
+    ensures none { IfNone result ((k : ℕ) → k < length text.now → IsTrue (fits_at k (slice_index text.now k))) }
+{
+    for (at, byte) in text.iter().enumerate() {
+        if !may_stand(at, *byte) {
+            return Some(at);
+        }
+    }
+    None
+}
+
+fn may_stand(at: usize, byte: u8) -> bool
+    ensures { result ≡ fits_at at byte }
+{
+    byte == b'_'
+        || (b'a' <= byte && byte <= b'z')
+        || (b'A' <= byte && byte <= b'Z')
+        || (at > 0 && b'0' <= byte && byte <= b'9')
+}
