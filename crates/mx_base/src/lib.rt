@@ -13,6 +13,7 @@ mod path_join;
 mod shared;
 mod sink;
 mod text;
+mod utf8;
 
 pub use bytes::Bytes;
 pub use fault_plan::{FaultPlan, Faults, NoFaults};
@@ -25,3 +26,6 @@ pub use path_join::PathError;
 pub use shared::Shared;
 pub use sink::{Failed, Sink};
 pub use text::{Text, copy_text};
+
+#[cfg(test)]
+mod tests;

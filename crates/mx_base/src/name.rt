@@ -1,10 +1,11 @@
 // The names of applications.
-ghost use Rattle.std.specs.Prelude.{◌≡◌, ◌<◌, ◌≤◌, ◌↔◌, ℕ, [], length, slice_index, IsTrue, IsFalse, IfOk, IsErrOf, IfSome, IfNone};
+ghost use Rattle.std.specs.Prelude.{◌≡◌, ◌<◌, ◌≤◌, ◌↔◌, ℕ, [], length, slice_index, IsTrue, IsFalse, IfOk, IsErrOf, IfSome, IfNone, string_bytes};
 ghost use Rattle.mx_base.specs.AppName.{IsAppName, IsFirstBadByte, fits_at};
 
-use crate::text::Text;
+use crate::utf8::Utf8;
 use std::alloc::{AllocError, Global};
 use std::marker::Model;
+use std::str;
 use thiserror::Error;
 
 const MAX_NAME_LEN: usize = 255;
@@ -12,7 +13,7 @@ const MAX_NAME_LEN: usize = 255;
 /// The name of an application: `[A-Za-z_][A-Za-z0-9_]*`, of at most 255 bytes. Names are ordered by their bytes.
 #[derive(Clone, Debug, PartialEq, Eq, PartialOrd, Ord, Drop)]
 pub struct AppName {
-    text: Text,
+    text: Utf8,
 }
 
 impl Model for AppName {
@@ -74,15 +75,26 @@ impl AppName {
             return Err(NameError::BadByte { at: at as u64 });
         }
         Ok(AppName {
-            text: Text::from_slice(alloc, text)?,
+            text: Utf8::new(spelled(alloc, text)?),
         })
     }
 
-    pub fn as_slice(&self) -> &[u8]
+    pub fn as_str(&self) -> &str
         ensures value { result.now ≡ self.now }
         ensures name { IsAppName self.now }
     {
-        self.text.as_slice()
+        self.text.as_str()
+    }
+}
+
+#[tactic(auto, using(crate::proofs::NameLemmas::name_is_utf8))]
+fn spelled(alloc: Global, text: &[u8]) -> Result<String, AllocError>
+    requires { (k : ℕ) → k < length text.now → IsTrue (fits_at k (slice_index text.now k)) }
+    ensures { IfOk result (λ string. string_bytes string ≡ text.now) }
+{
+    match str::from_utf8(text) {
+        Ok(name) => String::from_str(alloc, name),
+        Err(_) => unreachable!(),
     }
 }
 

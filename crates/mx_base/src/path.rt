@@ -1,34 +1,30 @@
 // Paths below a root.
 ghost use Rattle.std.specs.Prelude.{◌≡◌, [], map, nat_eq, IsTrue, IfOk, ◌++◌, string_bytes};
 ghost use Rattle.std.specs.List.{slice_split, list_all};
-ghost use Rattle.std.specs.Option.{option_copied};
-ghost use Rattle.std.specs.Cmp.Lexicographic.{pointwise, nat_list_eq_equiv, slice_cmp};
-ghost use Rattle.std.specs.Cmp.{partial_equiv_from_equiv, partial_order_from_own_ties};
-ghost use Rattle.std.proofs.Common.{rules};
-ghost use Rattle.std.specs.Cmp.Rules.{comparing};
-ghost use Rattle.std.specs.Ordering.{nat_cmp, as_partial_cmp};
 ghost use Rattle.mx_base.specs.Path.{is_slash, is_segment, is_path, segments_of, path_of, child_of, path_from, first_segment, with_slashes};
 
+use crate::utf8::Utf8;
 use std::alloc::{AllocError, Global};
-use std::cmp::Ordering;
 use std::marker::Model;
 
 /// A path below a root: segments with a `/` between them, which contracts see as that text.
 /// The root has no segment. Paths are ordered as the byte strings of their texts.
-#[derive(Debug, Drop)]
+#[derive(Clone, Debug, PartialEq, Eq, PartialOrd, Ord, Drop)]
 pub struct RelPath {
-    text: String,
+    text: Utf8,
 }
 
 impl Model for RelPath {
-    ghost use Rattle.std.specs.Prelude.{List, ℕ, IsTrue, string_bytes};
+    ghost use Rattle.std.specs.Prelude.{List, ℕ, IsTrue};
     ghost use Rattle.mx_base.specs.Path.{is_path};
 
     ghost Value = { List ℕ };
 
-    ghost view = { λ path. string_bytes path.text };
+    ghost view = { λ path. path.text };
 
-    ghost invariant = { λ path. IsTrue (is_path (string_bytes path.text)) };
+    ghost invariant = { λ path. IsTrue (is_path path.text) };
+
+    ghost inverse = { λ text. record { text = text } };
 }
 
 impl RelPath {
@@ -37,7 +33,7 @@ impl RelPath {
         ensures { result ≡ [] }
     {
         RelPath {
-            text: String::new(alloc),
+            text: Utf8::new(String::new(alloc)),
         }
     }
 
@@ -45,7 +41,9 @@ impl RelPath {
         requires { IsTrue (is_path (string_bytes text)) }
         ensures { result ≡ string_bytes text }
     {
-        RelPath { text }
+        RelPath {
+            text: Utf8::new(text),
+        }
     }
 
     // The segments with slashes between them.
@@ -56,9 +54,10 @@ impl RelPath {
     {
         match segments.split_first() {
             None => Ok(RelPath::root(alloc)),
-            Some((first, rest)) => Ok(RelPath {
-                text: with_rest(alloc, *first, rest)?,
-            }),
+            Some((first, rest)) => {
+                let text = with_rest(alloc, *first, rest)?;
+                Ok(RelPath::from_text(text))
+            }
         }
     }
 
@@ -74,10 +73,11 @@ impl RelPath {
         ensures segments { IfOk result (λ segments. map (λ s. s.now) segments.items ≡ segments_of self.now) }
         ensures proper { IsTrue (list_all is_segment (segments_of self.now)) }
     {
-        if self.text.is_empty() {
+        let text = self.as_str();
+        if text.is_empty() {
             Ok(Vec::new(alloc))
         } else {
-            pieces(alloc, self.text.as_str())
+            pieces(alloc, text)
         }
     }
 }
@@ -98,52 +98,4 @@ pub(crate) fn pieces(alloc: Global, text: &str) -> Result<Vec<&str>, AllocError>
     ensures { IfOk result (λ pieces. map (λ s. s.now) pieces.items ≡ slice_split is_slash text.now) }
 {
     text.split('/').collect(alloc)
-}
-
-impl Clone for RelPath {
-    ghost is_clone = { λ path copy. copy ≡ path };
-
-    fn clone(&self) -> Result<RelPath, AllocError> {
-        Ok(RelPath {
-            text: self.text.clone()?,
-        })
-    }
-}
-
-impl PartialEq for RelPath {
-    ghost eq = { pointwise nat_eq };
-
-    ghost laws = { partial_equiv_from_equiv nat_list_eq_equiv };
-
-    fn eq(&self, other: &RelPath) -> bool {
-        self.as_str().as_bytes() == other.as_str().as_bytes()
-    }
-}
-
-impl Eq for RelPath {
-    ghost laws = { nat_list_eq_equiv };
-}
-
-impl PartialOrd for RelPath {
-    ghost partial_cmp = { as_partial_cmp (slice_cmp nat_cmp) };
-
-    ghost laws = { partial_order_from_own_ties (Prim.search (comparing, rules)) (Prim.search (comparing, rules)) };
-
-    fn partial_cmp(&self, other: &RelPath) -> Option<Ordering> {
-        Some(self.cmp(other))
-    }
-}
-
-impl Ord for RelPath {
-    ghost cmp = { slice_cmp nat_cmp };
-
-    ghost total = { Prim.search (comparing, rules) };
-
-    ghost matches_partial_cmp = { Prim.search (comparing, rules) };
-
-    ghost matches_eq = { Prim.search (comparing, rules) };
-
-    fn cmp(&self, other: &RelPath) -> Ordering {
-        self.as_str().as_bytes().cmp(other.as_str().as_bytes())
-    }
 }
