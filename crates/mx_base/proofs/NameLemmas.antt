@@ -1,11 +1,15 @@
 -- Names are ASCII.
-use Rattle.std.proofs.Common.{◌≡◌, ℕ, ◌<◌, ◌≤◌, Bool, true, false, nat_lt, refl, List, length, slice_index, IsTrue, arith}
+use Rattle.std.proofs.Common.{◌≡◌, ℕ, ◌<◌, ◌≤◌, ◌==◌, ◌||◌, ◌&&◌, not, Bool, true, false, nat_lt, refl, ap, ◌∙◌, bytes_eq, List, [], ◌∷◌, ◌++◌, length, slice_index, IsTrue, arith}
 use Rattle.std.specs.Str.{IsUtf8}
 use Rattle.std.proofs.lemmas.Bool.Decides.{nat_tests}
 use Rattle.std.proofs.lemmas.Bool.{ltb-true, ltb-false}
 use Rattle.std.proofs.lemmas.List.{get_or_past}
 use Rattle.std.proofs.lemmas.Str.{IsUtf8-from_ascii}
-use Rattle.mx_base.specs.AppName.{fits_at}
+use Rattle.std.specs.List.{list_any}
+use Rattle.std.proofs.lemmas.List.Elements.{All-from_get_or}
+use Rattle.std.proofs.lemmas.List.Folds.{list_any_none, list_any-append}
+use Rattle.mx_base.specs.AppName.{IsAppName, fits_at}
+use Rattle.mx_base.specs.Path.{is_outside, is_segment}
 
 fits_ascii : (k byte : ℕ) → IsTrue (fits_at k byte) → byte < 128
 fits_ascii k byte e = grind (arith, nat_tests)
@@ -17,3 +21,20 @@ ascii_at text i false past fits = let none : slice_index text i ≡ 0 = get_or_p
 -- a text of which each byte may stand in a name is UTF-8
 pub name_is_utf8 : (text : List ℕ) → ((k : ℕ) → k < length text → IsTrue (fits_at k (slice_index text k))) → IsUtf8 text
 name_is_utf8 text fits = IsUtf8-from_ascii text (λ i. ascii_at text i (nat_lt i (length text)) refl (fits i))
+
+inside_at : (k byte : ℕ) → IsTrue (fits_at k byte) → is_outside byte ≡ false
+inside_at k byte e = grind (arith, nat_tests)
+
+no_dot : (byte : ℕ) → IsTrue (fits_at 0 byte) → (byte == 46) ≡ false
+no_dot byte e = grind (arith, nat_tests)
+
+inside_name : (text : List ℕ) → ((k : ℕ) → k < length text → IsTrue (fits_at k (slice_index text k))) → list_any is_outside text ≡ false
+inside_name text fits = list_any_none is_outside text (All-from_get_or (λ x. is_outside x ≡ false) text 0 (λ k within. inside_at k (slice_index text k) (fits k within)))
+
+-- a name with an ending is a segment
+pub name_with_ending : (name ending : List ℕ) → IsAppName name → list_any is_outside ending ≡ false → is_segment (name ++ ending) ≡ true
+name_with_ending [] ending is inside = absurd (omega (arith, is.not_empty))
+name_with_ending (b ∷ bs) ending is inside =
+    let dot = no_dot b (is.bytes 0 is.not_empty) in
+    let clean : list_any is_outside ((b ∷ bs) ++ ending) ≡ false = list_any-append is_outside (b ∷ bs) ending ∙ ap (λ (t : Bool). t || list_any is_outside ending) (inside_name (b ∷ bs) is.bytes) ∙ inside in
+    ap (λ (t : Bool). not (false || (t && bytes_eq (bs ++ ending) [])) && not (t && bytes_eq (bs ++ ending) (46 ∷ [])) && not (list_any is_outside ((b ∷ bs) ++ ending))) dot ∙ ap not clean

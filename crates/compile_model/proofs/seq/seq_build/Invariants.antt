@@ -1,0 +1,11 @@
+use Rattle.std.proofs.Common.{◌≡◌, take, vec_len}
+use Rattle.compile_model.specs.Seq.{seq}
+use Rattle.compile_model.proofs.seq.seq_build.Given as goal
+
+abbrev pub invariant-loop-place : goal.invariant-loop-place
+invariant-loop-place g l = record {
+  so_far : l.fates.items ≡ seq g.C.Meaning.compile_of (take l.place l.job-items);
+  length : vec_len l.fates ≡ l.place;
+  deaths : g.C.Compiler.deaths l.compiler ≡ g.C.Compiler.deaths l.fn.compiler;
+  jobs : l.job-items ≡ l.plan.jobs;
+}

@@ -1,0 +1,39 @@
+-- The echo rule.
+use Rattle.std.specs.Prelude.{◌≡◌, ◌≢◌, ℕ, Bool, false, not, ◌&&◌, List, [], ◌∷◌, ◌++◌, flat_map, filter, find, Option, Some, None, option_map, unwrap_or, codes, bytes_eq, refl}
+use Rattle.mx_base.specs.declared.file.File.{File}
+use Rattle.compile_model.specs.declared.outcome.Outcome.{Outcome}
+use Rattle.compile_model.specs.Content.{Content}
+
+abbrev pub is_named : List ℕ → File → Bool
+is_named name file = bytes_eq file.path name
+
+abbrev pub is_copied : File → Bool
+is_copied file = not (is_named (codes "project.exs") file) && not (is_named (codes "warn") file)
+
+abbrev pub bytes_of : List File → List ℕ
+bytes_of files = flat_map (λ file. file.bytes) files
+
+-- the sources, and then the files of all needs
+abbrev pub echo_bytes : Content → List ℕ
+echo_bytes content = bytes_of (filter is_copied content.sources) ++ flat_map bytes_of content.needs
+
+abbrev pub echo_file : Content → File
+echo_file content = record { path = content.app ++ codes ".out"; bytes = echo_bytes content }
+
+abbrev pub bytes_named : List File → List ℕ → Option (List ℕ)
+bytes_named files name = option_map (λ file. file.bytes) (find (is_named name) files)
+
+-- the outcome by what a source `fail` says
+abbrev pub echo_after : Content → Option (List ℕ) → Outcome
+echo_after content (Some text) = record { status = 1; text = text; files = [] }
+echo_after content None = record { status = 0; text = unwrap_or (bytes_named content.sources (codes "warn")) []; files = echo_file content ∷ [] }
+
+abbrev pub echo_of : Content → Outcome
+echo_of content = echo_after content (bytes_named content.sources (codes "fail"))
+
+bare : (content : Content) (failed : Option (List ℕ)) → (echo_after content failed).status ≢ 0 → (echo_after content failed).files ≡ []
+bare content (Some text) h = refl
+bare content None h = absurd (h refl)
+
+pub echo_failed_is_bare : (content : Content) → (echo_of content).status ≢ 0 → (echo_of content).files ≡ []
+echo_failed_is_bare content = bare content (bytes_named content.sources (codes "fail"))

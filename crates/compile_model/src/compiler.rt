@@ -1,0 +1,72 @@
+// Compilers, by their meaning.
+ghost use Rattle.std.specs.Prelude.{◌≡◌, ◌≢◌, [], ℕ, length, IfOk};
+ghost use Rattle.mx_base.specs.Causes.{Counted};
+ghost use Rattle.compile_model.specs.Content.{Content, content_of};
+ghost use Rattle.compile_model.specs.Faults.{is_died};
+ghost use Rattle.compile_model.specs.declared.outcome.Outcome.{Outcome};
+
+use crate::job::Job;
+use crate::outcome::Outcome;
+use mx_base::Shared;
+use std::alloc::{AllocError, AllocFailed, Global};
+
+/// What a compiler is given: a job, and one outcome for each of its needs, in their order.
+#[derive(Drop)]
+pub struct Input<'a> {
+    pub job: &'a Job,
+    pub needs: &'a [Shared<Outcome>],
+}
+
+/// Why there is no outcome.
+#[derive(Clone, Copy, Debug, PartialEq, Eq)]
+pub enum CompileFault {
+    /// The compiler died, which its count of deaths shows.
+    Died,
+    OutOfMemory,
+}
+
+impl From<AllocError> for CompileFault {
+    ghost use Rattle.std.specs.Prelude.{◌≡◌};
+    ghost use Rattle.compile_model.specs.declared.compiler.CompileFault.TheVariants.{OutOfMemory};
+
+    ghost from_gives = { λ _ e. e ≡ OutOfMemory };
+
+    fn from(_: AllocError) -> CompileFault {
+        CompileFault::OutOfMemory
+    }
+}
+
+impl<T: Drop> From<AllocFailed<T>> for CompileFault {
+    ghost use Rattle.std.specs.Prelude.{◌≡◌};
+    ghost use Rattle.compile_model.specs.declared.compiler.CompileFault.TheVariants.{OutOfMemory};
+
+    ghost from_gives = { λ _ e. e ≡ OutOfMemory };
+
+    fn from(_: AllocFailed<T>) -> CompileFault {
+        CompileFault::OutOfMemory
+    }
+}
+
+/// What compiling means, the same for all values of a type.
+pub trait Meaning {
+    /// The outcome of a content.
+    ghost compile_of: { Content → Outcome };
+
+    /// Whether each result is that outcome.
+    ghost honest: { Type 0 };
+
+    /// An outcome of another status than 0 has no files.
+    ghost failed_is_bare: { (content : Content) → (compile_of content).status ≢ 0 → (compile_of content).files ≡ [] };
+}
+
+/// Compiles jobs, and may die on the way.
+pub trait Compiler: Meaning {
+    /// How often it died, up to 2^64 - 1, where the count stands still.
+    ghost deaths: { Self → ℕ };
+
+    /// The outcome that the input's content means. `Died` says that the compiler ended before it answered.
+    fn compile(&mut self, alloc: Global, input: &Input) -> Result<Outcome, CompileFault>
+        requires { length input.now.needs.now ≡ length input.now.job.now.needs }
+        ensures meaning { IfOk result (λ outcome. outcome ≡ Self.compile_of (content_of input.now.job.now input.now.needs.now)) }
+        ensures cause { Counted (deaths self.old) (deaths self.new) (is_died result) };
+}

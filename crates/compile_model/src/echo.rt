@@ -1,0 +1,116 @@
+// A compiler that copies its sources.
+ghost use Rattle.std.specs.Prelude.{◌≡◌, [], ◌∷◌, ◌++◌, IfOk, OnOk, find, flat_map, filter};
+ghost use Rattle.std.specs.Option.{option_copied};
+ghost use Rattle.compile_model.specs.Content.{content_of};
+ghost use Rattle.compile_model.specs.Echo.{echo_of, echo_file, echo_bytes, is_named, is_copied, bytes_of, echo_failed_is_bare};
+
+use crate::compiler::{CompileFault, Compiler, Input, Meaning};
+use crate::outcome::Outcome;
+use mx_base::{Bytes, File, Files, RelPath};
+use std::alloc::{AllocError, Global};
+
+/// Copies sources into one output file, and never dies. A source `fail` makes a job fail with its text, and
+/// a source `warn` is the text of a job that is built.
+#[derive(Clone, Copy, Debug)]
+pub struct EchoCompiler;
+
+impl Meaning for EchoCompiler {
+    ghost compile_of = { echo_of };
+
+    ghost honest = { Unit {0} };
+
+    ghost failed_is_bare = { echo_failed_is_bare };
+}
+
+impl Compiler for EchoCompiler {
+    ghost deaths = { λ _. 0 };
+
+    fn compile(&mut self, alloc: Global, input: &Input) -> Result<Outcome, CompileFault> {
+        let sources = input.job.sources.as_slice();
+        if let Some(file) = named(sources, "fail") {
+            return Ok(Outcome {
+                status: 1,
+                text: file.bytes.clone()?,
+                files: Files::new(alloc),
+            });
+        }
+        let text = match named(sources, "warn") {
+            Some(file) => file.bytes.clone()?,
+            None => Bytes::new(alloc),
+        };
+        Ok(Outcome {
+            status: 0,
+            text,
+            files: echo_files(alloc, input)?,
+        })
+    }
+}
+
+fn named<'a>(files: &'a [File], name: &str) -> Option<&'a File>
+    ensures { option_copied result ≡ find (is_named name.now) files.now }
+{
+    for file in files {
+        if has_name(file, name) {
+            return Some(file);
+        }
+    }
+    None
+}
+
+fn has_name(file: &File, name: &str) -> bool
+    ensures { result ≡ is_named name.now file.now }
+{
+    file.path.as_str() == name
+}
+
+#[tactic(auto, using(mx_base::proofs::NameLemmas::name_with_ending))]
+fn echo_files(alloc: Global, input: &Input) -> Result<Files, AllocError>
+    ensures { IfOk result (λ files. files ≡ echo_file (content_of input.now.job.now input.now.needs.now) ∷ []) }
+{
+    let mut name = String::from_str(alloc, input.job.app.as_str())?;
+    name.push_str(".out")?;
+    let mut files = Vec::new(alloc);
+    files.push(File {
+        path: RelPath::root(alloc).child(alloc, name.as_str())?,
+        bytes: Bytes::from_vec(echoed(alloc, input)?),
+    })?;
+    Ok(Files::from_vec(files))
+}
+
+fn echoed(alloc: Global, input: &Input) -> Result<Vec<u8>, AllocError>
+    ensures { IfOk result (λ bytes. bytes.items ≡ echo_bytes (content_of input.now.job.now input.now.needs.now)) }
+{
+    let mut bytes = Vec::new(alloc);
+    push_copied(&mut bytes, input.job.sources.as_slice())?;
+    let needs = input.needs;
+    for need in needs {
+        push_files(&mut bytes, need.get().files.as_slice())?;
+    }
+    Ok(bytes)
+}
+
+fn push_copied(bytes: &mut Vec<u8>, sources: &[File]) -> Result<(), AllocError>
+    ensures { OnOk result (bytes.new.items ≡ bytes.old.items ++ bytes_of (filter is_copied sources.now)) }
+{
+    for file in sources {
+        if is_copied(file) {
+            bytes.extend_from_slice(file.bytes.as_slice())?;
+        }
+    }
+    Ok(())
+}
+
+fn is_copied(file: &File) -> bool
+    ensures { result ≡ is_copied file.now }
+{
+    !has_name(file, "project.exs") && !has_name(file, "warn")
+}
+
+fn push_files(bytes: &mut Vec<u8>, files: &[File]) -> Result<(), AllocError>
+    ensures { OnOk result (bytes.new.items ≡ bytes.old.items ++ bytes_of files.now) }
+{
+    for file in files {
+        bytes.extend_from_slice(file.bytes.as_slice())?;
+    }
+    Ok(())
+}

@@ -1,0 +1,14 @@
+//! Jobs, what compiling them gives, and compiling them one after another.
+#![tactic(auto)]
+
+mod compiler;
+mod echo;
+mod job;
+mod outcome;
+mod seq;
+
+pub use compiler::{CompileFault, Compiler, Input, Meaning};
+pub use echo::EchoCompiler;
+pub use job::{Job, Jobs, Places, Plan};
+pub use outcome::{Fate, Outcome};
+pub use seq::{SeqFault, seq_build};
