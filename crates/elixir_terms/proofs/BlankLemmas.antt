@@ -1,5 +1,5 @@
 -- Blanks at the front of a text.
-use Rattle.std.proofs.Common.{◌≡◌, ℕ, Bool, true, false, List, [], ◌∷◌, Option, Some, None, cond, eqb, IsTrue, refl, sym, subst, ap, ◌∙◌}
+use Rattle.std.proofs.Common.{◌≡◌, ℕ, Bool, true, false, List, [], ◌∷◌, Some, None, cond, eqb, refl, sym, subst}
 use Rattle.std.proofs.lemmas.Bool.{eqb-true, ne_eqb, false≢true}
 use Rattle.elixir_terms.specs.Names.{is_blank}
 use Rattle.elixir_terms.specs.Tokens.{Blanks, none, blank, comment, line_end}

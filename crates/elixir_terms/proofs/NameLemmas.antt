@@ -1,7 +1,7 @@
 -- The longest name at the front of a text.
-use Rattle.std.proofs.Common.{◌≡◌, ℕ, suc, Bool, true, false, ◌&&◌, ◌||◌, List, [], ◌∷◌, ◌++◌, length, take, drop, cond, eqb, refl, sym, ap, ◌∙◌, arith, subst, ⊎_elim}
-use Rattle.std.proofs.lemmas.Bool.{and_parts, or_parts, or_from, or_left, or_right, or_cases, eqb-true, eqb-false, leb-true, leb-false, le-leb, lt-leb, ne_eqb, and_from, false_from_ne_true, true≢false, false≢true, and_right}
-use Rattle.elixir_terms.specs.Names.{is_from, is_letter, is_name_start, is_name_byte, is_name_mark, is_name_rest, is_name}
+use Rattle.std.proofs.Common.{◌≡◌, ℕ, suc, Bool, true, false, ◌&&◌, List, [], ◌∷◌, ◌++◌, length, take, drop, cond, eqb, refl, sym, ap, ◌∙◌, subst, ⊎_elim}
+use Rattle.std.proofs.lemmas.Bool.{and_parts, or_parts, or_from, or_left, or_right, or_cases, eqb-true, and_from, false_from_ne_true, true≢false, false≢true, and_right}
+use Rattle.elixir_terms.specs.Names.{is_name_start, is_name_byte, is_name_mark, is_name_rest, is_name}
 use Rattle.elixir_terms.specs.declared.token.Token.TheVariants.{Atom}
 use Rattle.elixir_terms.specs.Tokens.{EndsBefore}
 use Rattle.elixir_terms.specs.Lexing.{name_rest_len, name_len}

@@ -1,12 +1,12 @@
 -- What the reader still has to read, at each token.
-use Rattle.std.proofs.Common.{◌≡◌, ℕ, Bool, true, false, eqb, ◌<◌, List, [], ◌∷◌, ◌++◌, Option, Some, None, length, refl, sym, ap, ◌∙◌, subst}
+use Rattle.std.proofs.Common.{◌≡◌, ℕ, Bool, true, false, eqb, List, [], ◌∷◌, Some, None, length, refl, sym, ap, ◌∙◌, subst}
 use Rattle.std.proofs.lemmas.Bool.{eqb-true, eqb-false}
 use Rattle.std.proofs.lemmas.List.{nil_from_length}
 use Rattle.elixir_terms.specs.declared.state.State.{State}
 use Rattle.elixir_terms.specs.declared.state.State.TheVariants.{Value, Done}
 use Rattle.elixir_terms.specs.declared.term.Term.{Term}
 use Rattle.elixir_terms.specs.declared.token.Token.{Token}
-use Rattle.elixir_terms.specs.Tokens.{Blanks, none, AreTokens, Begins}
+use Rattle.elixir_terms.specs.Tokens.{Blanks, none, AreTokens}
 use Rattle.elixir_terms.specs.Grammar.{IsTerm}
 use Rattle.elixir_terms.specs.Spells.{Spells}
 use Rattle.elixir_terms.specs.Lexing.{past_blank, first_token}

@@ -2,7 +2,6 @@
 use Rattle.std.proofs.Common.{◌≡◌, List, [], ◌∷◌, ◌++◌, Option, Some, None, refl, sym, ap, ◌∙◌}
 use Rattle.std.specs.Prelude.{option_and_then}
 use Rattle.std.proofs.lemmas.List.{append-nil}
-use Rattle.elixir_terms.specs.declared.frame.Frame.{Frame}
 use Rattle.elixir_terms.specs.declared.state.State.{State}
 use Rattle.elixir_terms.specs.declared.state.State.TheVariants.{Value, Element, Separator, Done}
 use Rattle.elixir_terms.specs.declared.term.Term.{Term}
@@ -10,7 +9,7 @@ use Rattle.elixir_terms.specs.declared.token.Token.{Token}
 use Rattle.elixir_terms.specs.declared.token.Token.TheVariants.{Close}
 use Rattle.elixir_terms.specs.Grammar.{IsTerm, atom, string, brackets}
 use Rattle.elixir_terms.specs.Machine.{step}
-use Rattle.elixir_terms.proofs.Meaning.{Values, Filled, Wants, WantsNext}
+use Rattle.elixir_terms.proofs.Meaning.{Wants, WantsNext}
 use Rattle.elixir_terms.proofs.StepForth.{step_forth}
 
 not_end : (part rest : List Token) (tok : Token) → [] ≡ part ++ tok ∷ rest → ⊥

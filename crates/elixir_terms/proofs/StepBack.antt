@@ -12,8 +12,8 @@ use Rattle.elixir_terms.specs.declared.term.Term.{Term}
 use Rattle.elixir_terms.specs.declared.term.Term.TheVariants as term
 use Rattle.elixir_terms.specs.declared.token.Token.{Token}
 use Rattle.elixir_terms.specs.declared.token.Token.TheVariants.{Atom, Str, Key, Open, Close, Comma}
-use Rattle.elixir_terms.specs.Grammar.{IsTerm, atom, string, brackets, Inside, nothing, element, keyword, Follows, end, comma, pair, enclosed}
-use Rattle.elixir_terms.specs.Machine.{is_same_bracket, no_terms, takes_key, takes_element, filled, placed, begun, closed, at_element, at_separator, step}
+use Rattle.elixir_terms.specs.Grammar.{atom, string, brackets, Inside, nothing, element, keyword, Follows, end, comma, pair, enclosed}
+use Rattle.elixir_terms.specs.Machine.{is_same_bracket, no_terms, takes_key, takes_element, placed, begun, closed, at_element, at_separator, step}
 use Rattle.elixir_terms.proofs.Meaning.{InOrder, Continues, Values, Filled, Wants, WantsNext}
 use Rattle.elixir_terms.proofs.StepForth.{order_nil}
 

@@ -1,5 +1,5 @@
 -- What a state wants, its next state wants after the token.
-use Rattle.std.proofs.Common.{◌≡◌, Bool, true, false, List, [], ◌∷◌, ◌++◌, Option, Some, None, cond, refl, sym, ap, ◌∙◌, subst, append_assoc}
+use Rattle.std.proofs.Common.{◌≡◌, true, List, [], ◌∷◌, ◌++◌, Some, None, cond, refl, ◌∙◌, append_assoc}
 use Rattle.std.proofs.lemmas.List.{append-nil}
 use Rattle.elixir_terms.specs.declared.bracket.Bracket.{Bracket}
 use Rattle.elixir_terms.specs.declared.bracket.Bracket.TheVariants as bracket
@@ -12,8 +12,8 @@ use Rattle.elixir_terms.specs.declared.term.Term.TheVariants as term
 use Rattle.elixir_terms.specs.declared.token.Token.{Token}
 use Rattle.elixir_terms.specs.declared.token.Token.TheVariants.{Atom, Str, Key, Open, Close, Comma}
 use Rattle.elixir_terms.specs.Grammar.{IsTerm, atom, string, brackets, Inside, nothing, element, keyword, Follows, end, comma, pair, enclosed}
-use Rattle.elixir_terms.specs.Machine.{is_same_bracket, no_terms, takes_key, takes_key_in, takes_element, filled, placed, begun, closed, at_element, at_separator, step}
-use Rattle.elixir_terms.proofs.Meaning.{InOrder, Continues, Values, Filled, Wants, WantsNext}
+use Rattle.elixir_terms.specs.Machine.{is_same_bracket, no_terms, takes_key, takes_key_in, takes_element, placed, begun, closed, at_element, at_separator, step}
+use Rattle.elixir_terms.proofs.Meaning.{InOrder, Filled, Wants, WantsNext}
 
 placed_forth : (u t : Term) (holes : List Hole) (tokens : List Token) → Filled u holes t tokens → Wants u (placed t holes) tokens
 placed_forth u t [] tokens h = h

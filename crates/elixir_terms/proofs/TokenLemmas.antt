@@ -1,5 +1,5 @@
 -- The first token of a text is the one that the function finds.
-use Rattle.std.proofs.Common.{◌≡◌, ℕ, zero, suc, ◌<◌, ◌+◌, Bool, true, false, ◌&&◌, ◌||◌, List, [], ◌∷◌, ◌++◌, Option, Some, None, length, take, drop, cond, eqb, IsTrue, refl, sym, ap, ◌∙◌, arith, subst, append_assoc}
+use Rattle.std.proofs.Common.{◌≡◌, ℕ, zero, suc, ◌<◌, Bool, true, false, ◌&&◌, List, [], ◌∷◌, ◌++◌, Option, Some, None, length, take, drop, cond, eqb, IsTrue, refl, sym, ap, ◌∙◌, arith, subst, append_assoc}
 use Rattle.std.specs.List.{AllByRecursion}
 use Rattle.std.proofs.lemmas.Bool.{and_parts, eqb-true, ne_eqb, true≢false, false≢true}
 use Rattle.std.proofs.lemmas.List.{take_at, drop_at, take-append-drop, length-append}
@@ -7,9 +7,9 @@ use Rattle.elixir_terms.specs.declared.bracket.Bracket.TheVariants as bracket
 use Rattle.elixir_terms.specs.declared.token.Token.{Token}
 use Rattle.elixir_terms.specs.declared.token.Token.TheVariants.{Atom, Str, Key, Open, Close, Comma}
 use Rattle.elixir_terms.specs.Names.{is_name_start, is_name_rest, is_name, is_blank, is_plain}
-use Rattle.elixir_terms.specs.Tokens.{IsWord, EndsBefore, Begins}
+use Rattle.elixir_terms.specs.Tokens.{IsWord, Begins}
 use Rattle.elixir_terms.specs.Lexing.{name_len, plain_len, sign, atom_of, atom_at, string_before, string_at, key_before, key_of, key_at, sign_or_key, first_token, past_blank}
-use Rattle.elixir_terms.proofs.NameLemmas.{EndsName, NameCut, name_sound, name_complete, colon_ends}
+use Rattle.elixir_terms.proofs.NameLemmas.{EndsName, name_sound, name_complete, colon_ends}
 
 abbrev pub ArePlain : List ℕ → Type 0
 ArePlain bytes = AllByRecursion (λ byte. IsTrue (is_plain byte)) bytes

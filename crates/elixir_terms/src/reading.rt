@@ -12,7 +12,9 @@ use crate::state::State;
 use crate::term::Term;
 use std::alloc::Global;
 
-/// Reads the term that a text spells.
+/// Reads the term that the whole text spells. The cause is `NotRead`, at 0, exactly where it spells none.
+///
+/// Goes once over the text, and takes memory for the term and for the brackets that are open.
 pub fn read(alloc: Global, text: &[u8]) -> Result<Term, TermError>
     // What is read is what the text spells.
     ensures read { IfOk result (λ term. Spells text.now term) }
