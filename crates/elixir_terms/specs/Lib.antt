@@ -2,4 +2,6 @@ pub mod Names
 pub mod Tokens
 pub mod Grammar
 pub mod Spells
+pub mod Machine
+pub mod Lexing
 pub mod Refused

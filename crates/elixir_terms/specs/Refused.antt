@@ -1,5 +1,5 @@
 -- What a refusal says.
-use Rattle.std.specs.Prelude.{◌≡◌, Bool, true, false, IsFalse}
+use Rattle.std.specs.Prelude.{◌≡◌, Bool, true, false, IsFalse, Result, Ok, Err, Option, Some, None}
 use Rattle.elixir_terms.specs.declared.term.Term.{Term}
 use Rattle.elixir_terms.specs.declared.error.TermError.{TermError}
 use Rattle.elixir_terms.specs.declared.error.TermCause.{TermCause}
@@ -10,6 +10,20 @@ abbrev pub is_memory : TermCause → Bool
 is_memory OutOfMemory = true
 is_memory NotRead = false
 
+-- the whole text is refused
+abbrev pub not_read : TermError
+not_read = record { at = 0; cause = NotRead }
+
 -- a refusal that isn't for want of memory is at 0, and nothing is spelled
 abbrev pub Refuses : (Term → Type 0) → TermError → Type 0
-Refuses Spelled error = IsFalse (is_memory error.cause) → (error ≡ record { at = 0; cause = NotRead }) × ((t : Term) → Spelled t → ⊥)
+Refuses Spelled error = IsFalse (is_memory error.cause) → (error ≡ not_read) × ((t : Term) → Spelled t → ⊥)
+
+-- the value, or a refusal where there is none, unless memory ran out
+abbrev pub Gives : {X : Type 0} → Result X TermError → Option X → Type 0
+Gives (Ok x) expected = expected ≡ Some x
+Gives (Err error) expected = IsFalse (is_memory error.cause) → (error ≡ not_read) × (expected ≡ None)
+
+-- the same of what a view shows of the value
+abbrev pub GivesBy : {X Y : Type 0} → (X → Y) → Result X TermError → Option Y → Type 0
+GivesBy view (Ok x) expected = expected ≡ Some (view x)
+GivesBy view (Err error) expected = IsFalse (is_memory error.cause) → (error ≡ not_read) × (expected ≡ None)

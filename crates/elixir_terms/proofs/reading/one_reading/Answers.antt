@@ -1,0 +1,5 @@
+use Rattle.elixir_terms.proofs.ReadLemmas.{spells_one}
+use Rattle.elixir_terms.proofs.reading.one_reading.Goals as goal
+
+pub returns : goal.returns
+returns c = spells_one
