@@ -1,0 +1,4 @@
+pub mod FilesLemmas
+pub mod OrderLemmas
+pub mod SlotLemmas
+pub mod StoreLemmas

@@ -1,0 +1,201 @@
+// A store in memory.
+ghost use Rattle.std.specs.Prelude.{◌≡◌, [], Some, false, All, IsTrue, IsFalse, IfOk, OnOk, OnErr};
+ghost use Rattle.std.specs.BTreeMap.{get, IsOrdered};
+ghost use Rattle.mx_base.specs.Order.{ArePathsInOrder};
+ghost use Rattle.mx_base.specs.Path.{is_below};
+ghost use Rattle.tree_store.specs.declared.key.BuildKey.{BuildKey};
+ghost use Rattle.tree_store.specs.Faults.{is_failed};
+ghost use Rattle.tree_store.specs.Files.{outside_build, paths_below, is_in_build};
+ghost use Rattle.tree_store.specs.Key.{key_cmp};
+ghost use Rattle.tree_store.specs.MemStore.{slot_of, apps_in, has_files};
+ghost use Rattle.tree_store.specs.Slot.{SetsSlot, AreNamesInOrder};
+ghost use Rattle.tree_store.specs.Slot.Slot.{Here, Out};
+
+use crate::contents::Contents;
+use crate::in_build::is_in_build;
+use crate::key::BuildKey;
+use crate::mem_folder::MemFolder;
+use crate::store::{Store, StoreFault};
+use mx_base::{AppName, Bytes, Faults, NoFaults, RelPath};
+use std::alloc::{AllocError, Global};
+use std::cmp::Ordering;
+use std::collections::BTreeMap;
+
+/// A project in memory. One plan says which of its own calls fail, and each folder begins another
+/// plan from its first call.
+#[derive(Drop)]
+pub struct MemStore<P> {
+    sources: Contents,
+    // A build whose folder is out has no contents here.
+    builds: BTreeMap<BuildKey, Option<Contents>>,
+    plan: P,
+    returned: P,
+    folder_plan: P,
+}
+
+/// A project in memory of which no call fails.
+pub type ConstStore = MemStore<NoFaults>;
+
+impl<P: Faults + Drop> MemStore<P> {
+    /// A project of these files, those in `_build` left out, with no builds. `plan` says which calls
+    /// of the store fail, `returned` counts the folders that come back with a fault, and each folder
+    /// fails as `folder_plan` says, begun anew.
+    pub fn new(
+        alloc: Global,
+        sources: Contents,
+        plan: P,
+        returned: P,
+        folder_plan: P,
+    ) -> MemStore<P>
+        ensures sources { ⟦<MemStore<P> as Store>⟧.sources result ≡ Some (outside_build sources) }
+        ensures builds { (key : BuildKey) → ⟦<MemStore<P> as Store>⟧.slot result key ≡ Here (Some []) }
+        ensures faults { ⟦<MemStore<P> as Store>⟧.faults result ≡ P.count plan }
+        ensures folder_faults { ⟦<MemStore<P> as Store>⟧.folder_faults result ≡ P.count returned }
+    {
+        MemStore {
+            sources,
+            builds: BTreeMap::new(alloc),
+            plan,
+            returned,
+            folder_plan,
+        }
+    }
+}
+
+impl<P: Faults + Drop> Store for MemStore<P> {
+    type F = MemFolder<P>;
+
+    ghost sources = { λ store. Some (outside_build store.sources) };
+
+    ghost slot = { λ store key. slot_of (get key_cmp store.builds key) };
+
+    ghost faults = { λ store. P.count store.plan };
+
+    ghost folder_faults = { λ store. P.count store.returned };
+
+    #[tactic(auto, using(crate::proofs::FilesLemmas::bytes_outside))]
+    fn get(&mut self, _alloc: Global, path: &RelPath) -> Result<Option<Bytes>, StoreFault> {
+        if self.plan.fails() {
+            return Err(StoreFault::Failed);
+        }
+        match self.sources.get(path) {
+            Some(bytes) => Ok(Some(bytes.clone()?)),
+            None => Ok(None),
+        }
+    }
+
+    fn list(&mut self, alloc: Global, dir: &RelPath) -> Result<Vec<RelPath>, StoreFault> {
+        if self.plan.fails() {
+            return Err(StoreFault::Failed);
+        }
+        Ok(listed(alloc, &self.sources, dir)?)
+    }
+
+    fn apps(&mut self, alloc: Global, env: &AppName) -> Result<Vec<AppName>, StoreFault> {
+        if self.plan.fails() {
+            return Err(StoreFault::Failed);
+        }
+        Ok(apps_of(alloc, &self.builds, env)?)
+    }
+
+    fn folder(
+        &mut self,
+        alloc: Global,
+        env: &AppName,
+        app: &AppName,
+    ) -> Result<MemFolder<P>, StoreFault> {
+        if self.plan.fails() {
+            return Err(StoreFault::Failed);
+        }
+        let key = key_of(env, app)?;
+        let plan = self.folder_plan.restarted(alloc)?;
+        let contents = lend(alloc, &mut self.builds, &key)?;
+        Ok(MemFolder {
+            key,
+            contents,
+            plan,
+        })
+    }
+
+    fn give_back(&mut self, folder: MemFolder<P>) {
+        let MemFolder {
+            key,
+            contents,
+            plan,
+        } = folder;
+        self.returned.take_over(&plan);
+        put_back(&mut self.builds, &key, contents);
+    }
+}
+
+fn listed(alloc: Global, sources: &Contents, dir: &RelPath) -> Result<Vec<RelPath>, AllocError>
+    ensures paths { IfOk result (λ paths. paths.items ≡ paths_below dir.now (outside_build sources.now)) }
+    ensures in_order { IfOk result (λ paths. ArePathsInOrder paths.items) }
+    ensures below { IfOk result (λ paths. All (λ path. IsTrue (is_below dir.now path)) paths.items) }
+    ensures outside { IfOk result (λ paths. All (λ path. IsFalse (is_in_build path)) paths.items) }
+{
+    let mut paths = sources.below(alloc, dir)?;
+    paths.retain(|path| !is_in_build(path));
+    Ok(paths)
+}
+
+fn key_of(env: &AppName, app: &AppName) -> Result<BuildKey, AllocError>
+    ensures { IfOk result (λ key. key ≡ record { env = env.now; app = app.now }) }
+{
+    Ok(BuildKey {
+        env: env.clone()?,
+        app: app.clone()?,
+    })
+}
+
+fn lend(
+    alloc: Global,
+    builds: &mut BTreeMap<BuildKey, Option<Contents>>,
+    key: &BuildKey,
+) -> Result<Contents, StoreFault>
+    requires { slot_of (get key_cmp builds.old key.now) ≡ Out → ⊥ }
+    ensures contents { IfOk result (λ contents. Here (Some contents) ≡ slot_of (get key_cmp builds.old key.now)) }
+    ensures out { OnOk result (SetsSlot key.now Out (λ q. slot_of (get key_cmp builds.old q)) (λ q. slot_of (get key_cmp builds.new q))) }
+    ensures err { OnErr result (builds.new.entries ≡ builds.old.entries) }
+    ensures no_fault { is_failed result ≡ false }
+{
+    match builds.insert(key.clone()?, None)? {
+        Some(Some(contents)) => Ok(contents),
+        _ => Ok(Contents::new(alloc)),
+    }
+}
+
+fn put_back(builds: &mut BTreeMap<BuildKey, Option<Contents>>, key: &BuildKey, contents: Contents)
+    requires { slot_of (get key_cmp builds.old key.now) ≡ Out }
+    ensures { SetsSlot key.now (Here (Some contents)) (λ q. slot_of (get key_cmp builds.old q)) (λ q. slot_of (get key_cmp builds.new q)) }
+{
+    if let Some(slot) = builds.get_mut(key) {
+        *slot = Some(contents);
+    }
+}
+
+fn apps_of(
+    alloc: Global,
+    builds: &BTreeMap<BuildKey, Option<Contents>>,
+    env: &AppName,
+) -> Result<Vec<AppName>, AllocError>
+    ensures apps { IfOk result (λ apps. apps.items ≡ apps_in env.now builds.now.entries) }
+    ensures ordered { IfOk result (λ _. IsOrdered key_cmp builds.now) }
+{
+    let mut apps = Vec::new(alloc);
+    for (key, slot) in builds {
+        if key.env == *env && holds_files(slot) {
+            apps.push(key.app.clone()?)?;
+        }
+    }
+    Ok(apps)
+}
+
+fn holds_files(slot: &Option<Contents>) -> bool
+    ensures { result ≡ has_files slot.now }
+{
+    match slot {
+        Some(contents) => !contents.is_empty(),
+        None => false,
+    }
+}
