@@ -1,3 +1,4 @@
 pub mod FolderLemmas
 pub mod NameLemmas
+pub mod OrderLemmas
 pub mod PathLemmas

@@ -3,6 +3,7 @@ pub mod AppName
 pub mod Causes
 pub mod Join
 pub mod MemSink
+pub mod NameFaults
 pub mod Order
 pub mod Path
 pub mod Sink

@@ -1,6 +1,7 @@
 // The names of applications.
-ghost use Rattle.std.specs.Prelude.{◌≡◌, ◌<◌, ◌≤◌, ◌↔◌, ℕ, [], length, slice_index, IsTrue, IsFalse, IfOk, IsErrOf, IfSome, IfNone, string_bytes};
-ghost use Rattle.mx_base.specs.AppName.{IsAppName, IsFirstBadByte, fits_at};
+ghost use Rattle.std.specs.Prelude.{◌≡◌, ◌<◌, ◌≤◌, ◌↔◌, ℕ, [], length, slice_index, IsTrue, IsFalse, IfOk, IsErrOf, IfSome, IfNone, MatchResult, string_bytes};
+ghost use Rattle.mx_base.specs.NameFaults.{is_memory};
+ghost use Rattle.mx_base.specs.AppName.{IsAppName, IsFirstBadByte, fits_at, is_app_name};
 
 use crate::utf8::Utf8;
 use std::alloc::{AllocError, Global};
@@ -59,10 +60,12 @@ impl From<AllocError> for NameError {
 
 impl AppName {
     /// The name that the text spells.
+    #[tactic(auto, using(crate::proofs::NameLemmas::is_name_of_fits, crate::proofs::NameLemmas::no_name_too_long, crate::proofs::NameLemmas::no_name_with))]
     pub fn of(alloc: Global, text: &[u8]) -> Result<AppName, NameError>
         ensures ok { IfOk result (λ name. name ≡ text.now) }
         ensures empty { IsErrOf result NameError.Empty ↔ (text.now ≡ []) }
         ensures too_long { IsErrOf result NameError.TooLong ↔ (255 < length text.now) }
+        ensures exact { MatchResult result (λ _. IsTrue (is_app_name text.now)) (λ e. IsFalse (is_memory e) → IsFalse (is_app_name text.now)) }
         ensures bad_byte { (at : ℕ) → IsErrOf result (NameError.BadByte at) ↔ ((length text.now ≤ 255) × IsFirstBadByte text.now at) }
     {
         if text.is_empty() {

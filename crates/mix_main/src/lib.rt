@@ -1,0 +1,8 @@
+//! The commands: from the words of the command line to the build tree, the report and the status.
+#![tactic(auto)]
+
+mod declaration;
+mod refusal;
+
+pub use declaration::Declaration;
+pub use refusal::Refusal;
