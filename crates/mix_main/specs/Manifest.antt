@@ -1,5 +1,5 @@
 -- What the term of a manifest says.
-use Rattle.std.specs.Prelude.{ℕ, Bool, true, false, not, ◌&&◌, ◌||◌, List, [], ◌∷◌, Option, Some, None, is_some, option_and_then, Result, Ok, Err, if◌then◌else◌, codes, bytes_eq}
+use Rattle.std.specs.Prelude.{ℕ, Bool, true, false, not, ◌&&◌, ◌||◌, List, [], ◌∷◌, map, Option, Some, None, is_some, option_and_then, Result, Ok, Err, if◌then◌else◌, codes, bytes_eq}
 use Rattle.std.specs.List.{list_any}
 use Rattle.elixir_terms.specs.declared.term.Term.{Term, out-Term}
 use Rattle.elixir_terms.specs.declared.term.Term.TheOpen.{Term-F}
@@ -105,13 +105,14 @@ abbrev pub declarations_of : List Term → Option (List Declaration)
 declarations_of [] = Some []
 declarations_of (t ∷ ts) = with_first (declaration_of t) (declarations_of ts)
 
-abbrev pub declares : List ℕ → Declaration → Bool
-declares app declaration = bytes_eq declaration.app app
+-- no name comes twice
+abbrev pub differ : List (List ℕ) → Bool
+differ [] = true
+differ (app ∷ apps) = not (list_any (bytes_eq app) apps) && differ apps
 
 -- no app is declared twice
 abbrev pub apps_differ : List Declaration → Bool
-apps_differ [] = true
-apps_differ (d ∷ ds) = not (list_any (declares d.app) ds) && apps_differ ds
+apps_differ declarations = differ (map (λ d. d.app) declarations)
 
 abbrev pub if_apps_differ : List Declaration → Option (List Declaration)
 if_apps_differ declarations = if apps_differ declarations then Some declarations else None

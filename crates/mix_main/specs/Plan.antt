@@ -1,5 +1,5 @@
 -- The plan of a project whose dependencies are folders with no dependencies of their own.
-use Rattle.std.specs.Prelude.{◌≡◌, ℕ, Bool, not, ◌&&◌, ◌||◌, List, [], ◌∷◌, ◌++◌, filter_map, Option, Some, None, option_map, option_and_then, Result, Ok, Err, MatchResult, if◌then◌else◌, codes, bytes_eq}
+use Rattle.std.specs.Prelude.{◌≡◌, ℕ, Bool, not, ◌&&◌, List, [], ◌∷◌, map, filter_map, Option, Some, None, option_map, option_and_then, Result, Ok, Err, MatchResult, if◌then◌else◌, codes, bytes_eq}
 use Rattle.mx_base.specs.declared.file.File.{File}
 use Rattle.mx_base.specs.Order.{bytes_at}
 use Rattle.mx_base.specs.Path.{child_of, path_from, first_segment}
@@ -10,7 +10,7 @@ use Rattle.tree_store.specs.Files.{paths_below}
 use Rattle.mix_main.specs.declared.declaration.Declaration.{Declaration}
 use Rattle.mix_main.specs.declared.refusal.Refusal.{Refusal}
 use Rattle.mix_main.specs.declared.refusal.Refusal.TheVariants.{NoProject, NotRead, Shape, PathMissing}
-use Rattle.mix_main.specs.Manifest.{root_declarations, dependency_version, is_kept_apart}
+use Rattle.mix_main.specs.Manifest.{root_declarations, dependency_version, is_kept_apart, differ}
 
 -- what stands at the place of a manifest: no file, a text that no term spells, or the text of a term
 pub data Manifest : Type 0 where
@@ -93,3 +93,7 @@ abbrev pub IsPlan : List File → Result (List Job) Refusal → Type 0
 IsPlan files planned =
     (manifest : Manifest) × IsManifest (bytes_at project_path files) manifest
     × MatchResult (declared_by manifest) (λ declarations. ArePlanned files declarations planned) (λ refusal. planned ≡ Err refusal)
+
+-- no app has two jobs
+abbrev pub jobs_differ : List Job → Bool
+jobs_differ jobs = differ (map (λ job. job.app) jobs)
