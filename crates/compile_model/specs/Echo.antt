@@ -1,6 +1,7 @@
 -- The echo rule.
 use Rattle.std.specs.Prelude.{◌≡◌, ◌≢◌, ℕ, Bool, false, not, ◌&&◌, List, [], ◌∷◌, ◌++◌, flat_map, filter, find, Option, Some, None, option_map, unwrap_or, codes, bytes_eq, refl}
 use Rattle.mx_base.specs.declared.file.File.{File}
+use Rattle.mx_base.specs.Order.{AreInOrder}
 use Rattle.compile_model.specs.declared.outcome.Outcome.{Outcome}
 use Rattle.compile_model.specs.Content.{Content}
 
@@ -37,3 +38,10 @@ bare content None h = absurd (h refl)
 
 pub echo_failed_is_bare : (content : Content) → (echo_of content).status ≢ 0 → (echo_of content).files ≡ []
 echo_failed_is_bare content = bare content (bytes_named content.sources (codes "fail"))
+
+in_order_after : (content : Content) (failed : Option (List ℕ)) → AreInOrder (echo_after content failed).files
+in_order_after content (Some text) = tt
+in_order_after content None = (tt, tt)
+
+pub echo_files_in_order : (content : Content) → AreInOrder (echo_of content).files
+echo_files_in_order content = in_order_after content (bytes_named content.sources (codes "fail"))

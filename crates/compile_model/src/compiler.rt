@@ -1,6 +1,7 @@
 // Compilers, by their meaning.
 ghost use Rattle.std.specs.Prelude.{◌≡◌, ◌≢◌, [], ℕ, length, IfOk};
 ghost use Rattle.mx_base.specs.Causes.{Counted};
+ghost use Rattle.mx_base.specs.Order.{AreInOrder};
 ghost use Rattle.compile_model.specs.Content.{Content, content_of};
 ghost use Rattle.compile_model.specs.Faults.{is_died};
 ghost use Rattle.compile_model.specs.declared.outcome.Outcome.{Outcome};
@@ -54,6 +55,9 @@ pub trait Meaning {
 
     /// Whether each result is that outcome.
     ghost honest: { Type 0 };
+
+    /// The files of an outcome stand in the order of their paths.
+    ghost files_in_order: { (content : Content) → AreInOrder (compile_of content).files };
 
     /// An outcome of another status than 0 has no files.
     ghost failed_is_bare: { (content : Content) → (compile_of content).status ≢ 0 → (compile_of content).files ≡ [] };

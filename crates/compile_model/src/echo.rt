@@ -2,7 +2,7 @@
 ghost use Rattle.std.specs.Prelude.{◌≡◌, [], ◌∷◌, ◌++◌, IfOk, OnOk, find, flat_map, filter};
 ghost use Rattle.std.specs.Option.{option_copied};
 ghost use Rattle.compile_model.specs.Content.{content_of};
-ghost use Rattle.compile_model.specs.Echo.{echo_of, echo_file, echo_bytes, is_named, is_copied, bytes_of, echo_failed_is_bare};
+ghost use Rattle.compile_model.specs.Echo.{echo_of, echo_file, echo_bytes, is_named, is_copied, bytes_of, echo_failed_is_bare, echo_files_in_order};
 
 use crate::compiler::{CompileFault, Compiler, Input, Meaning};
 use crate::outcome::Outcome;
@@ -18,6 +18,8 @@ impl Meaning for EchoCompiler {
     ghost compile_of = { echo_of };
 
     ghost honest = { Unit {0} };
+
+    ghost files_in_order = { echo_files_in_order };
 
     ghost failed_is_bare = { echo_failed_is_bare };
 }
