@@ -1,2 +1,9 @@
+pub mod Filling
 pub mod Manifest
 pub mod Plan
+pub mod Report
+pub mod Status
+pub mod Stop
+pub mod Texts
+pub mod Tree
+pub mod Words

@@ -1,0 +1,17 @@
+use Rattle.std.proofs.Common.{sym, ap, ◌∙◌}
+use Rattle.tree_store.specs.Slot.{filled_slot}
+use Rattle.tree_store.specs.Slot.Slot.{Here, Out}
+use Rattle.tree_store.specs.declared.key.BuildKey.{BuildKey}
+use Rattle.tree_store.proofs.StoreLemmas.{slot_after_set, lent_and_back}
+use Rattle.mix_main.proofs.fill.fill_app.Goals as goal
+
+pub give_back-requires : goal.give_back-requires
+give_back-requires g c =
+    let key : BuildKey = record { env = c.args.env.now; app = c.args.app.now } in
+    slot_after_set key (g.S.F.Folder.key c.put_files-filled.new.folder) Out (g.S.Store.slot c.args.store.now) (g.S.Store.slot c.folder.new.self) c.in_ok-folder.ensures.out (c.put_files-filled.ensures.key ∙ c.in_ok-folder.ensures.key)
+
+pub returns-in-Ok-clause-filled : goal.returns-in-Ok-clause-filled
+returns-in-Ok-clause-filled g c =
+    let key : BuildKey = record { env = c.args.env.now; app = c.args.app.now } in
+    lent_and_back key (g.S.F.Folder.key c.put_files-filled.new.folder) (filled_slot c.args.files.now) (g.S.F.Folder.held c.put_files-filled.new.folder) (g.S.Store.slot c.args.store.now) (g.S.Store.slot c.folder.new.self) (g.S.Store.slot c.give_back.new.self)
+    c.in_ok-folder.ensures.out (c.put_files-filled.ensures.key ∙ c.in_ok-folder.ensures.key) c.give_back.ensures.back (ap (filled_slot c.args.files.now) (sym c.in_ok-folder.ensures.folder) ∙ ap Here (sym c.in-Ok.ensures.held))

@@ -1,0 +1,79 @@
+// Putting the built files.
+ghost use Rattle.std.specs.Prelude.{◌≡◌, ℕ, length, OnOk, false};
+ghost use Rattle.mx_base.specs.Causes.{Counted};
+ghost use Rattle.tree_store.specs.Faults.{is_failed};
+ghost use Rattle.tree_store.specs.Files.{with_files};
+ghost use Rattle.tree_store.specs.declared.key.BuildKey.{BuildKey};
+ghost use Rattle.tree_store.specs.Key.{is_same_build};
+ghost use Rattle.tree_store.specs.Slot.{ChangesSlot, AllHere, filled_slot};
+ghost use Rattle.mix_main.specs.Stop.{is_read, is_tree};
+ghost use Rattle.mix_main.specs.Tree.{StaysElsewhere};
+ghost use Rattle.mix_main.specs.Filling.{filled_by};
+
+use crate::stop::Stop;
+use compile_model::{Fate, Job};
+use mx_base::{AppName, File};
+use std::alloc::Global;
+use tree_store::{Folder, Store, StoreFault};
+
+/// Puts the files of each built place into the folder of its app.
+#[tactic(auto, using(crate::proofs::TreeLemmas::elsewhere_more))]
+pub(crate) fn fill_env<S: Store>(
+    alloc: Global,
+    env: &AppName,
+    jobs: &[Job],
+    fates: &[Fate],
+    store: &mut S,
+) -> Result<(), Stop>
+    requires lengths { length fates.now ≡ length jobs.now }
+    requires here { AllHere (S.slot store.old) }
+    ensures filled { OnOk result ((q : BuildKey) → S.slot store.new q ≡ filled_by env.now q jobs.now fates.now (S.slot store.old q)) }
+    ensures elsewhere { StaysElsewhere env.now (S.slot store.old) (S.slot store.new) }
+    ensures here { AllHere (S.slot store.new) }
+    ensures sources { S.sources store.new ≡ S.sources store.old }
+    ensures reads { Counted (S.faults store.old) (S.faults store.new) (is_read result) }
+    ensures trees { Counted (S.folder_faults store.old) (S.folder_faults store.new) (is_tree result) }
+{
+    for (place, job) in jobs.iter().enumerate() {
+        if let Fate::Built(outcome) = &fates[place] {
+            fill_app(alloc, env, &job.app, outcome.get().files.as_slice(), store)?;
+        }
+    }
+    Ok(())
+}
+
+fn fill_app<S: Store>(
+    alloc: Global,
+    env: &AppName,
+    app: &AppName,
+    files: &[File],
+    store: &mut S,
+) -> Result<(), Stop>
+    requires { AllHere (S.slot store.old) }
+    ensures filled { OnOk result (ChangesSlot (record { env = env.now; app = app.now }) (filled_slot files.now) (S.slot store.old) (S.slot store.new)) }
+    ensures others { (q : BuildKey) → is_same_build (record { env = env.now; app = app.now }) q ≡ false → S.slot store.new q ≡ S.slot store.old q }
+    ensures here { AllHere (S.slot store.new) }
+    ensures sources { S.sources store.new ≡ S.sources store.old }
+    ensures reads { Counted (S.faults store.old) (S.faults store.new) (is_read result) }
+    ensures trees { Counted (S.folder_faults store.old) (S.folder_faults store.new) (is_tree result) }
+{
+    let mut folder = store.folder(alloc, env, app)?;
+    let filled = put_files(alloc, files, &mut folder);
+    store.give_back(folder);
+    match filled {
+        Ok(()) => Ok(()),
+        Err(fault) => Err(Stop::of_folder(fault)),
+    }
+}
+
+#[tactic(auto, using(tree_store::proofs::FilesLemmas::with_files_more))]
+fn put_files<F: Folder>(alloc: Global, files: &[File], folder: &mut F) -> Result<(), StoreFault>
+    ensures held { OnOk result (F.held folder.new ≡ with_files files.now (F.held folder.old)) }
+    ensures key { F.key folder.new ≡ F.key folder.old }
+    ensures cause { Counted (F.faults folder.old) (F.faults folder.new) (is_failed result) }
+{
+    for file in files {
+        folder.put(alloc, &file.path, file.bytes.as_slice())?;
+    }
+    Ok(())
+}
