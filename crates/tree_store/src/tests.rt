@@ -2,7 +2,7 @@
 ghost use Rattle.std.specs.Prelude.{◌≡◌};
 ghost use Rattle.tree_store.specs.Slot.Slot.{Out};
 
-use crate::{ConstStore, Contents, Folder, MemStore, Store, StoreFault, is_in_build};
+use crate::{ConstStore, Contents, Folder, MemFolder, MemStore, Store, StoreFault, is_in_build};
 use mx_base::{AppName, Bytes, FaultPlan, NoFaults, RelPath};
 use std::alloc::{AllocError, Global};
 use std::test::Fail;
@@ -71,6 +71,15 @@ fn rebuilt<S: Store>(
     store.give_back(folder);
     let apps = store.apps(alloc, name)?;
     Ok((listed.len(), files?, apps.len()))
+}
+
+fn may_cross_threads<T: Send>() {}
+
+#[test]
+fn stores_and_folders_may_cross_threads() {
+    may_cross_threads::<ConstStore>();
+    may_cross_threads::<MemStore<FaultPlan>>();
+    may_cross_threads::<MemFolder<FaultPlan>>();
 }
 
 #[test]
