@@ -1,4 +1,4 @@
 pub mod FilesLemmas
+pub mod MemStoreLemmas
 pub mod OrderLemmas
-pub mod SlotLemmas
 pub mod StoreLemmas

@@ -1,4 +1,4 @@
-use Rattle.tree_store.proofs.StoreLemmas.{lists_apps, apps_in_order}
+use Rattle.tree_store.proofs.MemStoreLemmas.{lists_apps, apps_in_order}
 use Rattle.tree_store.proofs.mem_store.MemStoreStore.apps.Goals as goal
 
 pub returns-clause-apps : goal.returns-clause-apps
