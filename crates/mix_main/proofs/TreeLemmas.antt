@@ -3,7 +3,7 @@ use Rattle.std.proofs.Common.{◌≡◌, ℕ, zero, suc, ◌<◌, Bool, true, fa
 use Rattle.std.specs.declared.cmp.Ordering.{Ordering}
 use Rattle.std.specs.declared.cmp.Ordering.TheVariants.{Less, Equal, Greater}
 use Rattle.std.specs.Ordering.{is_eq, ordering_then, nat_cmp}
-use Rattle.std.specs.Cmp.Lexicographic.{slice_cmp, texts_ties}
+use Rattle.std.specs.Cmp.Lexicographic.{slice_cmp, texts_ties, nat_list_eq_equiv}
 use Rattle.mx_base.specs.declared.file.File.{File}
 use Rattle.compile_model.specs.declared.job.Job.{Job}
 use Rattle.compile_model.specs.declared.outcome.Fate.{Fate}
@@ -17,7 +17,8 @@ use Rattle.tree_store.specs.Files.{put_all}
 use Rattle.tree_store.specs.Slot.{Slot, emptied_slot, filled_slot, slot_with, Lists, AllHere}
 use Rattle.tree_store.proofs.FilesLemmas.{put_all_in_order}
 use Rattle.tree_store.specs.Slot.Slot.{Here, Out}
-use Rattle.tree_store.proofs.StoreLemmas.{same_name, one_key, is_same_itself}
+use Rattle.tree_store.proofs.OrderLemmas.{same_name}
+use Rattle.tree_store.proofs.StoreLemmas.{one_key, is_same_itself}
 use Rattle.mix_main.specs.Manifest.{differ}
 use Rattle.mix_main.specs.Plan.{jobs_differ}
 use Rattle.mix_main.specs.Tree.{is_same_text, is_in_env, files_of, app_files, ClearsEnv, StaysElsewhere, LeavesTree}
