@@ -1,2 +1,3 @@
 pub mod Manifest
 pub mod Plan
+pub mod PlanFaults

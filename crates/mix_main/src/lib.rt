@@ -2,6 +2,8 @@
 #![tactic(auto)]
 
 mod declaration;
+mod plan;
+mod plan_fault;
 mod refusal;
 
 pub use declaration::Declaration;
