@@ -4,10 +4,19 @@
 mod clear;
 mod declaration;
 mod fill;
+mod plain;
+mod plan;
+mod plan_fault;
 mod refusal;
+mod report;
+mod run;
 mod status;
 mod stop;
+mod texts;
+mod words;
 
 pub use declaration::Declaration;
+pub use plain::plain_compile;
 pub use refusal::Refusal;
+pub use run::run;
 pub use status::Status;
