@@ -1,1 +1,4 @@
+pub mod EndLemmas
+pub mod PlainLemmas
+pub mod ReportLemmas
 pub mod TreeLemmas

@@ -146,6 +146,7 @@ filled_apart env q (job ∷ jobs) (fate ∷ fates) s e apart =
     at : (a b : List ℕ) (t : Bool) → is_same_text a b ≡ t → bytes_eq b a ≡ false → t ≡ false
     at a b false same differ = refl
     at a b true same differ = let one = same_name a b same in let yes : bytes_eq b a ≡ true = subst (λ (x : List ℕ). bytes_eq b x ≡ true) (sym one) (nat_list_eq_equiv.refl b) in cc
+
     not_same : (a b : List ℕ) → bytes_eq b a ≡ false → is_same_text a b ≡ false
     not_same a b differ = at a b (is_same_text a b) refl differ
 
@@ -188,6 +189,7 @@ filled_empty env q (job ∷ jobs) (fate ∷ fates) e differs order =
   where
     step : (t : Bool) → is_same_text job.app q.app ≡ t → filled_by env q jobs fates (filled_once (is_same_build (record { env = env; app = job.app }) q) fate (Here (Some []))) ≡ filled_by env q jobs fates (filled_once t fate (Here (Some [])))
     step t same = ap (λ (own : Bool). filled_by env q jobs fates (filled_once own fate (Here (Some [])))) (own_app env job.app q e ∙ same)
+
     at : (t : Bool) → is_same_text job.app q.app ≡ t → list_any (bytes_eq job.app) (map (λ job. job.app) jobs) ≡ false → filled_by env q jobs fates (Here (Some [])) ≡ Here (Some (app_files q.app jobs fates)) → filled_by env q jobs fates (filled_once (is_same_build (record { env = env; app = job.app }) q) fate (Here (Some []))) ≡ Here (Some (cond (is_same_text job.app q.app) (files_of fate) (app_files q.app jobs fates)))
     at true same apart rest =
         step true same ∙ ap (filled_by env q jobs fates) (once_own fate order.0)

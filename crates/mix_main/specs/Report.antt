@@ -26,15 +26,28 @@ shown_line line = codes "  " ++ line ++ codes "\n"
 abbrev pub shown_text : List ℕ → List ℕ
 shown_text text = flat_map shown_line (lines_of text)
 
+-- the same byte by byte, of a text that begins a line or goes on in one
+abbrev pub shown_after : Bool → List ℕ → List ℕ
+shown_after true [] = []
+shown_after false [] = 10 ∷ []
+shown_after true (b ∷ bs) = 32 ∷ 32 ∷ b ∷ shown_after (is_newline b) bs
+shown_after false (b ∷ bs) = b ∷ shown_after (is_newline b) bs
+
 abbrev pub app_at : Option Job → List ℕ
 app_at (Some job) = job.app
 app_at None = []
 
+abbrev pub failed_text : ℕ → List ℕ → List ℕ
+failed_text status text = codes " failed with status " ++ decimal status ++ codes "\n" ++ shown_text text
+
+abbrev pub skipped_text : List Job → ℕ → List ℕ
+skipped_text jobs need = codes " skipped, needs " ++ app_at (slice_get jobs need) ++ codes "\n"
+
 -- what became of a job
 abbrev pub fate_text : List Job → Fate → List ℕ
 fate_text jobs (Built outcome) = codes " built\n" ++ shown_text outcome.text
-fate_text jobs (Failed outcome) = codes " failed with status " ++ decimal outcome.status ++ codes "\n" ++ shown_text outcome.text
-fate_text jobs (Skipped need) = codes " skipped, needs " ++ app_at (slice_get jobs need) ++ codes "\n"
+fate_text jobs (Failed outcome) = failed_text outcome.status outcome.text
+fate_text jobs (Skipped need) = skipped_text jobs need
 
 abbrev pub job_text : List Job → Job → Fate → List ℕ
 job_text jobs job fate = codes "==> " ++ job.app ++ codes " " ++ job.version ++ fate_text jobs fate
@@ -59,10 +72,13 @@ is_skipped (Built outcome) = false
 is_skipped (Failed outcome) = false
 is_skipped (Skipped need) = true
 
+abbrev pub count_text : ℕ → List ℕ → List ℕ
+count_text count label = decimal count ++ label
+
 abbrev pub totals : List Job → List Fate → List ℕ
 totals jobs fates =
-    decimal (length jobs) ++ codes " dependencies: " ++ decimal (count_by is_built fates) ++ codes " built, "
-    ++ decimal (count_by is_failed fates) ++ codes " failed, " ++ decimal (count_by is_skipped fates) ++ codes " skipped\n"
+    count_text (length jobs) (codes " dependencies: ") ++ count_text (count_by is_built fates) (codes " built, ")
+    ++ count_text (count_by is_failed fates) (codes " failed, ") ++ count_text (count_by is_skipped fates) (codes " skipped\n")
 
 -- one entry for each job in order, and last the totals
 abbrev pub report : List Job → List Fate → List ℕ

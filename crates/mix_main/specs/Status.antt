@@ -34,3 +34,16 @@ status_of NoProject = Missing
 status_of (NotRead path) = Refused
 status_of (Shape path) = Refused
 status_of (PathMissing app dir) = Missing
+
+-- how a command ends whose words are none: with that, or for want of memory, or with a failed sink
+abbrev pub EndsWords : Status → Type 0
+EndsWords Built = ⊥
+EndsWords SomeFailed = ⊥
+EndsWords BadWords = Unit {0}
+EndsWords Refused = ⊥
+EndsWords ReadFault = ⊥
+EndsWords TreeFault = ⊥
+EndsWords Died = ⊥
+EndsWords OutOfMemory = Unit {0}
+EndsWords Missing = ⊥
+EndsWords WriteFault = Unit {0}

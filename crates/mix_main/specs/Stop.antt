@@ -1,40 +1,94 @@
 -- Why a compile stops.
-use Rattle.std.specs.Prelude.{Bool, true, false, Result, Ok, Err}
+use Rattle.std.specs.Prelude.{ℕ, List, Bool, true, false, Result, Ok, Err}
+use Rattle.mx_base.specs.Causes.{Rose}
+use Rattle.mx_base.specs.declared.file.File.{File}
+use Rattle.mix_main.specs.Plan.{IsPlan}
 use Rattle.tree_store.specs.declared.store.StoreFault.{StoreFault}
 use Rattle.tree_store.specs.declared.store.StoreFault.TheVariants as store
 use Rattle.compile_model.specs.declared.seq.SeqFault.{SeqFault}
 use Rattle.compile_model.specs.declared.seq.SeqFault.TheVariants as model
+use Rattle.mix_main.specs.declared.plan_fault.PlanFault.{PlanFault}
+use Rattle.mix_main.specs.declared.plan_fault.PlanFault.TheVariants as plan
+use Rattle.mix_main.specs.declared.stop.TreeStop.{TreeStop}
+use Rattle.mix_main.specs.declared.stop.TreeStop.TheVariants as tree
 use Rattle.mix_main.specs.declared.stop.Stop.{Stop}
 use Rattle.mix_main.specs.declared.stop.Stop.TheVariants.{Refused, Read, Tree, Died, Memory, Write}
 
-abbrev pub stop_of_store : StoreFault → Stop
-stop_of_store store.Failed = Read
-stop_of_store store.OutOfMemory = Memory
+abbrev pub stop_of_store : StoreFault → TreeStop
+stop_of_store store.Failed = tree.Read
+stop_of_store store.OutOfMemory = tree.Memory
 
-abbrev pub stop_of_folder : StoreFault → Stop
-stop_of_folder store.Failed = Tree
-stop_of_folder store.OutOfMemory = Memory
+abbrev pub stop_of_folder : StoreFault → TreeStop
+stop_of_folder store.Failed = tree.Tree
+stop_of_folder store.OutOfMemory = tree.Memory
+
+abbrev pub stop_of_tree : TreeStop → Stop
+stop_of_tree tree.Read = Read
+stop_of_tree tree.Tree = Tree
+stop_of_tree tree.Memory = Memory
+
+abbrev pub stop_of_plan : PlanFault → Stop
+stop_of_plan (plan.Refused refusal) = Refused refusal
+stop_of_plan plan.Read = Read
+stop_of_plan plan.OutOfMemory = Memory
 
 abbrev pub stop_of_seq : SeqFault → Stop
 stop_of_seq (model.Died place) = Died
 stop_of_seq model.OutOfMemory = Memory
 
-abbrev pub is_read : {T : Type 0} → Result T Stop → Bool
+abbrev pub is_read : {T : Type 0} → Result T TreeStop → Bool
 is_read (Ok x) = false
-is_read (Err Read) = true
-is_read (Err stop) = false
+is_read (Err tree.Read) = true
+is_read (Err tree.Tree) = false
+is_read (Err tree.Memory) = false
 
-abbrev pub is_tree : {T : Type 0} → Result T Stop → Bool
+abbrev pub is_tree : {T : Type 0} → Result T TreeStop → Bool
 is_tree (Ok x) = false
-is_tree (Err Tree) = true
-is_tree (Err stop) = false
-
-abbrev pub is_died : {T : Type 0} → Result T Stop → Bool
-is_died (Ok x) = false
-is_died (Err Died) = true
-is_died (Err stop) = false
+is_tree (Err tree.Read) = false
+is_tree (Err tree.Tree) = true
+is_tree (Err tree.Memory) = false
 
 abbrev pub is_write : {T : Type 0} → Result T Stop → Bool
 is_write (Ok x) = false
+is_write (Err (Refused refusal)) = false
+is_write (Err Read) = false
+is_write (Err Tree) = false
+is_write (Err Died) = false
+is_write (Err Memory) = false
 is_write (Err Write) = true
-is_write (Err stop) = false
+
+-- the count of what failed rose: of the store, of the folders that came back, of the compiler
+abbrev pub StopCause : (reads reads' trees trees' deaths deaths' : ℕ) → Stop → Type 0
+StopCause reads reads' trees trees' deaths deaths' (Refused refusal) = Unit {0}
+StopCause reads reads' trees trees' deaths deaths' Read = Rose reads reads'
+StopCause reads reads' trees trees' deaths deaths' Tree = Rose trees trees'
+StopCause reads reads' trees trees' deaths deaths' Died = Rose deaths deaths'
+StopCause reads reads' trees trees' deaths deaths' Memory = Unit {0}
+StopCause reads reads' trees trees' deaths deaths' Write = Unit {0}
+
+-- a refusal is the first of these files
+abbrev pub RefusedFirst : List File → Stop → Type 0
+RefusedFirst files (Refused refusal) = IsPlan files (Err refusal)
+RefusedFirst files Read = Unit {0}
+RefusedFirst files Tree = Unit {0}
+RefusedFirst files Died = Unit {0}
+RefusedFirst files Memory = Unit {0}
+RefusedFirst files Write = Unit {0}
+
+-- what holds where the input is refused
+abbrev pub IfRefused : Stop → Type 0 → Type 0
+IfRefused (Refused refusal) P = P
+IfRefused Read P = Unit {0}
+IfRefused Tree P = Unit {0}
+IfRefused Died P = Unit {0}
+IfRefused Memory P = Unit {0}
+IfRefused Write P = Unit {0}
+
+-- what holds unless the sink failed
+abbrev pub UnlessWrite : Stop → Type 0 → Type 0
+UnlessWrite (Refused refusal) P = P
+UnlessWrite Read P = P
+UnlessWrite Tree P = P
+UnlessWrite Died P = P
+UnlessWrite Memory P = P
+UnlessWrite Write P = Unit {0}

@@ -8,14 +8,18 @@ ghost use Rattle.tree_store.specs.Slot.Slot.{Out};
 ghost use Rattle.mix_main.specs.Stop.{is_read, is_tree};
 ghost use Rattle.mix_main.specs.Tree.{ClearsEnv, StaysElsewhere};
 
-use crate::stop::Stop;
+use crate::stop::TreeStop;
 use mx_base::AppName;
 use std::alloc::Global;
 use tree_store::{Folder, Store};
 
 /// Empties the folder of every app of the environment.
 #[tactic(auto, using(crate::proofs::TreeLemmas::elsewhere_more))]
-pub(crate) fn clear_env<S: Store>(alloc: Global, env: &AppName, store: &mut S) -> Result<(), Stop>
+pub(crate) fn clear_env<S: Store>(
+    alloc: Global,
+    env: &AppName,
+    store: &mut S,
+) -> Result<(), TreeStop>
     requires { AllHere (S.slot store.old) }
     ensures cleared { OnOk result (ClearsEnv env.now (S.slot store.old) (S.slot store.new)) }
     ensures elsewhere { StaysElsewhere env.now (S.slot store.old) (S.slot store.new) }
@@ -36,7 +40,7 @@ fn clear_app<S: Store>(
     env: &AppName,
     app: &AppName,
     store: &mut S,
-) -> Result<(), Stop>
+) -> Result<(), TreeStop>
     requires { AllHere (S.slot store.old) }
     ensures cleared { OnOk result (ChangesSlot (record { env = env.now; app = app.now }) emptied_slot (S.slot store.old) (S.slot store.new)) }
     ensures others { (q : BuildKey) → is_same_build (record { env = env.now; app = app.now }) q ≡ false → S.slot store.new q ≡ S.slot store.old q }
@@ -50,6 +54,6 @@ fn clear_app<S: Store>(
     store.give_back(folder);
     match cleared {
         Ok(()) => Ok(()),
-        Err(fault) => Err(Stop::of_folder(fault)),
+        Err(fault) => Err(TreeStop::of_folder(fault)),
     }
 }

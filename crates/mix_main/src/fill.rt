@@ -10,7 +10,7 @@ ghost use Rattle.mix_main.specs.Stop.{is_read, is_tree};
 ghost use Rattle.mix_main.specs.Tree.{StaysElsewhere};
 ghost use Rattle.mix_main.specs.Filling.{filled_by};
 
-use crate::stop::Stop;
+use crate::stop::TreeStop;
 use compile_model::{Fate, Job};
 use mx_base::{AppName, File};
 use std::alloc::Global;
@@ -24,7 +24,7 @@ pub(crate) fn fill_env<S: Store>(
     jobs: &[Job],
     fates: &[Fate],
     store: &mut S,
-) -> Result<(), Stop>
+) -> Result<(), TreeStop>
     requires lengths { length fates.now ≡ length jobs.now }
     requires here { AllHere (S.slot store.old) }
     ensures filled { OnOk result ((q : BuildKey) → S.slot store.new q ≡ filled_by env.now q jobs.now fates.now (S.slot store.old q)) }
@@ -48,7 +48,7 @@ fn fill_app<S: Store>(
     app: &AppName,
     files: &[File],
     store: &mut S,
-) -> Result<(), Stop>
+) -> Result<(), TreeStop>
     requires { AllHere (S.slot store.old) }
     ensures filled { OnOk result (ChangesSlot (record { env = env.now; app = app.now }) (filled_slot files.now) (S.slot store.old) (S.slot store.new)) }
     ensures others { (q : BuildKey) → is_same_build (record { env = env.now; app = app.now }) q ≡ false → S.slot store.new q ≡ S.slot store.old q }
@@ -62,7 +62,7 @@ fn fill_app<S: Store>(
     store.give_back(folder);
     match filled {
         Ok(()) => Ok(()),
-        Err(fault) => Err(Stop::of_folder(fault)),
+        Err(fault) => Err(TreeStop::of_folder(fault)),
     }
 }
 

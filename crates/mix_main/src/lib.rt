@@ -2,6 +2,7 @@
 #![tactic(auto)]
 
 mod clear;
+mod command;
 mod declaration;
 mod fill;
 mod plain;
@@ -9,14 +10,13 @@ mod plan;
 mod plan_fault;
 mod refusal;
 mod report;
-mod run;
 mod status;
 mod stop;
 mod texts;
 mod words;
 
+pub use command::run;
 pub use declaration::Declaration;
 pub use plain::plain_compile;
 pub use refusal::Refusal;
-pub use run::run;
 pub use status::Status;

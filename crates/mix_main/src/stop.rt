@@ -1,7 +1,8 @@
 // Why a compile stops before its report is written.
 ghost use Rattle.std.specs.Prelude.{◌≡◌};
-ghost use Rattle.mix_main.specs.Stop.{stop_of_store, stop_of_folder, stop_of_seq};
+ghost use Rattle.mix_main.specs.Stop.{stop_of_store, stop_of_folder, stop_of_tree, stop_of_plan, stop_of_seq};
 
+use crate::plan_fault::PlanFault;
 use crate::refusal::Refusal;
 use compile_model::SeqFault;
 use mx_base::Failed;
@@ -24,24 +25,58 @@ pub(crate) enum Stop {
     Write,
 }
 
-impl Stop {
-    pub(crate) fn of_folder(fault: StoreFault) -> Stop
+/// Why a step on the build tree stops.
+#[derive(Clone, Copy, Debug)]
+pub(crate) enum TreeStop {
+    /// The store failed.
+    Read,
+    /// A folder failed.
+    Tree,
+    Memory,
+}
+
+impl TreeStop {
+    pub(crate) fn of_folder(fault: StoreFault) -> TreeStop
         ensures { result ≡ stop_of_folder fault }
     {
         match fault {
-            StoreFault::Failed => Stop::Tree,
-            StoreFault::OutOfMemory => Stop::Memory,
+            StoreFault::Failed => TreeStop::Tree,
+            StoreFault::OutOfMemory => TreeStop::Memory,
         }
     }
 }
 
-impl From<StoreFault> for Stop {
+impl From<StoreFault> for TreeStop {
     ghost from_gives = { λ fault stop. stop ≡ stop_of_store fault };
 
-    fn from(fault: StoreFault) -> Stop {
+    fn from(fault: StoreFault) -> TreeStop {
         match fault {
-            StoreFault::Failed => Stop::Read,
-            StoreFault::OutOfMemory => Stop::Memory,
+            StoreFault::Failed => TreeStop::Read,
+            StoreFault::OutOfMemory => TreeStop::Memory,
+        }
+    }
+}
+
+impl From<TreeStop> for Stop {
+    ghost from_gives = { λ step stop. stop ≡ stop_of_tree step };
+
+    fn from(step: TreeStop) -> Stop {
+        match step {
+            TreeStop::Read => Stop::Read,
+            TreeStop::Tree => Stop::Tree,
+            TreeStop::Memory => Stop::Memory,
+        }
+    }
+}
+
+impl From<PlanFault> for Stop {
+    ghost from_gives = { λ fault stop. stop ≡ stop_of_plan fault };
+
+    fn from(fault: PlanFault) -> Stop {
+        match fault {
+            PlanFault::Refused(refusal) => Stop::Refused(refusal),
+            PlanFault::Read => Stop::Read,
+            PlanFault::OutOfMemory => Stop::Memory,
         }
     }
 }

@@ -1,0 +1,29 @@
+use Rattle.std.proofs.Common.{List, ℕ, ap, subst, ◌∙◌}
+use Rattle.std.specs.List.{list_any}
+use Rattle.mx_base.specs.Sink.{with_bytes}
+use Rattle.compile_model.specs.declared.job.Job.{Job}
+use Rattle.compile_model.specs.declared.outcome.Fate.{Fate}
+use Rattle.tree_store.specs.declared.key.BuildKey.{BuildKey}
+use Rattle.tree_store.specs.Slot.{Slot}
+use Rattle.mix_main.specs.Tree.{ClearsEnv}
+use Rattle.mix_main.specs.Filling.{filled_by}
+use Rattle.mix_main.specs.Report.{report, is_failed}
+use Rattle.mix_main.proofs.PlainLemmas.{if_some_map, finished}
+use Rattle.mix_main.proofs.plain.compile.Goals as goal
+
+pub returns-clause-compiled : goal.returns-clause-compiled
+returns-clause-compiled g c =
+    let jobs = c.in_ok-plan.plan.jobs in
+    let fates = c.in_ok-fates.fates.items in
+    let env = c.args.env.now in
+    let mid = g.S.Store.slot c.clear_env.new.store in
+    if_some_map (g.S.Store.sources c.args.store.now) _ _
+    (λ files planned. finished g.C.Meaning.compile_of g.C.Meaning.files_in_order env files jobs fates c.any_failed.result c.in_ok-text.text.items (g.S.Store.slot c.args.store.now) mid (g.S.Store.slot c.fill_env.new.store) (g.K.Sink.taken c.args.out.now) (g.K.Sink.taken c.write.new.self)
+    planned c.in_ok-plan.ensures.apps c.in_ok-fates.ensures.fates (subst (λ (slots : BuildKey → Slot). ClearsEnv env slots mid) c.in_ok-plan.ensures.same c.in_ok-clear_env.ensures.cleared)
+    (λ q. c.in_ok-fill_env.ensures.filled q
+    ∙ ap (λ (js : List Job). filled_by env q js c.deref.result.now (mid q)) c.as_slice.ensures
+    ∙ ap (λ (fs : List Fate). filled_by env q jobs fs (mid q)) c.deref.ensures.value)
+    (c.in_ok-text.ensures ∙ ap (λ (js : List Job). report js c.deref-2.result.now) c.as_slice-2.ensures ∙ ap (report jobs) c.deref-2.ensures.value)
+    (c.in_ok-write.ensures.taken ∙ ap (with_bytes (g.K.Sink.taken c.args.out.now)) c.deref-3.ensures.value)
+    (c.any_failed.ensures ∙ ap (list_any is_failed) c.deref-4.ensures.value))
+    c.in_ok-plan.ensures.plan

@@ -1,0 +1,10 @@
+use Rattle.std.proofs.Common.{codes}
+use Rattle.std.specs.Fmt.{decimal}
+use Rattle.mix_main.specs.Report.{shown_text}
+use Rattle.mix_main.proofs.ReportLemmas.{four_pieces}
+use Rattle.mix_main.proofs.report.push_failed.Goals as goal
+
+pub returns : goal.returns
+returns c =
+    four_pieces c.args.text.now.items (codes " failed with status ") (decimal c.args.outcome.now.status) (codes "\n") (shown_text c.args.outcome.now.text) _ _ _ _
+    c.in_ok-extend_from_slice.ensures.items c.in_ok-push_number.ensures c.in_ok-extend_from_slice-2.ensures.items c.in_ok-push_shown.ensures

@@ -1,0 +1,95 @@
+-- How a command ends, and what the sink then took.
+use Rattle.std.specs.Prelude.{◌≡◌, ◌⊎◌, ℕ, Bool, List, take, Option, Some, Ok, Err, codes}
+use Rattle.std.specs.List.{list_any}
+use Rattle.mx_base.specs.Sink.{with_bytes}
+use Rattle.mx_base.specs.declared.file.File.{File}
+use Rattle.compile_model.specs.declared.job.Job.{Job}
+use Rattle.compile_model.specs.Content.{Content}
+use Rattle.compile_model.specs.Seq.{seq}
+use Rattle.compile_model.specs.declared.outcome.Outcome.{Outcome}
+use Rattle.tree_store.specs.declared.key.BuildKey.{BuildKey}
+use Rattle.tree_store.specs.Slot.{Slot}
+use Rattle.mix_main.specs.declared.refusal.Refusal.{Refusal}
+use Rattle.mix_main.specs.declared.stop.Stop.{Stop}
+use Rattle.mix_main.specs.declared.stop.Stop.TheVariants as stop
+use Rattle.mix_main.specs.declared.status.Status.{Status}
+use Rattle.mix_main.specs.declared.status.Status.TheVariants.{Built, SomeFailed, BadWords, Refused, ReadFault, TreeFault, Died, OutOfMemory, Missing, WriteFault}
+use Rattle.mix_main.specs.Plan.{IsPlan}
+use Rattle.mix_main.specs.Report.{report, is_failed, AnyFailed}
+use Rattle.mix_main.specs.Status.{status_of}
+use Rattle.mix_main.specs.Texts.{read_fault_line, tree_fault_line, died_line, memory_line, refusal_line, bad_words_line}
+use Rattle.mix_main.specs.Tree.{LeavesTree}
+use Rattle.mix_main.specs.Words.{bad_word}
+
+-- the sink took the text, with which the status goes; or it failed, and took a prefix of it
+abbrev pub Says : List ℕ → Status → Status → Option (List ℕ) → Option (List ℕ) → Type 0
+Says text status WriteFault old new = (n : ℕ) × (new ≡ with_bytes old (take n text))
+Says text status result old new = (result ≡ status) × (new ≡ with_bytes old text)
+
+-- the line that says why a compile stopped
+abbrev pub stop_line : Stop → List ℕ
+stop_line (stop.Refused refusal) = refusal_line refusal
+stop_line stop.Read = read_fault_line
+stop_line stop.Tree = tree_fault_line
+stop_line stop.Died = died_line
+stop_line stop.Memory = memory_line
+stop_line stop.Write = memory_line
+
+-- which stop a status tells of; want of memory and a failed sink may end any of them
+abbrev pub Tells : Status → Stop → Type 0
+Tells Built s = ⊥
+Tells SomeFailed s = ⊥
+Tells BadWords s = ⊥
+Tells Refused s = (refusal : Refusal) × (s ≡ stop.Refused refusal) × (status_of refusal ≡ Refused)
+Tells ReadFault s = s ≡ stop.Read
+Tells TreeFault s = s ≡ stop.Tree
+Tells Died s = s ≡ stop.Died
+Tells OutOfMemory s = Unit {0}
+Tells Missing s = (refusal : Refusal) × (s ≡ stop.Refused refusal) × (status_of refusal ≡ Missing)
+Tells WriteFault s = Unit {0}
+
+-- the sink took the stop's line, or a prefix of it; where memory ran out that line says so
+abbrev pub TakesLine : Status → Stop → Option (List ℕ) → Option (List ℕ) → Type 0
+TakesLine OutOfMemory s old new = new ≡ with_bytes old memory_line
+TakesLine WriteFault s old new = (n : ℕ) × (text : List ℕ) × ((text ≡ stop_line s) ⊎ (text ≡ memory_line)) × (new ≡ with_bytes old (take n text))
+TakesLine result s old new = new ≡ with_bytes old (stop_line s)
+
+-- the report was written: the plan of the files, the tree and the text that it gives, and whether a dependency failed
+pub record Compiled (compile : Content → Outcome) (env : List ℕ) (files : List File) (result : Status) (old new : BuildKey → Slot) (took takes : Option (List ℕ)) : Type 0 where
+  pub jobs : List Job
+  pub planned : IsPlan files (Ok jobs)
+  pub tree : LeavesTree env jobs (seq compile jobs) old new
+  pub report : takes ≡ with_bytes took (report jobs (seq compile jobs))
+  pub some_failed : result ≡ SomeFailed → AnyFailed (seq compile jobs)
+  pub none_failed : result ≡ Built → AnyFailed (seq compile jobs) → ⊥
+
+-- the same as it is known before the status is told
+pub record Finished (compile : Content → Outcome) (env : List ℕ) (files : List File) (failed : Bool) (old new : BuildKey → Slot) (took takes : Option (List ℕ)) : Type 0 where
+  pub jobs : List Job
+  pub planned : IsPlan files (Ok jobs)
+  pub tree : LeavesTree env jobs (seq compile jobs) old new
+  pub report : takes ≡ with_bytes took (report jobs (seq compile jobs))
+  pub any_failed : failed ≡ list_any is_failed (seq compile jobs)
+
+-- the input was refused: the first refusal of the files, with its status, and its line
+pub record RefusesInput (files : List File) (result : Status) (took takes : Option (List ℕ)) : Type 0 where
+  pub refusal : Refusal
+  pub refused : IsPlan files (Err refusal)
+  pub status : result ≡ status_of refusal
+  pub line : takes ≡ with_bytes took (refusal_line refusal)
+
+-- the line that goes with a failure of the outside, or with want of memory
+abbrev pub FaultLine : Status → Option (List ℕ) → Option (List ℕ) → Type 0
+FaultLine ReadFault took takes = takes ≡ with_bytes took read_fault_line
+FaultLine TreeFault took takes = takes ≡ with_bytes took tree_fault_line
+FaultLine Died took takes = takes ≡ with_bytes took died_line
+FaultLine OutOfMemory took takes = takes ≡ with_bytes took memory_line
+FaultLine status took takes = Unit {0}
+
+-- the words are no command: the sink took the line that says at which word
+abbrev pub RefusesWords : List (List ℕ) → Option (List ℕ) → Option (List ℕ) → Type 0
+RefusesWords words took takes = (at : ℕ) × (bad_word words ≡ Some at) × (takes ≡ with_bytes took (bad_words_line at))
+
+-- the environment of a command
+abbrev pub dev : List ℕ
+dev = codes "dev"
