@@ -1,0 +1,5 @@
+pub mod Graph
+pub mod Listing
+pub mod Cycle
+pub mod Reach
+pub mod Pending

@@ -1,0 +1,74 @@
+// Listing places as long as one is ready.
+ghost use Rattle.std.specs.Prelude.{◌≡◌, ℕ, ◌+◌, ◌≤◌, length, sum, IfOk, OnOk, slice_index, nat_cmp};
+ghost use Rattle.std.specs.BTreeSet.{contains, btree_set_len};
+ghost use Rattle.dep_order.specs.Listing.{IsListing, IsReady};
+ghost use Rattle.dep_order.specs.Pending.{times, ArePending, Releases};
+
+use crate::dependents::dependents_of;
+use crate::graph::Graph;
+use std::alloc::{AllocError, Global};
+use std::collections::BTreeSet;
+
+/// The places that are listed, and for each place how many of its needs aren't.
+#[derive(Drop)]
+pub(crate) struct Listing {
+    pub listed: Vec<usize>,
+    pub pending: Vec<usize>,
+}
+
+pub(crate) fn listing_of(alloc: Global, graph: &Graph) -> Result<Listing, AllocError>
+    ensures listing { IfOk result (λ listing. IsListing graph.now listing.listed.items) }
+    ensures stops { IfOk result (λ listing. (place : ℕ) → IsReady graph.now listing.listed.items place → ⊥) }
+    ensures pending { IfOk result (λ listing. ArePending graph.now listing.listed.items listing.pending.items) }
+{
+    let dependents = dependents_of(alloc, graph)?;
+    let mut pending = counts_of_needs(alloc, graph)?;
+    let mut ready = places_without_pending(alloc, &pending)?;
+    let mut listed = Vec::new(alloc);
+    while let Some(place) = ready.pop_first() {
+        listed.push(place)?;
+        release(dependents[place].as_slice(), &mut pending, &mut ready)?;
+    }
+    Ok(Listing { listed, pending })
+}
+
+fn counts_of_needs(alloc: Global, graph: &Graph) -> Result<Vec<usize>, AllocError>
+    ensures { IfOk result (λ pending. ArePending graph.now [] pending.items) }
+{
+    graph
+        .needs()
+        .iter()
+        .map(|needs| needs.as_slice().len())
+        .collect(alloc)
+}
+
+fn places_without_pending(alloc: Global, pending: &[usize]) -> Result<BTreeSet<usize>, AllocError>
+    ensures { IfOk result (λ ready. (place : ℕ) → IsTrue (contains nat_cmp ready place) ↔ ((place < length pending.now) × (slice_index pending.now place ≡ 0))) }
+{
+    let mut ready = BTreeSet::new(alloc);
+    for (place, count) in pending.iter().enumerate() {
+        if *count == 0 {
+            ready.insert(place)?;
+        }
+    }
+    Ok(ready)
+}
+
+/// Counts one need less for each of the places.
+fn release(
+    places: &[usize],
+    pending: &mut Vec<usize>,
+    ready: &mut BTreeSet<usize>,
+) -> Result<(), AllocError>
+    requires { (place : ℕ) → times place places.now ≤ slice_index pending.old.items place }
+    ensures releases { OnOk result (Releases places.now pending.old.items pending.new.items (contains nat_cmp ready.old) (contains nat_cmp ready.new)) }
+    ensures work { sum pending.new.items + btree_set_len ready.new ≤ sum pending.old.items + btree_set_len ready.old }
+{
+    for place in places {
+        pending[*place] -= 1;
+        if pending[*place] == 0 {
+            ready.insert(*place)?;
+        }
+    }
+    Ok(())
+}
