@@ -1,5 +1,5 @@
 // Which places need a place.
-ghost use Rattle.std.specs.Prelude.{◌≡◌, ℕ, ◌+◌, ◌<◌, length, OnOk, IfOk, if◌then◌else◌, ◌==◌};
+ghost use Rattle.std.specs.Prelude.{◌≡◌, [], ℕ, ◌+◌, ◌<◌, replicate, length, OnOk, IfOk, if◌then◌else◌, ◌==◌};
 ghost use Rattle.std.specs.List.{All};
 ghost use Rattle.dep_order.specs.Graph.{needs_of};
 ghost use Rattle.dep_order.specs.Pending.{times, AreDependents};

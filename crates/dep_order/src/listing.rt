@@ -1,5 +1,6 @@
 // Listing places as long as one is ready.
-ghost use Rattle.std.specs.Prelude.{◌≡◌, ℕ, ◌+◌, ◌≤◌, length, sum, IfOk, OnOk, slice_index, nat_cmp};
+ghost use Rattle.std.specs.Prelude.{◌≡◌, ◌↔◌, [], ℕ, ◌+◌, ◌<◌, ◌≤◌, length, sum, IsTrue, IfOk, OnOk, slice_index};
+ghost use Rattle.std.specs.Ordering.{nat_cmp};
 ghost use Rattle.std.specs.BTreeSet.{contains, btree_set_len};
 ghost use Rattle.dep_order.specs.Listing.{IsListing, IsReady};
 ghost use Rattle.dep_order.specs.Pending.{times, ArePending, Releases};
