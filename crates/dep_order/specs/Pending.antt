@@ -2,7 +2,7 @@
 use Rattle.std.specs.Prelude.{◌≡◌, ℕ, ◌+◌, ◌<◌, ◌≤◌, Bool, not, nat_eq, List, length, slice_index, count_by, sum, IsTrue, ◌↔◌, ◌⊎◌}
 use Rattle.std.specs.List.{slice_index_or}
 use Rattle.dep_order.specs.Graph.{needs_of}
-use Rattle.dep_order.specs.Listing.{is_listed}
+use Rattle.dep_order.specs.Listing.{is_listed, IsReady, IsListing}
 
 -- how often a place stands in a list
 abbrev pub times : ℕ → List ℕ → ℕ
@@ -27,3 +27,9 @@ pub record Releases (places old_pending new_pending : List ℕ) (was_ready is_re
   pub long : length new_pending ≡ length old_pending
   pub each : (place : ℕ) → slice_index new_pending place + times place places ≡ slice_index old_pending place
   pub ready : (place : ℕ) → IsTrue (is_ready place) ↔ (IsTrue (was_ready place) ⊎ ((0 < times place places) × (slice_index new_pending place ≡ 0)))
+
+-- a listing that has come to its end, with its counts
+pub record HasStopped (graph : List (List ℕ)) (listed pending : List ℕ) : Type 0 where
+  pub listing : IsListing graph listed
+  pub stops : (place : ℕ) → IsReady graph listed place → ⊥
+  pub counts : ArePending graph listed pending

@@ -1,42 +1,56 @@
-// The cycle list.
-ghost use Rattle.std.specs.Prelude.{◌≡◌, ℕ, ◌+◌, ◌<◌, length, slice_index, IfOk, IfSome, IfNone, IsTrue, Some, None};
-ghost use Rattle.std.specs.List.{All};
-ghost use Rattle.dep_order.specs.Listing.{is_listed, IsLeft};
+// The cycle list of a listing that can't go on.
+ghost use Rattle.std.specs.Prelude.{◌≡◌, ℕ, ◌<◌, Some, IfOk, IfNone, IfSome, IsTrue, slice_index};
+ghost use Rattle.dep_order.specs.Listing.{IsLeft};
 ghost use Rattle.dep_order.specs.Cycle.{IsFirstLeft, IsCycleAfter, first_need_left};
-ghost use Rattle.dep_order.specs.Pending.{ArePending};
+ghost use Rattle.dep_order.specs.Pending.{HasStopped};
 
 use crate::graph::Graph;
 use crate::listing::Listing;
 use std::alloc::{AllocError, Global};
 
-/// The first place that isn't listed.
-pub(crate) fn first_left(listing: &Listing) -> Option<usize> {
+/// The first place that waits for a need.
+pub(crate) fn first_waiting(listing: &Listing) -> Option<usize>
+    ensures none { IfNone result ((place : ℕ) → slice_index listing.now.pending.items place ≡ 0) }
+    ensures waits { IfSome result (λ first. 0 < slice_index listing.now.pending.items first) }
+    ensures first { IfSome result (λ first. (place : ℕ) → place < first → slice_index listing.now.pending.items place ≡ 0) }
+{
     listing.pending.iter().position(|count| *count != 0)
 }
 
-/// The cycle to which the first needs that aren't listed lead from there.
+/// The cycle to which the way over the first needs that aren't listed leads from there.
 pub(crate) fn cycle_after(
     alloc: Global,
     graph: &Graph,
     listing: &Listing,
     start: usize,
-) -> Result<Vec<usize>, AllocError> {
+) -> Result<Vec<usize>, AllocError>
+    requires stopped { HasStopped graph.now listing.now.listed.items listing.now.pending.items }
+    requires start { IsFirstLeft graph.now listing.now.listed.items start }
+    ensures { IfOk result (λ cycle. IsCycleAfter graph.now listing.now.listed.items cycle.items) }
+{
     let mut walk = Vec::new(alloc);
     let mut is_met = vec![in alloc; false; graph.needs().len()]?;
     let mut place = start;
     while !is_met[place] {
         is_met[place] = true;
         walk.push(place)?;
-        place = first_need_left(graph, listing, place);
+        place = need_left_at(graph, listing, place);
     }
     let from = walk.iter().position(|met| *met == place).unwrap();
     walk.split_off(from)
 }
 
-fn first_need_left(graph: &Graph, listing: &Listing, place: usize) -> usize {
-    *graph
-        .needs_at(place)
-        .iter()
-        .find(|need| listing.pending[**need] != 0)
-        .unwrap()
+/// The first need of a place that isn't listed, where the place isn't listed either.
+fn need_left_at(graph: &Graph, listing: &Listing, place: usize) -> usize
+    requires stopped { HasStopped graph.now listing.now.listed.items listing.now.pending.items }
+    requires left { IsLeft graph.now listing.now.listed.items place }
+    ensures first { first_need_left graph.now listing.now.listed.items place ≡ Some result }
+    ensures left { IsLeft graph.now listing.now.listed.items result }
+{
+    for need in graph.needs_at(place) {
+        if listing.pending[*need] != 0 {
+            return *need;
+        }
+    }
+    unreachable!()
 }

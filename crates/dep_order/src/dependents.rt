@@ -7,6 +7,7 @@ ghost use Rattle.dep_order.specs.Pending.{times, AreDependents};
 use crate::graph::{Graph, Places};
 use std::alloc::{AllocError, Global};
 
+#[tactic(auto, using(crate::proofs::Naming::rows_more))]
 /// For each place the places that need it, each as often as it names that one.
 pub(crate) fn dependents_of(alloc: Global, graph: &Graph) -> Result<Vec<Places>, AllocError>
     ensures { IfOk result (λ dependents. AreDependents graph.now dependents.items) }

@@ -1,9 +1,8 @@
 // Listing places as long as one is ready.
-ghost use Rattle.std.specs.Prelude.{◌≡◌, ◌↔◌, [], ℕ, ◌+◌, ◌<◌, ◌≤◌, length, sum, IsTrue, IfOk, OnOk, slice_index};
+ghost use Rattle.std.specs.Prelude.{◌≡◌, ◌↔◌, [], ◌∷◌, map, ℕ, ◌+◌, ◌<◌, ◌≤◌, length, sum, IsTrue, IfOk, OnOk, slice_index};
 ghost use Rattle.std.specs.Ordering.{nat_cmp};
 ghost use Rattle.std.specs.BTreeSet.{contains, btree_set_len};
-ghost use Rattle.dep_order.specs.Listing.{IsListing, IsReady};
-ghost use Rattle.dep_order.specs.Pending.{times, ArePending, Releases};
+ghost use Rattle.dep_order.specs.Pending.{times, HasStopped, Releases};
 
 use crate::dependents::dependents_of;
 use crate::graph::Graph;
@@ -18,9 +17,7 @@ pub(crate) struct Listing {
 }
 
 pub(crate) fn listing_of(alloc: Global, graph: &Graph) -> Result<Listing, AllocError>
-    ensures listing { IfOk result (λ listing. IsListing graph.now listing.listed.items) }
-    ensures stops { IfOk result (λ listing. (place : ℕ) → IsReady graph.now listing.listed.items place → ⊥) }
-    ensures pending { IfOk result (λ listing. ArePending graph.now listing.listed.items listing.pending.items) }
+    ensures { IfOk result (λ listing. HasStopped graph.now listing.listed.items listing.pending.items) }
 {
     let dependents = dependents_of(alloc, graph)?;
     let mut pending = counts_of_needs(alloc, graph)?;
@@ -34,7 +31,7 @@ pub(crate) fn listing_of(alloc: Global, graph: &Graph) -> Result<Listing, AllocE
 }
 
 fn counts_of_needs(alloc: Global, graph: &Graph) -> Result<Vec<usize>, AllocError>
-    ensures { IfOk result (λ pending. ArePending graph.now [] pending.items) }
+    ensures { IfOk result (λ pending. pending.items ≡ map length graph.now) }
 {
     graph
         .needs()
@@ -55,7 +52,7 @@ fn places_without_pending(alloc: Global, pending: &[usize]) -> Result<BTreeSet<u
     Ok(ready)
 }
 
-/// Counts one need less for each of the places.
+/// Counts one need less for each of the places, as often as it stands there.
 fn release(
     places: &[usize],
     pending: &mut Vec<usize>,
@@ -63,13 +60,26 @@ fn release(
 ) -> Result<(), AllocError>
     requires { (place : ℕ) → times place places.now ≤ slice_index pending.old.items place }
     ensures releases { OnOk result (Releases places.now pending.old.items pending.new.items (contains nat_cmp ready.old) (contains nat_cmp ready.new)) }
-    ensures work { sum pending.new.items + btree_set_len ready.new ≤ sum pending.old.items + btree_set_len ready.old }
+    ensures work { OnOk result (sum pending.new.items + btree_set_len ready.new ≤ sum pending.old.items + btree_set_len ready.old) }
 {
     for place in places {
-        pending[*place] -= 1;
-        if pending[*place] == 0 {
-            ready.insert(*place)?;
-        }
+        release_one(*place, pending, ready)?;
+    }
+    Ok(())
+}
+
+fn release_one(
+    place: usize,
+    pending: &mut Vec<usize>,
+    ready: &mut BTreeSet<usize>,
+) -> Result<(), AllocError>
+    requires { 0 < slice_index pending.old.items place }
+    ensures releases { OnOk result (Releases (place ∷ []) pending.old.items pending.new.items (contains nat_cmp ready.old) (contains nat_cmp ready.new)) }
+    ensures work { OnOk result (sum pending.new.items + btree_set_len ready.new ≤ sum pending.old.items + btree_set_len ready.old) }
+{
+    pending[place] -= 1;
+    if pending[place] == 0 {
+        ready.insert(place)?;
     }
     Ok(())
 }

@@ -3,7 +3,7 @@ ghost use Rattle.std.specs.Prelude.{ℕ, List, IfOk, IsErrOf};
 ghost use Rattle.dep_order.specs.Listing.{IsOrderOf};
 ghost use Rattle.dep_order.specs.Cycle.{IsCycleOf};
 
-use crate::cycle::{cycle_after, first_left};
+use crate::cycle::{cycle_after, first_waiting};
 use crate::graph::{Graph, Places};
 use crate::listing::listing_of;
 use std::alloc::{AllocError, Global};
@@ -34,7 +34,7 @@ pub fn order(alloc: Global, graph: &Graph) -> Result<Vec<usize>, OrderError>
     ensures cycle { (cycle : List ℕ) → IsErrOf result (OrderError.Cycle cycle) → IsCycleOf graph.now cycle }
 {
     let listing = listing_of(alloc, graph)?;
-    match first_left(&listing) {
+    match first_waiting(&listing) {
         None => Ok(listing.listed),
         Some(start) => Err(OrderError::Cycle(Places::from_vec(cycle_after(
             alloc, graph, &listing, start,
