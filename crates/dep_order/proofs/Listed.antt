@@ -47,7 +47,7 @@ listed_longer listed k place within h =
     let s = stands_before listed k place within h in
     rw s.is at (listed_at listed s.at (omega arith))
 
-or_false : (b : Bool) → (b || false) ≡ b
+pub or_false : (b : Bool) → (b || false) ≡ b
 or_false true = refl
 or_false false = refl
 

@@ -1,14 +1,15 @@
 -- A walk on its way: from each place to the next, and from the last one to the place at hand.
-use Rattle.std.proofs.Common.{◌≡◌, ◌≢◌, ℕ, ◌+◌, ◌-◌, ◌<◌, ◌≤◌, Bool, true, false, not, cond, eqb, List, [], ◌∷◌, ◌++◌, length, get_or, set, drop, zero, suc, AllPairs, sym, ◌∙◌, ap, refl, subst, inl, inr, ◌⊎◌, arith, Option, Some, None, find, count_by}
-use Rattle.std.proofs.lemmas.List.{get_or_default, get_or_past, get_or_append_left, get_or_push, length_push, drop_more, at_drop_all}
+use Rattle.std.proofs.Common.{◌≡◌, ◌≢◌, ℕ, ◌+◌, ◌-◌, ◌<◌, ◌≤◌, Bool, true, false, not, cond, ◌||◌, eqb, List, [], ◌∷◌, ◌++◌, length, get_or, set, drop, zero, suc, AllPairs, sym, ◌∙◌, ap, refl, subst, inl, inr, ◌⊎◌, arith, Option, Some, None, find, count_by}
+use Rattle.std.proofs.lemmas.List.{get_or_default, get_or_past, get_or_read, get_or-set_other, get_or_append_left, get_or_push, length_push, drop_more, at_drop_all}
 use Rattle.std.proofs.lemmas.List.Quantifiers.{all_pairs_push}
 use Rattle.std.proofs.lemmas.List.Sums.{sum_by-set}
-use Rattle.std.proofs.lemmas.Bool.{both_ways, cases_lt, cases_Bool, true_from_ne_false, false_from_ne_true, not_from_true, not_from_false, eq-eqb, ne_eqb, not-true}
+use Rattle.std.proofs.lemmas.Bool.{both_ways, cases_lt, cases_eq, cases_Bool, true_from_ne_false, false_from_ne_true, not_from_true, not_from_false, eq-eqb, ne_eqb, not-true}
+use Rattle.std.proofs.lemmas.Grind.{get_or-set_at}
 use Rattle.dep_order.specs.Graph.{needs_of, NeedsAreWithin}
 use Rattle.dep_order.specs.Listing.{is_listed, IsLeft, IsReady, IsOrderOf, IsStuck}
 use Rattle.dep_order.specs.Cycle.{IsFirstLeft, first_need_left, IsWalk, IsCycleAfter}
 use Rattle.dep_order.specs.Pending.{ArePending, HasStopped}
-use Rattle.dep_order.proofs.Listed.{listed_at, stands_at, listed_push_cases}
+use Rattle.dep_order.proofs.Listed.{StandsAt, listed_at, stands_at, listed-push, listed_push_new, or_false}
 use Rattle.dep_order.proofs.Listings.{listed_needs}
 use Rattle.dep_order.proofs.Counts.{ready_from_zero, zero_from_listed}
 use Rattle.dep_order.proofs.Cycles.{some_need_left, need_left_is_left, need_within}
@@ -116,8 +117,48 @@ module _ (graph : List (List ℕ)) (listed : List ℕ) (start : ℕ) where
         rest = rest;
       }
 
+-- the marks are those of the walk
+pub met_more : (n : ℕ) (walk : List ℕ) (is_met : List Bool) (place : ℕ) → place < length is_met → ((q : ℕ) → q < n → get_or is_met q false ≡ is_listed walk q) → (q : ℕ) → q < n → get_or (set is_met place true) q false ≡ is_listed (walk ++ place ∷ []) q
+met_more n walk is_met place within met q inside =
+    elim (cases_eq q place) [
+      inl same ↦
+        get_or-set_at is_met place q true false same within
+        ∙ sym (rw same (listed_push_new walk place))
+    | inr differ ↦
+        get_or-set_other is_met place q true false differ
+        ∙ met q inside
+        ∙ sym (listed-push walk place q ∙ ap (λ b. is_listed walk q || b) (ne_eqb q place differ) ∙ or_false (is_listed walk q))
+    ]
+
 pub one_fewer : (is_met : List Bool) (place : ℕ) → place < length is_met → get_or is_met place false ≡ false → count_by not (set is_met place true) < count_by not is_met
 one_fewer is_met place within new =
     let f : Bool → ℕ = λ b. cond (not b) 1 0 in
     let was : f (get_or is_met place false) ≡ 1 = ap f new in
     omega (arith, was, sum_by-set f is_met place true false within)
+
+-- ---- the needs of a place, one after another
+
+module _ (graph : List (List ℕ)) (listed pending : List ℕ) (stopped : HasStopped graph listed pending) (within : NeedsAreWithin graph) (place : ℕ) (items : List ℕ) (are : items ≡ needs_of graph place) where
+  item_within : (i : ℕ) → i < length items → get_or items i 0 < length graph
+  item_within i inside =
+      let P : List ℕ → Type 0 = λ xs. is_listed xs (get_or items i 0) ≡ true in
+      need_within graph within place (get_or items i 0) (subst P are (listed_at items i inside))
+
+  count_is : (i count : ℕ) → i < length items → count ≡ get_or pending (get_or items i 0) count → count ≡ get_or pending (get_or items i 0) 0
+  count_is i count inside is = get_or_read pending (get_or items i 0) count (omega (arith, item_within i inside, stopped.counts.long)) is 0
+
+  pub found_need : (i count : ℕ) → i < length items → count ≡ get_or pending (get_or items i 0) count → count ≢ 0 → first_need_left graph listed place ≡ find (λ need. not (is_listed listed need)) (drop i items) → first_need_left graph listed place ≡ Some (get_or items i 0)
+  found_need i count inside is waits so_far =
+      so_far ∙ find_here (λ need. not (is_listed listed need)) items i inside
+      (left_by_count graph listed pending stopped (get_or items i 0) (item_within i inside) ∙ ap not (ne_eqb _ 0 (λ none. waits (count_is i count inside is ∙ none))))
+
+  pub passed_need : (i count : ℕ) → i < length items → count ≡ get_or pending (get_or items i 0) count → count ≡ 0 → first_need_left graph listed place ≡ find (λ need. not (is_listed listed need)) (drop i items) → first_need_left graph listed place ≡ find (λ need. not (is_listed listed need)) (drop (i + 1) items)
+  passed_need i count inside is none so_far =
+      so_far ∙ find_later (λ need. not (is_listed listed need)) items i inside
+      (left_by_count graph listed pending stopped (get_or items i 0) (item_within i inside) ∙ ap not (eq-eqb _ 0 (sym (count_is i count inside is) ∙ none)))
+
+  pub some_need : (i : ℕ) → length items ≤ i → IsLeft graph listed place → first_need_left graph listed place ≡ find (λ need. not (is_listed listed need)) (drop i items) → ⊥
+  some_need i past left so_far =
+      let some = some_need_left graph listed (stuck_from_left graph listed pending stopped place left) place left in
+      let none : find (λ need. not (is_listed listed need)) (drop i items) ≡ None = at_drop_all (find (λ need. not (is_listed listed need))) items i past in
+      absurd (cc (some.1, so_far, none))

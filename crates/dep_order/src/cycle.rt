@@ -1,5 +1,5 @@
 // The cycle list of a listing that can't go on.
-ghost use Rattle.std.specs.Prelude.{◌≡◌, ℕ, ◌<◌, Some, IfOk, IfNone, IfSome, IsTrue, slice_index};
+ghost use Rattle.std.specs.Prelude.{◌≡◌, ◌≢◌, ℕ, ◌<◌, length, Some, IfOk, IfNone, IfSome, slice_index};
 ghost use Rattle.dep_order.specs.Listing.{IsLeft};
 ghost use Rattle.dep_order.specs.Cycle.{IsFirstLeft, IsCycleAfter, first_need_left};
 ghost use Rattle.dep_order.specs.Pending.{HasStopped};
@@ -36,8 +36,16 @@ pub(crate) fn cycle_after(
         walk.push(place)?;
         place = need_left_at(graph, listing, place);
     }
-    let from = walk.iter().position(|met| *met == place).unwrap();
+    let from = position_of(&walk, place).unwrap();
     walk.split_off(from)
+}
+
+fn position_of(places: &[usize], place: usize) -> Option<usize>
+    ensures none { IfNone result ((k : ℕ) → k < length places.now → slice_index places.now k ≢ place) }
+    ensures within { IfSome result (λ at. at < length places.now) }
+    ensures is { IfSome result (λ at. slice_index places.now at ≡ place) }
+{
+    places.iter().position(|other| *other == place)
 }
 
 /// The first need of a place that isn't listed, where the place isn't listed either.
