@@ -8,3 +8,4 @@ pub mod ReadySets
 pub mod Turns
 pub mod Naming
 pub mod Walks
+pub mod Marking

@@ -5,7 +5,7 @@ use Rattle.std.proofs.lemmas.List.Elements.{All-contains, Contains-get_or}
 use Rattle.dep_order.specs.Graph.{needs_of}
 use Rattle.dep_order.specs.Listing.{is_listed, IsListing, IsOrderOf}
 use Rattle.dep_order.specs.Reach.{Reaches, Direct, Further, IsClosedFrom}
-use Rattle.dep_order.proofs.Listed.{StandsAt, listed-from_Contains}
+use Rattle.dep_order.proofs.Listed.{StandsAt, stands_at, listed_at}
 use Rattle.dep_order.proofs.Listings.{needs_before}
 
 pub needs_are_reached : (graph : List (List ℕ)) (from : ℕ) → All (Reaches graph from) (needs_of graph from)
@@ -20,7 +20,7 @@ reached_in_closed graph from need (Further through _ reached has) set closed =
     All-contains (λ x. set x ≡ true) (needs_of graph through) need (closed.further through (reached_in_closed graph from through reached set closed)) has
 
 module _ (graph : List (List ℕ)) (order : List ℕ) (listing : IsListing graph order) where
-  need_stands_before : (k need : ℕ) → k < length order → Contains (needs_of graph (get_or order k 0)) need → StandsAt order k need
+  pub need_stands_before : (k need : ℕ) → k < length order → Contains (needs_of graph (get_or order k 0)) need → StandsAt order k need
   need_stands_before k need within has =
       let s = needs_before graph order listing k has.0 within has.1 in
       record { at = s.at; before = s.before; is = s.is ∙ get_or_default (needs_of graph (get_or order k 0)) has.0 0 need has.1 ∙ has.2 }
@@ -37,3 +37,9 @@ pub reached_comes_first : (graph : List (List ℕ)) (order : List ℕ) → IsOrd
 reached_comes_first graph order o k within need reached =
     let s = reached_before graph order o.listing k within need reached in
     (s.at, s.before, s.is)
+
+pub reached_listed : (graph : List (List ℕ)) (order : List ℕ) → IsOrderOf graph order → (place : ℕ) → place < length graph → (need : ℕ) → Reaches graph place need → is_listed order need ≡ true
+reached_listed graph order o place within need reached =
+    let s = stands_at order place (o.whole place within) in
+    let t = reached_before graph order o.listing s.at s.before need (rw s.is reached) in
+    rw t.is at (listed_at order t.at (omega arith))

@@ -55,8 +55,3 @@ pub fn reach_is_the_least_closed_set(graph: &Graph)
     ensures further { (from through : ℕ) → Reaches graph.now from through → All (Reaches graph.now from) (needs_of graph.now through) }
     ensures least { (from need : ℕ) → Reaches graph.now from need → (set : ℕ → Bool) → IsClosedFrom graph.now from set → IsTrue (set need) }
 {}
-
-pub fn probe(graph: &Graph)
-    ensures { length graph.now ≡ length graph.now }
-{
-}
