@@ -1,22 +1,22 @@
 -- Walks from a place that is left to its first need that is left.
-use Rattle.std.proofs.Common.{◌≡◌, ◌≢◌, ℕ, ◌+◌, ◌-◌, ◌<◌, ◌≤◌, Bool, true, false, not, List, [], ◌∷◌, length, get_or, drop, zero, suc, add-one, All, AllPairs, Contains, sym, ◌∙◌, ap, ap₂, refl, subst, inl, inr, ◌⊎◌, arith, le_antisymm, Option, Some, None, find}
-use Rattle.std.proofs.lemmas.List.{get_or_default, get_or_past, get_or-drop, length-drop, take_all, ext_get_or}
+use Rattle.std.proofs.Common.{◌≡◌, ◌≢◌, ℕ, ◌+◌, ◌-◌, ◌<◌, true, not, List, [], length, get_or, drop, zero, suc, add-one, All, AllPairs, Contains, sym, ◌∙◌, ap, ap₂, refl, inl, inr, arith, le_antisymm, Option, Some, None}
+use Rattle.std.proofs.lemmas.List.{get_or_default, get_or_past, get_or-drop, length-drop, ext_get_or}
 use Rattle.std.proofs.lemmas.Bool.{both_ways, cases_lt, cases_order, not-true, not-false}
 use Rattle.dep_order.specs.Graph.{needs_of, NeedsAreWithin}
-use Rattle.dep_order.specs.Listing.{is_listed, IsLeft, IsReady, IsOrderOf, IsStuck}
-use Rattle.dep_order.specs.Cycle.{IsFirstLeft, first_need_left, IsWalk, IsCycleAfter, IsCycleOf}
-use Rattle.dep_order.proofs.Listed.{StandsAt, stands_at, Contains-from_listed}
+use Rattle.dep_order.specs.Listing.{is_listed, IsLeft, IsOrderOf, IsStuck}
+use Rattle.dep_order.specs.Cycle.{first_need_left, IsWalk, IsCycleAfter, IsCycleOf}
+use Rattle.dep_order.proofs.Listed.{stands_at, Contains-from_listed}
 use Rattle.dep_order.proofs.Listings.{one_stuck, order_not_stuck}
-use Rattle.dep_order.proofs.Finds.{Found, found, none_found}
+use Rattle.dep_order.proofs.Finds.{found, none_found}
 
 -- each need is a place of the graph
 pub need_within : (graph : List (List ℕ)) → NeedsAreWithin graph → (place need : ℕ) → is_listed (needs_of graph place) need ≡ true → need < length graph
 need_within graph within place need h =
     elim (cases_lt place (length graph)) [
-      inl inside ↦
-        let s = stands_at (needs_of graph place) need h in
-        rw s.is at (within place [] inside s.at 0 s.before)
-    | inr past ↦ absurd (both_ways (is_listed [] need) refl (rw (get_or_past graph place [] past) at h))
+      | inl inside ↦
+          let s = stands_at (needs_of graph place) need h in
+          rw s.is at (within place [] inside s.at 0 s.before)
+      | inr past ↦ absurd (both_ways (is_listed [] need) refl (rw (get_or_past graph place [] past) at h))
     ]
 
 module _ (graph : List (List ℕ)) (listed : List ℕ) where
@@ -25,9 +25,9 @@ module _ (graph : List (List ℕ)) (listed : List ℕ) where
 
   pub need_left_is_left : NeedsAreWithin graph → (place need : ℕ) → first_need_left graph listed place ≡ Some need → IsLeft graph listed need
   need_left_is_left within place need h = record {
-      within = need_within graph within place need (need_left_is_need place need h);
-      not_listed = not-true _ (found (λ x. not (is_listed listed x)) (needs_of graph place) need h).passes;
-    }
+    within = need_within graph within place need (need_left_is_need place need h);
+    not_listed = not-true _ (found (λ x. not (is_listed listed x)) (needs_of graph place) need h).passes;
+  }
 
   some_left_at : IsStuck graph listed → (place : ℕ) → IsLeft graph listed place → (o : Option ℕ) → first_need_left graph listed place ≡ o → (need : ℕ) × (first_need_left graph listed place ≡ Some need)
   some_left_at stuck place left (Some need) is = (need, is)
@@ -98,10 +98,10 @@ sub_add n positive = omega arith
 same_place : (xs : List ℕ) → AllPairs (λ earlier later. earlier ≢ later) xs → (i j : ℕ) → i < length xs → j < length xs → get_or xs i 0 ≡ get_or xs j 0 → i ≡ j
 same_place xs apart i j in_i in_j same =
     elim (cases_order i j) [
-      inl equal ↦ equal
-    | inr differ ↦ elim differ [
-        inl less ↦ absurd (apart i j 0 less in_j same)
-      | inr more ↦ absurd (apart j i 0 more in_i (sym same))
+      | inl equal ↦ equal
+      | inr differ ↦ elim differ [
+        | inl less ↦ absurd (apart i j 0 less in_j same)
+        | inr more ↦ absurd (apart j i 0 more in_i (sym same))
       ]
     ]
 
@@ -128,12 +128,12 @@ past_back graph listed a from b walk_a walk_b within back longer =
 same_ends : (graph : List (List ℕ)) (listed a b : List ℕ) → IsCycleAfter graph listed a → IsCycleAfter graph listed b → a ≡ b
 same_ends graph listed a b c d =
     let long : length c.walk ≡ length d.walk = elim (cases_order (length c.walk) (length d.walk)) [
-        inl same ↦ same
+      | inl same ↦ same
       | inr differ ↦ elim differ [
-          inl less ↦ absurd (past_back graph listed c.walk c.from d.walk c.is_walk d.is_walk c.within c.back less)
+        | inl less ↦ absurd (past_back graph listed c.walk c.from d.walk c.is_walk d.is_walk c.within c.back less)
         | inr more ↦ absurd (past_back graph listed d.walk d.from c.walk d.is_walk c.is_walk d.within d.back more)
-        ]
-      ] in
+      ]
+    ] in
     let walk : c.walk ≡ d.walk = ext_get_or 0 c.walk d.walk long (λ k within. same_steps graph listed c.walk d.walk c.is_walk d.is_walk k within (omega arith)) in
     let back_d : first_need_left graph listed (get_or c.walk (length c.walk - 1) 0) ≡ Some (get_or c.walk d.from 0) = rw walk d.back in
     let at : get_or c.walk c.from 0 ≡ get_or c.walk d.from 0 = same_found _ _ _ _ c.back back_d refl in

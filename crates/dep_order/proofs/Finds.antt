@@ -1,6 +1,6 @@
 -- The first place in a list that passes a test.
-use Rattle.std.proofs.Common.{◌≡◌, ℕ, ◌+◌, ◌<◌, ◌≤◌, Bool, true, false, not, cond, ◌||◌, eqb, List, [], ◌∷◌, ◌++◌, length, get_or, zero, suc, sym, ◌∙◌, ap, refl, arith, eq-eqb, Option, Some, None, find}
-use Rattle.std.proofs.lemmas.Bool.{or_left, or_right, both_ways}
+use Rattle.std.proofs.Common.{◌≡◌, ℕ, ◌<◌, Bool, true, false, cond, eqb, List, [], ◌∷◌, length, get_or, zero, suc, sym, refl, arith, eq-eqb, Some, None, find}
+use Rattle.std.proofs.lemmas.Bool.{or_left, or_right}
 use Rattle.dep_order.specs.Listing.{is_listed}
 
 -- it is in the list, and passes

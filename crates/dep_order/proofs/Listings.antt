@@ -1,11 +1,10 @@
 -- What holds of any listing.
-use Rattle.std.proofs.Common.{◌≡◌, ◌≢◌, ◌↔◌, AllPairs, Contains, ℕ, ◌+◌, ◌<◌, ◌≤◌, Bool, true, false, List, [], ◌∷◌, ◌++◌, length, get_or, take, All, sym, ◌∙◌, ap, refl, subst, zero, suc, add-one, inl, inr, ◌⊎◌, arith, le_antisymm}
-use Rattle.std.proofs.lemmas.List.{get_or_default, take_more, take_all, take-take, take-append-le, take_more_same, length_push, get_or_append_left, get_or_push, take_at}
+use Rattle.std.proofs.Common.{◌≡◌, ◌≢◌, ◌↔◌, AllPairs, Contains, ℕ, ◌<◌, ◌≤◌, true, List, [], ◌∷◌, ◌++◌, length, get_or, take, sym, ◌∙◌, ap, refl, zero, suc, add-one, inl, inr, arith, le_antisymm}
+use Rattle.std.proofs.lemmas.List.{get_or_default, take_all, take-append-le, take_more_same, length_push, get_or_append_left, get_or_push, take_at}
 use Rattle.std.proofs.lemmas.Bool.{both_ways, cases_lt, cases_order}
-use Rattle.std.proofs.lemmas.List.Elements.{All-from_get_or}
 use Rattle.dep_order.specs.Graph.{needs_of}
-use Rattle.dep_order.specs.Listing.{is_listed, IsLeft, IsReady, IsNext, IsListing, IsOrderOf, IsStuck}
-use Rattle.dep_order.proofs.Listed.{StandsAt, listed-from_Contains, Contains-from_listed, stands_at, stands_before, listed_at, listed_before, listed_longer}
+use Rattle.dep_order.specs.Listing.{is_listed, IsReady, IsNext, IsListing, IsOrderOf, IsStuck}
+use Rattle.dep_order.proofs.Listed.{StandsAt, listed-from_Contains, Contains-from_listed, stands_at, stands_before, listed_before, listed_longer}
 
 -- one listing
 module _ (graph : List (List ℕ)) (order : List ℕ) (listing : IsListing graph order) where
@@ -37,14 +36,14 @@ next_same graph a b x y same_list same_place next = rw (same_list, same_place) n
 -- a place more
 pub listing_push : (graph : List (List ℕ)) (order : List ℕ) (place : ℕ) → IsListing graph order → IsNext graph order place → IsListing graph (order ++ place ∷ [])
 listing_push graph order place listing next = record {
-    each = λ k within.
+  each = λ k within.
       elim (cases_lt k (length order)) [
-        inl before ↦ next_same graph _ _ _ _ (take-append-le k order (place ∷ []) (omega arith)) (get_or_append_left order (place ∷ []) 0 k before) (listing.each k before)
-      | inr past ↦
-          let at : length order ≡ k = omega (arith, length_push order place) in
-          next_same graph _ _ _ _ (take_at order (place ∷ []) k at) (get_or_push order place 0 k at) next
+        | inl before ↦ next_same graph _ _ _ _ (take-append-le k order (place ∷ []) (omega arith)) (get_or_append_left order (place ∷ []) 0 k before) (listing.each k before)
+        | inr past ↦
+            let at : length order ≡ k = omega (arith, length_push order place) in
+            next_same graph _ _ _ _ (take_at order (place ∷ []) k at) (get_or_push order place 0 k at) next
       ];
-  }
+}
 
 -- a listing after which nothing is ready
 pub record IsEnded (graph : List (List ℕ)) (listed : List ℕ) : Type 0 where
@@ -53,9 +52,9 @@ pub record IsEnded (graph : List (List ℕ)) (listed : List ℕ) : Type 0 where
 
 pub ended_from_order : (graph : List (List ℕ)) (order : List ℕ) → IsOrderOf graph order → IsEnded graph order
 ended_from_order graph order h = record {
-    listing = h.listing;
-    stops = λ place ready. both_ways _ ready.left.not_listed (h.whole place ready.left.within);
-  }
+  listing = h.listing;
+  stops = λ place ready. both_ways _ ready.left.not_listed (h.whole place ready.left.within);
+}
 
 pub ended_from_stuck : (graph : List (List ℕ)) (listed : List ℕ) → IsStuck graph listed → IsEnded graph listed
 ended_from_stuck graph listed h = record { listing = h.listing; stops = h.stops }
@@ -87,13 +86,13 @@ module _ (graph : List (List ℕ)) (ended other : List ℕ) (e : IsEnded graph e
 pub ended_same : (graph : List (List ℕ)) (a b : List ℕ) → IsEnded graph a → IsEnded graph b → a ≡ b
 ended_same graph a b ended_a ended_b =
     elim (cases_order (length a) (length b)) [
-      inl same ↦
-        sym (take_all (length a) a (omega arith))
-        ∙ same_start graph a b ended_a.listing ended_b.listing (length a) (omega arith) (omega arith)
-        ∙ take_all (length a) b (omega arith)
-    | inr differ ↦ elim differ [
-        inl less ↦ absurd (no_longer graph a b ended_a ended_b.listing less)
-      | inr more ↦ absurd (no_longer graph b a ended_b ended_a.listing more)
+      | inl same ↦
+          sym (take_all (length a) a (omega arith))
+          ∙ same_start graph a b ended_a.listing ended_b.listing (length a) (omega arith) (omega arith)
+          ∙ take_all (length a) b (omega arith)
+      | inr differ ↦ elim differ [
+        | inl less ↦ absurd (no_longer graph a b ended_a ended_b.listing less)
+        | inr more ↦ absurd (no_longer graph b a ended_b ended_a.listing more)
       ]
     ]
 

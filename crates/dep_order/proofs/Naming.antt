@@ -1,11 +1,9 @@
 -- Which places name a place among their needs.
-use Rattle.std.proofs.Common.{◌≡◌, ◌≢◌, ℕ, ◌+◌, ◌<◌, ◌≤◌, Bool, true, false, cond, eqb, List, [], ◌∷◌, ◌++◌, length, get_or, set, take, replicate, zero, suc, sym, ◌∙◌, ap, refl, inl, inr, ◌⊎◌, arith, eq-eqb, ne_eqb, eqb-true, sum_by}
-use Rattle.std.proofs.lemmas.List.{get_or_default, get_or_past, get_or-take, get_or-set_same, get_or-set_other, length-take, length-replicate, get_or-replicate}
-use Rattle.std.proofs.lemmas.List.Sums.{sum_by_push, sum_by_more}
-use Rattle.std.proofs.lemmas.Bool.{both_ways, cases_lt, cases_eq, cases_order, cases_Bool, eqb-false}
+use Rattle.std.proofs.Common.{◌≡◌, ℕ, ◌+◌, ◌<◌, ◌≤◌, Bool, true, false, cond, eqb, List, [], length, get_or, take, sym, ◌∙◌, ap, refl, inl, inr, arith, eqb-true}
+use Rattle.std.proofs.lemmas.List.{get_or_past, get_or-take, length-take}
+use Rattle.std.proofs.lemmas.Bool.{cases_order, eqb-false}
 use Rattle.dep_order.specs.Graph.{needs_of}
 use Rattle.dep_order.specs.Pending.{times}
-use Rattle.dep_order.proofs.Counts.{one_if}
 
 -- the place was put among the dependents of these needs
 abbrev pub Named : List (List ℕ) → List (List ℕ) → ℕ → List ℕ → Type 0
@@ -26,12 +24,12 @@ pub rows_more : (graph : List (List ℕ)) (i need other : ℕ) → i < length gr
 rows_more graph i need other within =
     row_more (eqb other i) need _ _ _
     (λ same.
-      let is : other ≡ i = eqb-true other i same in
-      (row_before graph (i + 1) other (omega arith) ∙ ap (needs_of graph) is, row_past graph i other (omega arith)))
+    let is : other ≡ i = eqb-true other i same in
+    (row_before graph (i + 1) other (omega arith) ∙ ap (needs_of graph) is, row_past graph i other (omega arith)))
     (λ differ. elim (cases_order other i) [
-      inl same ↦ absurd (eqb-false other i differ same)
-    | inr apart ↦ elim apart [
-        inl less ↦ row_before graph (i + 1) other (omega arith) ∙ sym (row_before graph i other less)
-      | inr more ↦ row_past graph (i + 1) other (omega arith) ∙ sym (row_past graph i other (omega arith))
+      | inl same ↦ absurd (eqb-false other i differ same)
+      | inr apart ↦ elim apart [
+        | inl less ↦ row_before graph (i + 1) other (omega arith) ∙ sym (row_before graph i other less)
+        | inr more ↦ row_past graph (i + 1) other (omega arith) ∙ sym (row_past graph i other (omega arith))
       ]
     ])

@@ -1,24 +1,24 @@
 -- A turn of the listing: one place is listed, and those that need it wait for one need less.
-use Rattle.std.proofs.Common.{◌≡◌, ◌≢◌, ◌↔◌, ℕ, ◌+◌, ◌<◌, ◌≤◌, Bool, true, false, not, cond, eqb, List, [], ◌∷◌, ◌++◌, map, length, get_or, take, All, sym, ◌∙◌, ap, refl, subst, inl, inr, ◌⊎◌, arith, eq-eqb, IsTrue, sum_by, count_by}
-use Rattle.std.proofs.lemmas.List.{get_or_default, get_or_past, get_or_read, take_more}
-use Rattle.std.proofs.lemmas.List.Sums.{sum_by-cons, sum_by-append, sum_by-take-le, sum_by_more}
-use Rattle.std.proofs.lemmas.Bool.{both_ways, cases_lt, cases_Bool, false_from_ne_true}
+use Rattle.std.proofs.Common.{◌≡◌, ◌≢◌, ◌↔◌, ℕ, ◌+◌, ◌<◌, ◌≤◌, Bool, true, cond, eqb, List, [], ◌∷◌, ◌++◌, map, length, get_or, take, sym, ◌∙◌, ap, refl, subst, inl, inr, ◌⊎◌, arith, eq-eqb, IsTrue}
+use Rattle.std.proofs.lemmas.List.{get_or_past, get_or_read, take_more}
+use Rattle.std.proofs.lemmas.List.Sums.{sum_by-append, sum_by-take-le, sum_by_more}
+use Rattle.std.proofs.lemmas.Bool.{both_ways, cases_lt, false_from_ne_true}
 use Rattle.dep_order.specs.Graph.{needs_of}
 use Rattle.dep_order.specs.Listing.{is_listed, IsLeft, IsReady, IsNext, IsListing}
-use Rattle.dep_order.specs.Pending.{times, pending_of, ArePending, AreDependents, Releases}
-use Rattle.dep_order.proofs.Listed.{stands_at, listed-push, listed_push_kept, listed_push_cases, listed_push_new}
+use Rattle.dep_order.specs.Pending.{times, ArePending, AreDependents, Releases}
+use Rattle.dep_order.proofs.Listed.{stands_at, listed_push_kept, listed_push_cases, listed_push_new}
 use Rattle.dep_order.proofs.Listings.{listing_push, listed_needs}
-use Rattle.dep_order.proofs.Counts.{count_less, ready_from_zero, zero_from_ready, pending_at_first, listed_from_times, times_from_listed}
+use Rattle.dep_order.proofs.Counts.{count_less, ready_from_zero, zero_from_ready, pending_at_first, listed_from_times}
 use Rattle.dep_order.proofs.ReadySets.{TakesFirst}
 
 -- ---- one release after another
 
 pub releases_none : (pending : List ℕ) (was : ℕ → Bool) → Releases [] pending pending was was
 releases_none pending was = record {
-    long = refl;
-    each = λ q. omega arith;
-    ready = λ q. (λ h. inl h, λ h. elim h [ inl had ↦ had | inr new ↦ absurd (omega (arith, new.0)) ]);
-  }
+  long = refl;
+  each = λ q. omega arith;
+  ready = λ q. (λ h. inl h, λ h. elim h [ inl had ↦ had | inr new ↦ absurd (omega (arith, new.0)) ]);
+}
 
 module _ (xs ys a b c : List ℕ) (r s t : ℕ → Bool) (first : Releases xs a b r s) (second : Releases ys b c s t) where
   times_both : (q : ℕ) → times q (xs ++ ys) ≡ times q xs + times q ys
@@ -27,29 +27,29 @@ module _ (xs ys a b c : List ℕ) (r s t : ℕ → Bool) (first : Releases xs a 
   forward : (q : ℕ) → t q ≡ true → (r q ≡ true) ⊎ ((0 < times q (xs ++ ys)) × (get_or c q 0 ≡ 0))
   forward q has =
       elim ((second.ready q).0 has) [
-        inl before ↦ elim ((first.ready q).0 before) [
-            inl had ↦ inl had
+        | inl before ↦ elim ((first.ready q).0 before) [
+          | inl had ↦ inl had
           | inr new ↦ inr (omega (arith, times_both q, new.0), omega (arith, new.1, second.each q))
-          ]
-      | inr new ↦ inr (omega (arith, times_both q, new.0), new.1)
+        ]
+        | inr new ↦ inr (omega (arith, times_both q, new.0), new.1)
       ]
 
   backward : (q : ℕ) → (r q ≡ true) ⊎ ((0 < times q (xs ++ ys)) × (get_or c q 0 ≡ 0)) → t q ≡ true
   backward q h =
       elim h [
-        inl had ↦ (second.ready q).1 (inl ((first.ready q).1 (inl had)))
-      | inr new ↦ elim (cases_lt 0 (times q ys)) [
-          inl some ↦ (second.ready q).1 (inr (some, new.1))
-        | inr none ↦ (second.ready q).1 (inl ((first.ready q).1 (inr (omega (arith, times_both q, new.0), omega (arith, new.1, second.each q)))))
+        | inl had ↦ (second.ready q).1 (inl ((first.ready q).1 (inl had)))
+        | inr new ↦ elim (cases_lt 0 (times q ys)) [
+          | inl some ↦ (second.ready q).1 (inr (some, new.1))
+          | inr none ↦ (second.ready q).1 (inl ((first.ready q).1 (inr (omega (arith, times_both q, new.0), omega (arith, new.1, second.each q)))))
         ]
       ]
 
   pub releases-append : Releases (xs ++ ys) a c r t
   releases-append = record {
-      long = second.long ∙ first.long;
-      each = λ q. omega (arith, times_both q, first.each q, second.each q);
-      ready = λ q. (forward q, backward q);
-    }
+    long = second.long ∙ first.long;
+    each = λ q. omega (arith, times_both q, first.each q, second.each q);
+    ready = λ q. (forward q, backward q);
+  }
 
 pub releases_more : (places : List ℕ) (i : ℕ) (a b c : List ℕ) (r s t : ℕ → Bool) → i < length places → Releases (take i places) a b r s → Releases (get_or places i 0 ∷ []) b c s t → Releases (take (i + 1) places) a c r t
 releases_more places i a b c r s t within first second =
@@ -82,7 +82,7 @@ stands_at_first graph listed pending ready none lengths is =
       counts = counts;
       are_ready = λ q. (
         λ has. ready_from_zero graph listed pending counts q (record { within = omega (arith, ((is q).0 has).0, counts.long); not_listed = rw none refl }) ((is q).0 has).1,
-        λ is_ready. (is q).1 (omega (arith, is_ready.left.within, counts.long), zero_from_ready graph listed pending counts q is_ready)
+        λ is_ready. (is q).1 (omega (arith, is_ready.left.within, counts.long), zero_from_ready graph listed pending counts q is_ready),
       );
     }
 
@@ -99,9 +99,9 @@ module _ (graph dependents : List (List ℕ)) (listed pending : List ℕ) (ready
 
   pub place_is_next : (place : ℕ) (rest : ℕ → Bool) → TakesFirst place ready rest → IsNext graph listed place
   place_is_next place rest takes = record {
-      ready = (stands.are_ready place).0 takes.had;
-      first = λ other is_ready. takes.first other ((stands.are_ready other).1 is_ready);
-    }
+    ready = (stands.are_ready place).0 takes.had;
+    first = λ other is_ready. takes.first other ((stands.are_ready other).1 is_ready);
+  }
 
   module _ (place : ℕ) (rest : ℕ → Bool) (takes : TakesFirst place ready rest) (new_pending : List ℕ) (new_ready : ℕ → Bool) (released : Releases (needs_of dependents place) pending new_pending rest new_ready) where
     is_next : IsNext graph listed place
@@ -109,18 +109,18 @@ module _ (graph dependents : List (List ℕ)) (listed pending : List ℕ) (ready
 
     new_counts : ArePending graph (listed ++ place ∷ []) new_pending
     new_counts = record {
-        long = released.long ∙ stands.counts.long;
-        each = λ q. omega (arith, are.each place q, released.each q, stands.counts.each q, count_less listed place is_next.ready.left.not_listed (needs_of graph q));
-      }
+      long = released.long ∙ stands.counts.long;
+      each = λ q. omega (arith, are.each place q, released.each q, stands.counts.each q, count_less listed place is_next.ready.left.not_listed (needs_of graph q));
+    }
 
     still_left : (q : ℕ) → IsLeft graph listed q → q ≢ place → IsLeft graph (listed ++ place ∷ []) q
     still_left q left differ = record {
-        within = left.within;
-        not_listed = false_from_ne_true _ (λ was. elim (listed_push_cases listed place q was) [
-            inl before ↦ both_ways _ left.not_listed before
-          | inr same ↦ differ same
-          ]);
-      }
+      within = left.within;
+      not_listed = false_from_ne_true _ (λ was. elim (listed_push_cases listed place q was) [
+        | inl before ↦ both_ways _ left.not_listed before
+        | inr same ↦ differ same
+      ]);
+    }
 
     still_ready : (q : ℕ) → rest q ≡ true → IsReady graph (listed ++ place ∷ []) q
     still_ready q has =
@@ -139,12 +139,12 @@ module _ (graph dependents : List (List ℕ)) (listed pending : List ℕ) (ready
 
     waited_left : (q : ℕ) → 0 < times q (needs_of dependents place) → IsLeft graph listed q
     waited_left q some = record {
-        within = elim (cases_lt q (length graph)) [
-            inl within ↦ within
-          | inr past ↦ absurd (waits q some (λ i within. absurd (omega (arith, within, ap length (get_or_past graph q [] past)))))
-          ];
-        not_listed = false_from_ne_true _ (λ was. waits q some (listed_needs graph listed stands.listing q was));
-      }
+      within = elim (cases_lt q (length graph)) [
+        | inl within ↦ within
+        | inr past ↦ absurd (waits q some (λ i within. absurd (omega (arith, within, ap length (get_or_past graph q [] past)))))
+      ];
+      not_listed = false_from_ne_true _ (λ was. waits q some (listed_needs graph listed stands.listing q was));
+    }
 
     waited_other : (q : ℕ) → 0 < times q (needs_of dependents place) → q ≢ place
     waited_other q some same =
@@ -160,23 +160,23 @@ module _ (graph dependents : List (List ℕ)) (listed pending : List ℕ) (ready
     ready_is_new q is_ready =
         let none = zero_from_ready graph (listed ++ place ∷ []) new_pending new_counts q is_ready in
         elim (cases_lt 0 (times q (needs_of dependents place))) [
-          inl some ↦ (released.ready q).1 (inr (some, none))
-        | inr no_more ↦
-            let none_before : get_or pending q 0 ≡ 0 = omega (arith, none, no_more, released.each q) in
-            let left : IsLeft graph listed q = record {
+          | inl some ↦ (released.ready q).1 (inr (some, none))
+          | inr no_more ↦
+              let none_before : get_or pending q 0 ≡ 0 = omega (arith, none, no_more, released.each q) in
+              let left : IsLeft graph listed q = record {
                 within = is_ready.left.within;
                 not_listed = false_from_ne_true _ (λ was. both_ways _ is_ready.left.not_listed (listed_push_kept listed place q was));
               } in
-            let was_ready = (stands.are_ready q).1 (ready_from_zero graph listed pending stands.counts q left none_before) in
-            (released.ready q).1 (inl (takes.kept q was_ready (λ same. both_ways _ is_ready.left.not_listed (rw same (listed_push_new listed place)))))
+              let was_ready = (stands.are_ready q).1 (ready_from_zero graph listed pending stands.counts q left none_before) in
+              (released.ready q).1 (inl (takes.kept q was_ready (λ same. both_ways _ is_ready.left.not_listed (rw same (listed_push_new listed place)))))
         ]
 
     pub turn : Stands graph (listed ++ place ∷ []) new_pending new_ready
     turn = record {
-        listing = listing_push graph listed place stands.listing is_next;
-        counts = new_counts;
-        are_ready = λ q. (
-          λ has. elim ((released.ready q).0 has) [ inl before ↦ still_ready q before | inr new ↦ new_is_ready q new.0 new.1 ],
-          ready_is_new q
-        );
-      }
+      listing = listing_push graph listed place stands.listing is_next;
+      counts = new_counts;
+      are_ready = λ q. (
+        λ has. elim ((released.ready q).0 has) [ inl before ↦ still_ready q before | inr new ↦ new_is_ready q new.0 new.1 ],
+        ready_is_new q,
+      );
+    }

@@ -1,18 +1,18 @@
 -- A walk on its way: from each place to the next, and from the last one to the place at hand.
-use Rattle.std.proofs.Common.{◌≡◌, ◌≢◌, ℕ, ◌+◌, ◌-◌, ◌<◌, ◌≤◌, Bool, true, false, not, cond, ◌||◌, eqb, List, [], ◌∷◌, ◌++◌, length, get_or, set, drop, zero, suc, AllPairs, sym, ◌∙◌, ap, refl, subst, inl, inr, ◌⊎◌, arith, Option, Some, None, find, count_by}
+use Rattle.std.proofs.Common.{◌≡◌, ◌≢◌, ℕ, ◌+◌, ◌-◌, ◌<◌, ◌≤◌, Bool, true, false, not, cond, ◌||◌, eqb, List, [], ◌∷◌, ◌++◌, length, get_or, set, drop, AllPairs, sym, ◌∙◌, ap, refl, subst, inl, inr, arith, Some, None, find, count_by}
 use Rattle.std.proofs.lemmas.List.{get_or_default, get_or_past, get_or_read, get_or-set_other, get_or_append_left, get_or_push, length_push, drop_more, at_drop_all}
 use Rattle.std.proofs.lemmas.List.Quantifiers.{all_pairs_push}
 use Rattle.std.proofs.lemmas.List.Sums.{sum_by-set}
-use Rattle.std.proofs.lemmas.Bool.{both_ways, cases_lt, cases_eq, cases_Bool, true_from_ne_false, false_from_ne_true, not_from_true, not_from_false, eq-eqb, ne_eqb, not-true}
+use Rattle.std.proofs.lemmas.Bool.{both_ways, cases_lt, cases_eq, cases_Bool, true_from_ne_false, false_from_ne_true, eq-eqb, ne_eqb}
 use Rattle.std.proofs.lemmas.Grind.{get_or-set_at}
 use Rattle.dep_order.specs.Graph.{needs_of, NeedsAreWithin}
-use Rattle.dep_order.specs.Listing.{is_listed, IsLeft, IsReady, IsOrderOf, IsStuck}
-use Rattle.dep_order.specs.Cycle.{IsFirstLeft, first_need_left, IsWalk, IsCycleAfter}
-use Rattle.dep_order.specs.Pending.{ArePending, HasStopped}
-use Rattle.dep_order.proofs.Listed.{StandsAt, listed_at, stands_at, listed-push, listed_push_new, or_false}
+use Rattle.dep_order.specs.Listing.{is_listed, IsLeft, IsOrderOf, IsStuck}
+use Rattle.dep_order.specs.Cycle.{IsFirstLeft, first_need_left, IsCycleAfter}
+use Rattle.dep_order.specs.Pending.{HasStopped}
+use Rattle.dep_order.proofs.Listed.{listed_at, listed-push, listed_push_new, or_false}
 use Rattle.dep_order.proofs.Listings.{listed_needs}
 use Rattle.dep_order.proofs.Counts.{ready_from_zero, zero_from_listed}
-use Rattle.dep_order.proofs.Cycles.{some_need_left, need_left_is_left, need_within}
+use Rattle.dep_order.proofs.Cycles.{some_need_left, need_within}
 
 -- ---- a listing that has stopped
 
@@ -23,28 +23,28 @@ module _ (graph : List (List ℕ)) (listed pending : List ℕ) (stopped : HasSto
   pub zero_is_listed : (place : ℕ) → place < length graph → get_or pending place 0 ≡ 0 → is_listed listed place ≡ true
   zero_is_listed place within none =
       true_from_ne_false _ (λ not_listed. stopped.stops place
-        (ready_from_zero graph listed pending stopped.counts place (record { within = within; not_listed = not_listed }) none))
+      (ready_from_zero graph listed pending stopped.counts place (record { within = within; not_listed = not_listed }) none))
 
   pub order_from_zeros : ((place : ℕ) → get_or pending place 0 ≡ 0) → IsOrderOf graph listed
   order_from_zeros none = record {
-      listing = stopped.listing;
-      whole = λ place within. zero_is_listed place within (none place);
-    }
+    listing = stopped.listing;
+    whole = λ place within. zero_is_listed place within (none place);
+  }
 
   pub first_left_from_zeros : (start : ℕ) → 0 < get_or pending start 0 → ((place : ℕ) → place < start → get_or pending place 0 ≡ 0) → IsFirstLeft graph listed start
   first_left_from_zeros start waits before = record {
-      left = record {
-        within = elim (cases_lt start (length graph)) [
-            inl within ↦ within
-          | inr past ↦ absurd (omega (arith, waits, get_or_past pending start 0 (omega (arith, past, stopped.counts.long))))
-          ];
-        not_listed = false_from_ne_true _ (λ was. absurd (omega (arith, waits, listed_is_zero start was)));
-      };
-      first = λ other left. elim (cases_lt other start) [
-          inl less ↦ absurd (both_ways _ left.not_listed (zero_is_listed other left.within (before other less)))
-        | inr more ↦ more
-        ];
-    }
+    left = record {
+      within = elim (cases_lt start (length graph)) [
+        | inl within ↦ within
+        | inr past ↦ absurd (omega (arith, waits, get_or_past pending start 0 (omega (arith, past, stopped.counts.long))))
+      ];
+      not_listed = false_from_ne_true _ (λ was. absurd (omega (arith, waits, listed_is_zero start was)));
+    };
+    first = λ other left. elim (cases_lt other start) [
+      | inl less ↦ absurd (both_ways _ left.not_listed (zero_is_listed other left.within (before other less)))
+      | inr more ↦ more
+    ];
+  }
 
   pub stuck_from_left : (place : ℕ) → IsLeft graph listed place → IsStuck graph listed
   stuck_from_left place left = record { listing = stopped.listing; left = (place, left); stops = stopped.stops }
@@ -53,9 +53,9 @@ module _ (graph : List (List ℕ)) (listed pending : List ℕ) (stopped : HasSto
   pub left_by_count : (place : ℕ) → place < length graph → not (is_listed listed place) ≡ not (eqb (get_or pending place 0) 0)
   left_by_count place within =
       elim (cases_Bool (is_listed listed place)) [
-        inl was ↦ rw (was, eq-eqb (get_or pending place 0) 0 (listed_is_zero place was)) refl
-      | inr not_listed ↦
-          rw (not_listed, ne_eqb (get_or pending place 0) 0 (λ none. both_ways _ not_listed (zero_is_listed place within none))) refl
+        | inl was ↦ rw (was, eq-eqb (get_or pending place 0) 0 (listed_is_zero place was)) refl
+        | inr not_listed ↦
+            rw (not_listed, ne_eqb (get_or pending place 0) 0 (λ none. both_ways _ not_listed (zero_is_listed place within none))) refl
       ]
 
 -- ---- the search for the first need that is left
@@ -76,58 +76,58 @@ pub record IsTrail (graph : List (List ℕ)) (listed : List ℕ) (start : ℕ) (
 module _ (graph : List (List ℕ)) (listed : List ℕ) (start : ℕ) where
   pub trail_at_first : (walk : List ℕ) → walk ≡ [] → IsTrail graph listed start walk start
   trail_at_first walk none = rw none (record {
-      begins = refl;
-      steps = λ k within. absurd (omega arith);
-      apart = λ i j d before within same. omega arith;
-    })
+    begins = refl;
+    steps = λ k within. absurd (omega arith);
+    apart = λ i j d before within same. omega arith;
+  })
 
   module _ (walk : List ℕ) (place : ℕ) (trail : IsTrail graph listed start walk place) where
     pub trail_push : (next : ℕ) → is_listed walk place ≡ false → first_need_left graph listed place ≡ Some next → IsTrail graph listed start (walk ++ place ∷ []) next
     trail_push next new step = record {
-        begins = get_or_append_left (walk ++ place ∷ []) (next ∷ []) 0 0 (omega (arith, length_push walk place)) ∙ trail.begins;
-        steps = λ k within. elim (cases_lt k (length walk)) [
-            inl before ↦
-              ap (first_need_left graph listed) (get_or_append_left walk (place ∷ []) 0 k before)
-              ∙ trail.steps k before
-              ∙ ap Some (sym (get_or_append_left (walk ++ place ∷ []) (next ∷ []) 0 (k + 1) (omega (arith, length_push walk place))))
-          | inr past ↦
-              let at : length walk ≡ k = omega (arith, within, length_push walk place) in
-              ap (first_need_left graph listed) (get_or_push walk place 0 k at)
-              ∙ step
-              ∙ ap Some (sym (get_or_push (walk ++ place ∷ []) next 0 (k + 1) (omega (arith, length_push walk place))))
-          ];
-        apart = all_pairs_push (λ earlier later. earlier ≢ later) walk place trail.apart (λ k d within same.
+      begins = get_or_append_left (walk ++ place ∷ []) (next ∷ []) 0 0 (omega (arith, length_push walk place)) ∙ trail.begins;
+      steps = λ k within. elim (cases_lt k (length walk)) [
+        | inl before ↦
+            ap (first_need_left graph listed) (get_or_append_left walk (place ∷ []) 0 k before)
+            ∙ trail.steps k before
+            ∙ ap Some (sym (get_or_append_left (walk ++ place ∷ []) (next ∷ []) 0 (k + 1) (omega (arith, length_push walk place))))
+        | inr past ↦
+            let at : length walk ≡ k = omega (arith, within, length_push walk place) in
+            ap (first_need_left graph listed) (get_or_push walk place 0 k at)
+            ∙ step
+            ∙ ap Some (sym (get_or_push (walk ++ place ∷ []) next 0 (k + 1) (omega (arith, length_push walk place))))
+      ];
+      apart = all_pairs_push (λ earlier later. earlier ≢ later) walk place trail.apart (λ k d within same.
           both_ways _ new (rw (get_or_default walk k 0 d within ∙ same) at (listed_at walk k within)));
-      }
+    }
 
     pub cycle_from_trail : IsFirstLeft graph listed start → (from : ℕ) → from < length walk → get_or walk from 0 ≡ place → (cycle : List ℕ) → cycle ≡ drop from walk → IsCycleAfter graph listed cycle
     cycle_from_trail first from within is cycle rest = record {
-        walk = walk;
-        from = from;
-        is_walk = record {
-          not_empty = omega arith;
-          start = rw (sym (get_or_append_left walk (place ∷ []) 0 0 (omega arith)) ∙ trail.begins) first;
-          steps = λ k inside. trail.steps k (omega arith) ∙ ap Some (get_or_append_left walk (place ∷ []) 0 (k + 1) inside);
-          apart = trail.apart;
-        };
-        within = within;
-        back =
+      walk = walk;
+      from = from;
+      is_walk = record {
+        not_empty = omega arith;
+        start = rw (sym (get_or_append_left walk (place ∷ []) 0 0 (omega arith)) ∙ trail.begins) first;
+        steps = λ k inside. trail.steps k (omega arith) ∙ ap Some (get_or_append_left walk (place ∷ []) 0 (k + 1) inside);
+        apart = trail.apart;
+      };
+      within = within;
+      back =
           trail.steps (length walk - 1) (omega arith)
           ∙ ap Some (get_or_push walk place 0 (length walk - 1 + 1) (omega arith) ∙ sym is);
-        rest = rest;
-      }
+      rest = rest;
+    }
 
 -- the marks are those of the walk
 pub met_more : (n : ℕ) (walk : List ℕ) (is_met : List Bool) (place : ℕ) → place < length is_met → ((q : ℕ) → q < n → get_or is_met q false ≡ is_listed walk q) → (q : ℕ) → q < n → get_or (set is_met place true) q false ≡ is_listed (walk ++ place ∷ []) q
 met_more n walk is_met place within met q inside =
     elim (cases_eq q place) [
-      inl same ↦
-        get_or-set_at is_met place q true false same within
-        ∙ sym (rw same (listed_push_new walk place))
-    | inr differ ↦
-        get_or-set_other is_met place q true false differ
-        ∙ met q inside
-        ∙ sym (listed-push walk place q ∙ ap (λ b. is_listed walk q || b) (ne_eqb q place differ) ∙ or_false (is_listed walk q))
+      | inl same ↦
+          get_or-set_at is_met place q true false same within
+          ∙ sym (rw same (listed_push_new walk place))
+      | inr differ ↦
+          get_or-set_other is_met place q true false differ
+          ∙ met q inside
+          ∙ sym (listed-push walk place q ∙ ap (λ b. is_listed walk q || b) (ne_eqb q place differ) ∙ or_false (is_listed walk q))
     ]
 
 pub one_fewer : (is_met : List Bool) (place : ℕ) → place < length is_met → get_or is_met place false ≡ false → count_by not (set is_met place true) < count_by not is_met

@@ -1,6 +1,5 @@
 -- Counts of the needs that a listing still waits for.
-use Rattle.std.specs.Prelude.{◌≡◌, ℕ, ◌+◌, ◌<◌, ◌≤◌, Bool, not, nat_eq, List, length, slice_index, count_by, sum, IsTrue, ◌↔◌, ◌⊎◌}
-use Rattle.std.specs.List.{slice_index_or}
+use Rattle.std.specs.Prelude.{◌≡◌, ℕ, ◌+◌, ◌<◌, Bool, not, nat_eq, List, length, slice_index, count_by, IsTrue, ◌↔◌, ◌⊎◌}
 use Rattle.dep_order.specs.Graph.{needs_of}
 use Rattle.dep_order.specs.Listing.{is_listed, IsReady, IsListing}
 

@@ -5,11 +5,11 @@ use Rattle.dep_order.proofs.cycle.cycle_after.Given as goal
 
 abbrev pub invariant-loop-is_met : goal.invariant-loop-is_met
 invariant-loop-is_met l = record {
-    trail : IsTrail l.graph l.listing.listed.items l.start l.walk.items l.place;
-    left : IsLeft l.graph l.listing.listed.items l.place;
-    long : length l.is_met.items ≡ length l.graph;
-    met : (q : ℕ) → q < length l.graph → get_or l.is_met.items q false ≡ is_listed l.walk.items q;
-  }
+  trail : IsTrail l.graph l.listing.listed.items l.start l.walk.items l.place;
+  left : IsLeft l.graph l.listing.listed.items l.place;
+  long : length l.is_met.items ≡ length l.graph;
+  met : (q : ℕ) → q < length l.graph → get_or l.is_met.items q false ≡ is_listed l.walk.items q;
+}
 
 abbrev pub decreases-loop-is_met : goal.decreases-loop-is_met
 decreases-loop-is_met l = count_by not l.is_met.items

@@ -1,5 +1,4 @@
 use Rattle.std.proofs.Common.{◌∙◌, sym, ap, ap₂, ◌+◌, ◌<◌, length, cond, eqb, arith}
-use Rattle.dep_order.specs.Graph.{needs_of}
 use Rattle.dep_order.specs.Pending.{times}
 use Rattle.dep_order.proofs.Naming.{rows_more}
 use Rattle.dep_order.proofs.Turns.{row_is}
@@ -14,7 +13,7 @@ loop-place-preserved c =
     record {
       long = c.add_dependent.ensures.long ∙ c.loop-place.invariant.long;
       each = λ need other.
-        c.in_ok-add_dependent.ensures.each need other
-        ∙ ap₂ (λ n xs. n + cond (eqb other place) (times need xs) 0) (c.loop-place.invariant.each need other) row
-        ∙ sym (rows_more graph place need other within);
+          c.in_ok-add_dependent.ensures.each need other
+          ∙ ap₂ (λ n xs. n + cond (eqb other place) (times need xs) 0) (c.loop-place.invariant.each need other) row
+          ∙ sym (rows_more graph place need other within);
     }

@@ -5,6 +5,6 @@ use Rattle.dep_order.proofs.dependents.dependents_of.Given as goal
 
 abbrev pub invariant-loop-place : goal.invariant-loop-place
 invariant-loop-place l = record {
-    long : length l.dependents.items ≡ length l.graph;
-    each : (need other : ℕ) → times other (needs_of l.dependents.items need) ≡ times need (needs_of (take l.place l.graph) other);
-  }
+  long : length l.dependents.items ≡ length l.graph;
+  each : (need other : ℕ) → times other (needs_of l.dependents.items need) ≡ times need (needs_of (take l.place l.graph) other);
+}

@@ -1,7 +1,6 @@
-use Rattle.std.proofs.Common.{◌≡◌, ℕ, ◌<◌, length, get_or, nat_cmp, arith, rules}
+use Rattle.std.proofs.Common.{◌<◌, length, nat_cmp, arith}
 use Rattle.std.specs.BTreeSet.{contains}
-use Rattle.dep_order.specs.Graph.{needs_of}
-use Rattle.dep_order.proofs.ReadySets.{TakesFirst, takes_first}
+use Rattle.dep_order.proofs.ReadySets.{takes_first}
 use Rattle.dep_order.proofs.Turns.{stands_at_first, room_for, turn, row_is}
 use Rattle.dep_order.proofs.listing.listing_of.Goals as goal
 
@@ -15,7 +14,7 @@ release-requires c =
     let stands = c.loop-place.invariant in
     let are = c.in_ok-dependents.ensures in
     let within : c.in-Some.place < length c.in_ok-dependents.dependents.items =
-      omega (arith, are.long, ((stands.are_ready c.in-Some.place).0 c.in-Some.ensures.member).left.within) in
+    omega (arith, are.long, ((stands.are_ready c.in-Some.place).0 c.in-Some.ensures.member).left.within) in
     rw (row_is c.in_ok-dependents.dependents.items c.in-Some.place _ _ within c.index.ensures c.as_slice.ensures)
     (room_for c.args.graph.now c.in_ok-dependents.dependents.items _ _ ready stands are c.in-Some.place c.in-Some.ensures.member)
 

@@ -5,6 +5,6 @@ use Rattle.dep_order.proofs.listing.release.Given as goal
 
 abbrev pub invariant-loop-place : goal.invariant-loop-place
 invariant-loop-place l = record {
-    releases : Releases (take l.place-index l.places) l.fn.pending.items l.pending.items (contains nat_cmp l.fn.ready) (contains nat_cmp l.ready);
-    work : sum l.pending.items + btree_set_len l.ready ≤ sum l.fn.pending.items + btree_set_len l.fn.ready;
-  }
+  releases : Releases (take l.place-index l.places) l.fn.pending.items l.pending.items (contains nat_cmp l.fn.ready) (contains nat_cmp l.ready);
+  work : sum l.pending.items + btree_set_len l.ready ≤ sum l.fn.pending.items + btree_set_len l.fn.ready;
+}

@@ -11,13 +11,13 @@ returns c =
     let order = c.args.order.now in
     let place = c.args.place in
     let in_order : IfOk c.marked.result (λ reached. IsClosureOf graph order place reached.items) =
-      IfOk-weaker c.marked.result _ _
-      (λ reached kept. record { is_reached = is_marked c.in_ok-marks.marks.items; tells = c.in_ok-marks.ensures.marks; kept = rw c.deref.ensures.value at kept })
-      c.marked.ensures in
+    IfOk-weaker c.marked.result _ _
+    (λ reached kept. record { is_reached = is_marked c.in_ok-marks.marks.items; tells = c.in_ok-marks.ensures.marks; kept = rw c.deref.ensures.value at kept })
+    c.marked.ensures in
     record {
       in_order = in_order;
       reached =
-        IfOk-weaker c.marked.result _ _
-        (λ reached is. closure_has graph order place reached.items c.requires.order c.requires.place is)
-        in_order;
+          IfOk-weaker c.marked.result _ _
+          (λ reached is. closure_has graph order place reached.items c.requires.order c.requires.place is)
+          in_order;
     }

@@ -1,5 +1,5 @@
-use Rattle.std.proofs.Common.{◌≡◌, ◌+◌, ◌-◌, ◌≤◌, false, replicate, length, get_or, le_refl, sym, ◌∙◌, rules, arith}
-use Rattle.dep_order.proofs.Marking.{IsMarking, marking_at_first, marking_more, marks_tell}
+use Rattle.std.proofs.Common.{◌≡◌, ◌-◌, false, replicate, length, le_refl, rules, arith}
+use Rattle.dep_order.proofs.Marking.{marking_at_first, marking_more, marks_tell}
 use Rattle.dep_order.proofs.reach.reach_of.Goals as goal
 
 pub loop-at-init : goal.loop-at-init
