@@ -4,7 +4,7 @@ use Rattle.std.proofs.lemmas.List.{get_or_default, get_or_past, get_or-drop, len
 use Rattle.std.proofs.lemmas.Bool.{both_ways, cases_lt, cases_order, not-true, not-false}
 use Rattle.dep_order.specs.Graph.{needs_of, NeedsAreWithin}
 use Rattle.dep_order.specs.Listing.{is_listed, IsLeft, IsOrderOf, IsStuck}
-use Rattle.dep_order.specs.Cycle.{first_need_left, IsWalk, IsCycleAfter, IsCycleOf}
+use Rattle.dep_order.specs.Cycle.{first_need_left, IsWalk, IsCycle, IsCycleAfter, IsCycleOf}
 use Rattle.dep_order.proofs.Listed.{stands_at, Contains-from_listed}
 use Rattle.dep_order.proofs.Listings.{one_stuck, order_not_stuck}
 use Rattle.dep_order.proofs.Finds.{found, none_found}
@@ -61,7 +61,7 @@ module _ (graph : List (List ℕ)) (listed cycle : List ℕ) (c : IsCycleAfter g
   cycle_at : (k : ℕ) → get_or cycle k 0 ≡ get_or c.walk (c.from + k) 0
   cycle_at k = ap (λ (xs : List ℕ). get_or xs k 0) c.rest ∙ get_or-drop c.from c.walk k 0
 
-  pub cycle_not_empty : 0 < length cycle
+  cycle_not_empty : 0 < length cycle
   cycle_not_empty = omega (arith, length_cycle, c.within)
 
   pub cycle_left : NeedsAreWithin graph → All (IsLeft graph listed) cycle
@@ -70,23 +70,31 @@ module _ (graph : List (List ℕ)) (listed cycle : List ℕ) (c : IsCycleAfter g
       let same : get_or cycle k d ≡ get_or c.walk (c.from + k) 0 = get_or_default cycle k d 0 inside ∙ cycle_at k in
       rw same (walk_left graph listed within c.walk c.is_walk (c.from + k) here)
 
-  pub cycle_apart : AllPairs (λ earlier later. earlier ≢ later) cycle
+  cycle_apart : AllPairs (λ earlier later. earlier ≢ later) cycle
   cycle_apart i j d before inside same =
       let here : c.from + j < length c.walk = omega (arith, length_cycle) in
       c.is_walk.apart (c.from + i) (c.from + j) 0 (omega arith) here
       (sym (cycle_at i) ∙ get_or_default cycle i 0 d (omega arith) ∙ same ∙ get_or_default cycle j d 0 inside ∙ cycle_at j)
 
-  pub cycle_steps : (k : ℕ) → k + 1 < length cycle → Contains (needs_of graph (get_or cycle k 0)) (get_or cycle (k + 1) 0)
+  cycle_steps : (k : ℕ) → k + 1 < length cycle → Contains (needs_of graph (get_or cycle k 0)) (get_or cycle (k + 1) 0)
   cycle_steps k inside =
       let here : c.from + k + 1 < length c.walk = omega (arith, length_cycle) in
       let next : get_or cycle (k + 1) 0 ≡ get_or c.walk (c.from + k + 1) 0 = cycle_at (k + 1) ∙ ap (λ n. get_or c.walk n 0) (omega arith) in
       rw (cycle_at k, next) (Contains-from_listed _ _ (need_left_is_need graph listed _ _ (c.is_walk.steps (c.from + k) here)))
 
-  pub cycle_back : Contains (needs_of graph (get_or cycle (length cycle - 1) 0)) (get_or cycle 0 0)
+  cycle_back : Contains (needs_of graph (get_or cycle (length cycle - 1) 0)) (get_or cycle 0 0)
   cycle_back =
       let last : get_or cycle (length cycle - 1) 0 ≡ get_or c.walk (length c.walk - 1) 0 = cycle_at (length cycle - 1) ∙ ap (λ n. get_or c.walk n 0) (omega (arith, length_cycle, cycle_not_empty)) in
       let start : get_or cycle 0 0 ≡ get_or c.walk c.from 0 = cycle_at 0 ∙ ap (λ n. get_or c.walk n 0) (omega arith) in
       rw (last, start) (Contains-from_listed _ _ (need_left_is_need graph listed _ _ c.back))
+
+pub cycle_is_cycle : (graph : List (List ℕ)) (cycle : List ℕ) → IsCycleOf graph cycle → IsCycle graph cycle
+cycle_is_cycle graph cycle c = record {
+  not_empty = cycle_not_empty graph c.listed cycle c.around;
+  apart = cycle_apart graph c.listed cycle c.around;
+  steps = cycle_steps graph c.listed cycle c.around;
+  back = cycle_back graph c.listed cycle c.around;
+}
 
 same_found : (o p : Option ℕ) (x y : ℕ) → o ≡ Some x → p ≡ Some y → o ≡ p → x ≡ y
 same_found o p x y is_x is_y same = cc

@@ -9,3 +9,5 @@ pub mod Turns
 pub mod Naming
 pub mod Walks
 pub mod Marking
+pub mod Ends
+pub mod Closing

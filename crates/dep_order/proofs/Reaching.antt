@@ -1,11 +1,11 @@
 -- What is reached from a place.
-use Rattle.std.proofs.Common.{◌≡◌, ℕ, ◌<◌, Bool, true, List, length, get_or, All, Contains, ◌∙◌, arith, IsTrue}
+use Rattle.std.proofs.Common.{◌≡◌, ℕ, ◌<◌, Bool, true, List, length, get_or, take, All, Contains, ◌∙◌, arith, IsTrue}
 use Rattle.std.proofs.lemmas.List.{get_or_default}
 use Rattle.std.proofs.lemmas.List.Elements.{All-contains, Contains-get_or}
 use Rattle.dep_order.specs.Graph.{needs_of}
 use Rattle.dep_order.specs.Listing.{is_listed, IsListing, IsOrderOf}
 use Rattle.dep_order.specs.Reach.{Reaches, Direct, Further, IsClosedFrom}
-use Rattle.dep_order.proofs.Listed.{StandsAt, stands_at, listed_at}
+use Rattle.dep_order.proofs.Listed.{StandsAt, stands_at, listed_at, listed_before, Contains-from_listed}
 use Rattle.dep_order.proofs.Listings.{needs_before}
 
 pub needs_are_reached : (graph : List (List ℕ)) (from : ℕ) → All (Reaches graph from) (needs_of graph from)
@@ -33,10 +33,10 @@ module _ (graph : List (List ℕ)) (order : List ℕ) (listing : IsListing graph
       let t = need_stands_before s.at need (omega arith) at in
       record { at = t.at; before = omega arith; is = t.is }
 
-pub reached_comes_first : (graph : List (List ℕ)) (order : List ℕ) → IsOrderOf graph order → (k : ℕ) → k < length order → (need : ℕ) → Reaches graph (get_or order k 0) need → (j : ℕ) × (j < k) × (get_or order j 0 ≡ need)
+pub reached_comes_first : (graph : List (List ℕ)) (order : List ℕ) → IsOrderOf graph order → (k : ℕ) → k < length order → (need : ℕ) → Reaches graph (get_or order k 0) need → Contains (take k order) need
 reached_comes_first graph order o k within need reached =
     let s = reached_before graph order o.listing k within need reached in
-    (s.at, s.before, s.is)
+    Contains-from_listed (take k order) need (rw s.is at (listed_before order s.at k s.before (omega arith)))
 
 pub reached_listed : (graph : List (List ℕ)) (order : List ℕ) → IsOrderOf graph order → (place : ℕ) → place < length graph → (need : ℕ) → Reaches graph place need → is_listed order need ≡ true
 reached_listed graph order o place within need reached =

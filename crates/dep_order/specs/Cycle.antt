@@ -1,8 +1,15 @@
 -- The cycle that is shown where a listing can't go on.
 use Rattle.std.specs.Prelude.{◌≡◌, ◌≢◌, ℕ, ◌+◌, ◌-◌, ◌<◌, ◌≤◌, not, List, length, drop, slice_index, Option, Some, find}
-use Rattle.std.specs.List.{AllPairs}
+use Rattle.std.specs.List.{AllPairs, Contains}
 use Rattle.dep_order.specs.Graph.{needs_of}
 use Rattle.dep_order.specs.Listing.{is_listed, IsLeft, IsStuck}
+
+-- a cycle of a graph: its places differ, each needs the next one directly, and the last one needs the first
+pub record IsCycle (graph : List (List ℕ)) (cycle : List ℕ) : Type 0 where
+  pub not_empty : 0 < length cycle
+  pub apart : AllPairs (λ earlier later. earlier ≢ later) cycle
+  pub steps : (k : ℕ) → k + 1 < length cycle → Contains (needs_of graph (slice_index cycle k)) (slice_index cycle (k + 1))
+  pub back : Contains (needs_of graph (slice_index cycle (length cycle - 1))) (slice_index cycle 0)
 
 -- the first place that is left
 pub record IsFirstLeft (graph : List (List ℕ)) (listed : List ℕ) (place : ℕ) : Type 0 where

@@ -14,8 +14,9 @@ mod tests;
 
 pub use graph::{Graph, Places};
 pub use laws::{
-    cycle_is_a_cycle, cycle_list_is_the_only_one, needs_come_first, order_has_each_place_once,
-    order_is_the_only_one, places_left_need_places_left, reach_is_the_least_closed_set,
+    cycle_list_is_a_cycle, cycle_list_is_the_only_one, each_graph_has_an_order_or_a_cycle,
+    needs_come_first, order_has_each_place_once, order_is_the_only_one,
+    places_left_need_places_left, reach_is_the_least_closed_set,
 };
 pub use ordering::{OrderError, order};
 pub use reach::closure;
