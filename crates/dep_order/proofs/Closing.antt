@@ -1,12 +1,10 @@
 -- The set that is reached from a place, as a list of places.
-use Rattle.std.proofs.Common.{◌≡◌, ℕ, ◌+◌, ◌<◌, ◌≤◌, Bool, true, false, not, ◌||◌, eqb, List, [], ◌∷◌, ◌++◌, length, get_or, zero, suc, flat_map, Contains, sym, ◌∙◌, ap, refl, inl, inr, ◌⊎◌, arith, eq-eqb, eqb-true, Option, Some, None, find, count_by, IsTrue}
-use Rattle.std.specs.List.{list_any}
-use Rattle.std.proofs.lemmas.List.{get_or_default, get_or_past}
+use Rattle.std.proofs.Common.{◌≡◌, ℕ, ◌<◌, ◌≤◌, Bool, true, false, not, eqb, List, [], ◌∷◌, ◌++◌, zero, suc, flat_map, sym, ◌∙◌, refl, inl, inr, arith, eq-eqb, eqb-true, Option, Some, None, find, count_by, IsTrue}
+use Rattle.std.proofs.lemmas.List.{get_or_default}
 use Rattle.std.proofs.lemmas.List.Folds.{list_any-append}
 use Rattle.std.proofs.lemmas.Bool.{both_ways, or_cases, or_left, or_right, not-true, not-false}
 use Rattle.dep_order.specs.Graph.{needs_of}
 use Rattle.dep_order.specs.Listing.{is_listed}
-use Rattle.dep_order.specs.Pending.{times}
 use Rattle.dep_order.specs.Reach.{Reaches, Direct, Further, IsClosedFrom}
 use Rattle.dep_order.proofs.Listed.{stands_at, listed_push_kept, listed_push_cases, listed_at, Contains-from_listed}
 use Rattle.dep_order.proofs.Counts.{count_less, times_from_listed}

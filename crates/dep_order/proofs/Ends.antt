@@ -1,16 +1,16 @@
 -- Each graph has its order or its cycle list.
-use Rattle.std.proofs.Common.{◌≡◌, ◌≢◌, ℕ, ◌+◌, ◌<◌, ◌≤◌, Bool, true, false, not, cond, ◌&&◌, eqb, List, [], ◌∷◌, ◌++◌, length, get_or, drop, zero, suc, sym, ◌∙◌, ap, refl, inl, inr, ◌⊎◌, arith, eq-eqb, eqb-true, count_by}
+use Rattle.std.proofs.Common.{◌≡◌, ℕ, ◌<◌, ◌≤◌, Bool, true, false, not, ◌&&◌, eqb, List, [], ◌∷◌, ◌++◌, length, drop, zero, suc, refl, inl, inr, ◌⊎◌, arith, eq-eqb, eqb-true, count_by}
 use Rattle.std.proofs.lemmas.List.{get_or_default}
-use Rattle.std.proofs.lemmas.Bool.{both_ways, cases_lt, cases_eq, cases_Bool, and_parts, and_from, not-true, not-false, not_from_true, not_from_false, true_from_ne_false}
+use Rattle.std.proofs.lemmas.Bool.{both_ways, cases_lt, cases_eq, cases_Bool, and_parts, and_from, not-true, not-false, not_from_true, not_from_false}
 use Rattle.dep_order.specs.Graph.{needs_of, NeedsAreWithin}
 use Rattle.dep_order.specs.Listing.{is_listed, IsLeft, IsReady, IsNext, IsListing, IsOrderOf, IsStuck}
 use Rattle.dep_order.specs.Cycle.{IsFirstLeft, IsCycleAfter, IsCycleOf}
-use Rattle.dep_order.specs.Pending.{times, pending_of}
+use Rattle.dep_order.specs.Pending.{pending_of}
 use Rattle.dep_order.proofs.Listed.{stands_at, listed_push_kept, listed_push_new}
 use Rattle.dep_order.proofs.Listings.{listing_push, IsEnded}
 use Rattle.dep_order.proofs.Cycles.{some_need_left, need_left_is_left}
 use Rattle.dep_order.proofs.Walks.{IsTrail, trail_at_first, trail_push, cycle_from_trail}
-use Rattle.dep_order.proofs.Counts.{count_less, count_none, none_passes, times_from_listed, count_from_any}
+use Rattle.dep_order.proofs.Counts.{count_less, count_none, none_passes, times_from_listed}
 
 -- ---- the first number below a bound that passes a test
 

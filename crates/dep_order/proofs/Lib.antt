@@ -4,7 +4,6 @@ pub mod Finds
 pub mod Cycles
 pub mod Reaching
 pub mod Counts
-pub mod ReadySets
 pub mod Turns
 pub mod Naming
 pub mod Walks

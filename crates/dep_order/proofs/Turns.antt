@@ -1,59 +1,14 @@
 -- A turn of the listing: one place is listed, and those that need it wait for one need less.
-use Rattle.std.proofs.Common.{◌≡◌, ◌≢◌, ◌↔◌, ℕ, ◌+◌, ◌<◌, ◌≤◌, Bool, true, cond, eqb, List, [], ◌∷◌, ◌++◌, map, length, get_or, take, sym, ◌∙◌, ap, refl, subst, inl, inr, ◌⊎◌, arith, eq-eqb, IsTrue}
-use Rattle.std.proofs.lemmas.List.{get_or_past, get_or_read, take_more}
-use Rattle.std.proofs.lemmas.List.Sums.{sum_by-append, sum_by-take-le, sum_by_more}
+use Rattle.std.proofs.Common.{◌≡◌, ◌≢◌, ◌↔◌, ℕ, ◌+◌, ◌<◌, ◌≤◌, Bool, true, cond, eqb, List, [], ◌∷◌, ◌++◌, map, length, get_or, take, sym, ◌∙◌, ap, refl, subst, inl, inr, arith, eq-eqb, IsTrue}
+use Rattle.std.proofs.lemmas.List.{get_or_past, get_or_read}
+use Rattle.std.proofs.lemmas.List.Sums.{sum_by-take-le, sum_by_more}
 use Rattle.std.proofs.lemmas.Bool.{both_ways, cases_lt, false_from_ne_true}
 use Rattle.dep_order.specs.Graph.{needs_of}
 use Rattle.dep_order.specs.Listing.{is_listed, IsLeft, IsReady, IsNext, IsListing}
-use Rattle.dep_order.specs.Pending.{times, ArePending, AreDependents, Releases}
+use Rattle.dep_order.specs.Pending.{times, ArePending, AreDependents, Releases, TakesFirst}
 use Rattle.dep_order.proofs.Listed.{stands_at, listed_push_kept, listed_push_cases, listed_push_new}
 use Rattle.dep_order.proofs.Listings.{listing_push, listed_needs}
 use Rattle.dep_order.proofs.Counts.{count_less, ready_from_zero, zero_from_ready, pending_at_first, listed_from_times}
-use Rattle.dep_order.proofs.ReadySets.{TakesFirst}
-
--- ---- one release after another
-
-pub releases_none : (pending : List ℕ) (was : ℕ → Bool) → Releases [] pending pending was was
-releases_none pending was = record {
-  long = refl;
-  each = λ q. omega arith;
-  ready = λ q. (λ h. inl h, λ h. elim h [ inl had ↦ had | inr new ↦ absurd (omega (arith, new.0)) ]);
-}
-
-module _ (xs ys a b c : List ℕ) (r s t : ℕ → Bool) (first : Releases xs a b r s) (second : Releases ys b c s t) where
-  times_both : (q : ℕ) → times q (xs ++ ys) ≡ times q xs + times q ys
-  times_both q = sum_by-append (λ y. cond (eqb q y) 1 0) xs ys
-
-  forward : (q : ℕ) → t q ≡ true → (r q ≡ true) ⊎ ((0 < times q (xs ++ ys)) × (get_or c q 0 ≡ 0))
-  forward q has =
-      elim ((second.ready q).0 has) [
-        | inl before ↦ elim ((first.ready q).0 before) [
-          | inl had ↦ inl had
-          | inr new ↦ inr (omega (arith, times_both q, new.0), omega (arith, new.1, second.each q))
-        ]
-        | inr new ↦ inr (omega (arith, times_both q, new.0), new.1)
-      ]
-
-  backward : (q : ℕ) → (r q ≡ true) ⊎ ((0 < times q (xs ++ ys)) × (get_or c q 0 ≡ 0)) → t q ≡ true
-  backward q h =
-      elim h [
-        | inl had ↦ (second.ready q).1 (inl ((first.ready q).1 (inl had)))
-        | inr new ↦ elim (cases_lt 0 (times q ys)) [
-          | inl some ↦ (second.ready q).1 (inr (some, new.1))
-          | inr none ↦ (second.ready q).1 (inl ((first.ready q).1 (inr (omega (arith, times_both q, new.0), omega (arith, new.1, second.each q)))))
-        ]
-      ]
-
-  pub releases-append : Releases (xs ++ ys) a c r t
-  releases-append = record {
-    long = second.long ∙ first.long;
-    each = λ q. omega (arith, times_both q, first.each q, second.each q);
-    ready = λ q. (forward q, backward q);
-  }
-
-pub releases_more : (places : List ℕ) (i : ℕ) (a b c : List ℕ) (r s t : ℕ → Bool) → i < length places → Releases (take i places) a b r s → Releases (get_or places i 0 ∷ []) b c s t → Releases (take (i + 1) places) a c r t
-releases_more places i a b c r s t within first second =
-    rw (take_more places i 0 within) (releases-append (take i places) (get_or places i 0 ∷ []) a b c r s t first second)
 
 -- what is left for a place that has yet to come
 pub some_pending : (places : List ℕ) (i : ℕ) (a b : List ℕ) (r s : ℕ → Bool) → i < length places → ((q : ℕ) → times q places ≤ get_or a q 0) → Releases (take i places) a b r s → 0 < get_or b (get_or places i 0) 0

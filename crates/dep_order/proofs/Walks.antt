@@ -1,12 +1,11 @@
 -- A walk on its way: from each place to the next, and from the last one to the place at hand.
-use Rattle.std.proofs.Common.{◌≡◌, ◌≢◌, ℕ, ◌+◌, ◌-◌, ◌<◌, ◌≤◌, Bool, true, false, not, cond, ◌||◌, eqb, List, [], ◌∷◌, ◌++◌, length, get_or, set, drop, AllPairs, sym, ◌∙◌, ap, refl, subst, inl, inr, arith, Some, None, find, count_by}
+use Rattle.std.proofs.Common.{◌≡◌, ◌≢◌, ℕ, ◌+◌, ◌-◌, ◌<◌, ◌≤◌, Bool, true, false, not, cond, ◌||◌, eqb, List, [], ◌∷◌, ◌++◌, length, get_or, set, drop, AllPairs, sym, ◌∙◌, ap, refl, subst, inl, inr, arith, Some, None, find}
 use Rattle.std.proofs.lemmas.List.{get_or_default, get_or_past, get_or_read, get_or-set_other, get_or_append_left, get_or_push, length_push, drop_more, at_drop_all}
 use Rattle.std.proofs.lemmas.List.Quantifiers.{all_pairs_push}
-use Rattle.std.proofs.lemmas.List.Sums.{sum_by-set}
 use Rattle.std.proofs.lemmas.Bool.{both_ways, cases_lt, cases_eq, cases_Bool, true_from_ne_false, false_from_ne_true, eq-eqb, ne_eqb}
 use Rattle.std.proofs.lemmas.Grind.{get_or-set_at}
 use Rattle.dep_order.specs.Graph.{needs_of, NeedsAreWithin}
-use Rattle.dep_order.specs.Listing.{is_listed, IsLeft, IsOrderOf, IsStuck}
+use Rattle.dep_order.specs.Listing.{is_listed, IsLeft, IsStuck}
 use Rattle.dep_order.specs.Cycle.{IsFirstLeft, first_need_left, IsCycleAfter}
 use Rattle.dep_order.specs.Pending.{HasStopped}
 use Rattle.dep_order.proofs.Listed.{listed_at, listed-push, listed_push_new, or_false}
@@ -24,12 +23,6 @@ module _ (graph : List (List ℕ)) (listed pending : List ℕ) (stopped : HasSto
   zero_is_listed place within none =
       true_from_ne_false _ (λ not_listed. stopped.stops place
       (ready_from_zero graph listed pending stopped.counts place (record { within = within; not_listed = not_listed }) none))
-
-  pub order_from_zeros : ((place : ℕ) → get_or pending place 0 ≡ 0) → IsOrderOf graph listed
-  order_from_zeros none = record {
-    listing = stopped.listing;
-    whole = λ place within. zero_is_listed place within (none place);
-  }
 
   pub first_left_from_zeros : (start : ℕ) → 0 < get_or pending start 0 → ((place : ℕ) → place < start → get_or pending place 0 ≡ 0) → IsFirstLeft graph listed start
   first_left_from_zeros start waits before = record {
@@ -129,12 +122,6 @@ met_more n walk is_met place within met q inside =
           ∙ met q inside
           ∙ sym (listed-push walk place q ∙ ap (λ b. is_listed walk q || b) (ne_eqb q place differ) ∙ or_false (is_listed walk q))
     ]
-
-pub one_fewer : (is_met : List Bool) (place : ℕ) → place < length is_met → get_or is_met place false ≡ false → count_by not (set is_met place true) < count_by not is_met
-one_fewer is_met place within new =
-    let f : Bool → ℕ = λ b. cond (not b) 1 0 in
-    let was : f (get_or is_met place false) ≡ 1 = ap f new in
-    omega (arith, was, sum_by-set f is_met place true false within)
 
 -- ---- the needs of a place, one after another
 

@@ -1,5 +1,5 @@
 -- Counts of the needs that a listing still waits for.
-use Rattle.std.specs.Prelude.{◌≡◌, ℕ, ◌+◌, ◌<◌, Bool, not, nat_eq, List, length, slice_index, count_by, IsTrue, ◌↔◌, ◌⊎◌}
+use Rattle.std.specs.Prelude.{◌≡◌, ◌≢◌, ◌≤◌, ℕ, ◌+◌, ◌<◌, Bool, not, nat_eq, List, length, slice_index, count_by, IsTrue, ◌↔◌, ◌⊎◌}
 use Rattle.dep_order.specs.Graph.{needs_of}
 use Rattle.dep_order.specs.Listing.{is_listed, IsReady, IsListing}
 
@@ -32,3 +32,10 @@ pub record HasStopped (graph : List (List ℕ)) (listed pending : List ℕ) : Ty
   pub listing : IsListing graph listed
   pub stops : (place : ℕ) → IsReady graph listed place → ⊥
   pub counts : ArePending graph listed pending
+
+-- a set without its first place
+pub record TakesFirst (place : ℕ) (old new : ℕ → Bool) : Type 0 where
+  pub had : IsTrue (old place)
+  pub first : (q : ℕ) → IsTrue (old q) → place ≤ q
+  pub back : (q : ℕ) → IsTrue (new q) → (q ≢ place) × IsTrue (old q)
+  pub kept : (q : ℕ) → IsTrue (old q) → q ≢ place → IsTrue (new q)

@@ -1,8 +1,8 @@
 // Listing places as long as one is ready.
-ghost use Rattle.std.specs.Prelude.{◌≡◌, ◌↔◌, [], ◌∷◌, map, ℕ, ◌+◌, ◌<◌, ◌≤◌, length, sum, IsTrue, IfOk, OnOk, slice_index};
+ghost use Rattle.std.specs.Prelude.{◌≡◌, ◌↔◌, [], ◌∷◌, map, ℕ, ◌+◌, ◌<◌, ◌≤◌, length, sum, IsTrue, IsFalse, IfNone, IfSome, IfOk, OnOk, slice_index};
 ghost use Rattle.std.specs.Ordering.{nat_cmp};
 ghost use Rattle.std.specs.BTreeSet.{contains, btree_set_len};
-ghost use Rattle.dep_order.specs.Pending.{times, HasStopped, Releases};
+ghost use Rattle.dep_order.specs.Pending.{times, HasStopped, Releases, TakesFirst};
 
 use crate::dependents::dependents_of;
 use crate::graph::Graph;
@@ -23,7 +23,7 @@ pub(crate) fn listing_of(alloc: Global, graph: &Graph) -> Result<Listing, AllocE
     let mut pending = counts_of_needs(alloc, graph)?;
     let mut ready = places_without_pending(alloc, &pending)?;
     let mut listed = Vec::new(alloc);
-    while let Some(place) = ready.pop_first() {
+    while let Some(place) = first_of(&mut ready) {
         listed.push(place)?;
         release(dependents[place].as_slice(), &mut pending, &mut ready)?;
     }
@@ -50,6 +50,15 @@ fn places_without_pending(alloc: Global, pending: &[usize]) -> Result<BTreeSet<u
         }
     }
     Ok(ready)
+}
+
+/// Takes the first place out of the set.
+fn first_of(places: &mut BTreeSet<usize>) -> Option<usize>
+    ensures none { IfNone result ((place : ℕ) → IsFalse (contains nat_cmp places.old place)) }
+    ensures first { IfSome result (λ first. TakesFirst first (contains nat_cmp places.old) (contains nat_cmp places.new)) }
+    ensures len { IfSome result (λ _. btree_set_len places.new < btree_set_len places.old) }
+{
+    places.pop_first()
 }
 
 /// Counts one need less for each of the places, as often as it stands there.
