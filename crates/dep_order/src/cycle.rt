@@ -12,7 +12,8 @@ use std::alloc::{AllocError, Global};
 pub(crate) fn first_waiting(listing: &Listing) -> Option<usize>
     ensures none { IfNone result ((place : ℕ) → slice_index listing.now.pending.items place ≡ 0) }
     ensures waits { IfSome result (λ first. 0 < slice_index listing.now.pending.items first) }
-    ensures first { IfSome result (λ first. (place : ℕ) → place < first → slice_index listing.now.pending.items place ≡ 0) }
+    ensures first { IfSome result (λ first.
+        (place : ℕ) → place < first → slice_index listing.now.pending.items place ≡ 0) }
 {
     listing.pending.iter().position(|count| *count != 0)
 }
@@ -40,6 +41,7 @@ pub(crate) fn cycle_after(
     walk.split_off(from)
 }
 
+/// Where a place stands.
 fn position_of(places: &[usize], place: usize) -> Option<usize>
     ensures none { IfNone result ((k : ℕ) → k < length places.now → slice_index places.now k ≢ place) }
     ensures within { IfSome result (λ at. at < length places.now) }

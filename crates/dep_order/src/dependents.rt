@@ -7,7 +7,6 @@ ghost use Rattle.dep_order.specs.Pending.{times, AreDependents};
 use crate::graph::{Graph, Places};
 use std::alloc::{AllocError, Global};
 
-#[tactic(auto, using(crate::proofs::Naming::rows_more))]
 /// For each place the places that need it, each as often as it names that one.
 pub(crate) fn dependents_of(alloc: Global, graph: &Graph) -> Result<Vec<Places>, AllocError>
     ensures { IfOk result (λ dependents. AreDependents graph.now dependents.items) }
@@ -30,6 +29,7 @@ fn without_dependents(alloc: Global, count: usize) -> Result<Vec<Places>, AllocE
     Ok(dependents)
 }
 
+/// Puts a place among the dependents of its needs.
 fn add_dependent(
     dependents: &mut Vec<Places>,
     place: usize,
@@ -37,7 +37,10 @@ fn add_dependent(
 ) -> Result<(), AllocError>
     requires { All (λ need. need < length dependents.old.items) needs.now }
     ensures long { length dependents.new.items ≡ length dependents.old.items }
-    ensures each { OnOk result ((need other : ℕ) → times other (needs_of dependents.new.items need) ≡ times other (needs_of dependents.old.items need) + (if other == place then times need needs.now else 0)) }
+    ensures each { OnOk result ((need other : ℕ) →
+        times other (needs_of dependents.new.items need)
+        ≡ times other (needs_of dependents.old.items need)
+        + (if other == place then times need needs.now else 0)) }
 {
     for need in needs {
         dependents[*need].push(place)?;

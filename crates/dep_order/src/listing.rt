@@ -16,6 +16,7 @@ pub(crate) struct Listing {
     pub pending: Vec<usize>,
 }
 
+/// Lists at each turn the first place that is ready, until none is.
 pub(crate) fn listing_of(alloc: Global, graph: &Graph) -> Result<Listing, AllocError>
     ensures { IfOk result (λ listing. HasStopped graph.now listing.listed.items listing.pending.items) }
 {
@@ -30,6 +31,7 @@ pub(crate) fn listing_of(alloc: Global, graph: &Graph) -> Result<Listing, AllocE
     Ok(Listing { listed, pending })
 }
 
+/// How many needs each place has.
 fn counts_of_needs(alloc: Global, graph: &Graph) -> Result<Vec<usize>, AllocError>
     ensures { IfOk result (λ pending. pending.items ≡ map length graph.now) }
 {
@@ -40,8 +42,11 @@ fn counts_of_needs(alloc: Global, graph: &Graph) -> Result<Vec<usize>, AllocErro
         .collect(alloc)
 }
 
+/// The places that wait for nothing.
 fn places_without_pending(alloc: Global, pending: &[usize]) -> Result<BTreeSet<usize>, AllocError>
-    ensures { IfOk result (λ ready. (place : ℕ) → IsTrue (contains nat_cmp ready place) ↔ ((place < length pending.now) × (slice_index pending.now place ≡ 0))) }
+    ensures { IfOk result (λ ready.
+        (place : ℕ) → IsTrue (contains nat_cmp ready place)
+        ↔ ((place < length pending.now) × (slice_index pending.now place ≡ 0))) }
 {
     let mut ready = BTreeSet::new(alloc);
     for (place, count) in pending.iter().enumerate() {
@@ -55,7 +60,8 @@ fn places_without_pending(alloc: Global, pending: &[usize]) -> Result<BTreeSet<u
 /// Takes the first place out of the set.
 fn first_of(places: &mut BTreeSet<usize>) -> Option<usize>
     ensures none { IfNone result ((place : ℕ) → IsFalse (contains nat_cmp places.old place)) }
-    ensures first { IfSome result (λ first. TakesFirst first (contains nat_cmp places.old) (contains nat_cmp places.new)) }
+    ensures first { IfSome result (λ first.
+        TakesFirst first (contains nat_cmp places.old) (contains nat_cmp places.new)) }
     ensures len { IfSome result (λ _. btree_set_len places.new < btree_set_len places.old) }
 {
     places.pop_first()
@@ -68,8 +74,10 @@ fn release(
     ready: &mut BTreeSet<usize>,
 ) -> Result<(), AllocError>
     requires { (place : ℕ) → times place places.now ≤ slice_index pending.old.items place }
-    ensures releases { OnOk result (Releases places.now pending.old.items pending.new.items (contains nat_cmp ready.old) (contains nat_cmp ready.new)) }
-    ensures work { OnOk result (sum pending.new.items + btree_set_len ready.new ≤ sum pending.old.items + btree_set_len ready.old) }
+    ensures releases { OnOk result (Releases places.now pending.old.items pending.new.items
+        (contains nat_cmp ready.old) (contains nat_cmp ready.new)) }
+    ensures work { OnOk result (sum pending.new.items + btree_set_len ready.new
+        ≤ sum pending.old.items + btree_set_len ready.old) }
 {
     for place in places {
         release_one(*place, pending, ready)?;
@@ -77,14 +85,17 @@ fn release(
     Ok(())
 }
 
+/// Counts one need less for a place, which is ready once none is left.
 fn release_one(
     place: usize,
     pending: &mut Vec<usize>,
     ready: &mut BTreeSet<usize>,
 ) -> Result<(), AllocError>
     requires { 0 < slice_index pending.old.items place }
-    ensures releases { OnOk result (Releases (place ∷ []) pending.old.items pending.new.items (contains nat_cmp ready.old) (contains nat_cmp ready.new)) }
-    ensures work { OnOk result (sum pending.new.items + btree_set_len ready.new ≤ sum pending.old.items + btree_set_len ready.old) }
+    ensures releases { OnOk result (Releases (place ∷ []) pending.old.items pending.new.items
+        (contains nat_cmp ready.old) (contains nat_cmp ready.new)) }
+    ensures work { OnOk result (sum pending.new.items + btree_set_len ready.new
+        ≤ sum pending.old.items + btree_set_len ready.old) }
 {
     pending[place] -= 1;
     if pending[place] == 0 {

@@ -19,7 +19,8 @@ pub fn closure(
     requires order { IsOrderOf graph.now order.now }
     requires place { place < length graph.now }
     ensures in_order { IfOk result (λ reached. IsClosureOf graph.now order.now place reached.items) }
-    ensures reached { IfOk result (λ reached. (other : ℕ) → Contains reached.items other ↔ Reaches graph.now place other) }
+    ensures reached { IfOk result (λ reached.
+        (other : ℕ) → Contains reached.items other ↔ Reaches graph.now place other) }
 {
     let marks = reach_of(alloc, graph, order, place)?;
     marked(alloc, &marks, order)
@@ -36,7 +37,8 @@ fn reach_of(
     requires order { IsOrderOf graph.now order.now }
     requires place { place < length graph.now }
     ensures long { IfOk result (λ marks. length marks.items ≡ length graph.now) }
-    ensures marks { IfOk result (λ marks. (other : ℕ) → IsTrue (is_marked marks.items other) ↔ Reaches graph.now place other) }
+    ensures marks { IfOk result (λ marks.
+        (other : ℕ) → IsTrue (is_marked marks.items other) ↔ Reaches graph.now place other) }
 {
     let mut marks = vec![in alloc; false; graph.needs().len()]?;
     mark(&mut marks, graph.needs_at(place));
@@ -51,17 +53,21 @@ fn mark_further(marks: &mut Vec<bool>, graph: &Graph, from: usize)
     requires long { length marks.old.items ≡ length graph.now }
     requires from { from < length graph.now }
     ensures long { length marks.new.items ≡ length marks.old.items }
-    ensures each { (other : ℕ) → is_marked marks.new.items other ≡ (is_marked marks.old.items other || (is_marked marks.old.items from && is_listed (needs_of graph.now from) other)) }
+    ensures each { (other : ℕ) → is_marked marks.new.items other
+        ≡ (is_marked marks.old.items other
+        || (is_marked marks.old.items from && is_listed (needs_of graph.now from) other)) }
 {
     if marks[from] {
         mark(marks, graph.needs_at(from));
     }
 }
 
+/// Marks places.
 fn mark(marks: &mut Vec<bool>, places: &[usize])
     requires { All (λ place. place < length marks.old.items) places.now }
     ensures long { length marks.new.items ≡ length marks.old.items }
-    ensures each { (other : ℕ) → is_marked marks.new.items other ≡ (is_marked marks.old.items other || is_listed places.now other) }
+    ensures each { (other : ℕ) → is_marked marks.new.items other
+        ≡ (is_marked marks.old.items other || is_listed places.now other) }
 {
     for place in places {
         marks[*place] = true;
