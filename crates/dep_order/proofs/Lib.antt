@@ -1,0 +1,12 @@
+pub mod Listed
+pub mod Listings
+pub mod Finds
+pub mod Cycles
+pub mod Reaching
+pub mod Counts
+pub mod Turns
+pub mod Naming
+pub mod Walks
+pub mod Marking
+pub mod Ends
+pub mod Closing

@@ -1,0 +1,6 @@
+pub mod Graph
+pub mod Listing
+pub mod Cycle
+pub mod Reach
+pub mod Pending
+pub mod Marks
