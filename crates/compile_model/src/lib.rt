@@ -12,3 +12,6 @@ pub use echo::EchoCompiler;
 pub use job::{Job, Jobs, Places, Plan};
 pub use outcome::{Fate, Outcome};
 pub use seq::{SeqFault, seq_build};
+
+#[cfg(test)]
+mod tests;
