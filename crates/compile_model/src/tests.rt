@@ -3,7 +3,7 @@ use mx_base::{AppName, Bytes, File, Files, RelPath, Text};
 use std::alloc::Global;
 use std::test::Fail;
 
-fn job(rt: &HostRuntime, app: &str, source: &str, bytes: &str, needs: Places) -> Result<Job, Fail> {
+fn job(alloc: Global, app: &str, source: &str, bytes: &str, needs: Places) -> Result<Job, Fail> {
     let root = RelPath::root(alloc);
     let mut sources = Vec::new(alloc);
     sources.push(File {
