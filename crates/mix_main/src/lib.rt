@@ -2,6 +2,7 @@
 #![tactic(auto)]
 
 mod declaration;
+mod manifest;
 mod plan;
 mod plan_fault;
 mod refusal;
