@@ -6,6 +6,7 @@ mod manifest;
 mod plan;
 mod plan_fault;
 mod refusal;
+mod sources;
 
 pub use declaration::Declaration;
 pub use refusal::Refusal;
