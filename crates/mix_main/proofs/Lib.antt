@@ -1,2 +1,4 @@
+pub mod AmongLemmas
 pub mod ManifestLemmas
+pub mod PlanLemmas
 pub mod SourceLemmas

@@ -1,5 +1,5 @@
 -- Names that differ, and folders that are declared.
-use Rattle.std.proofs.Common.{◌≡◌, ℕ, ◌+◌, ◌<◌, Bool, true, false, not, cond, ◌&&◌, ◌||◌, List, [], ◌∷◌, ◌++◌, map, take, drop, length, get_or, refl, sym, ◌∙◌, ap, bytes_eq, append_assoc}
+use Rattle.std.proofs.Common.{◌≡◌, ℕ, ◌+◌, ◌<◌, Bool, true, false, not, cond, ◌&&◌, ◌||◌, List, [], ◌∷◌, ◌++◌, map, take, drop, length, get_or, Option, Some, None, IfSome, is_some, option_and_then, Result, Ok, Err, All, IsFalse, codes, refl, sym, ◌∙◌, ap, subst, bytes_eq, append_assoc, arith}
 use Rattle.std.specs.List.{list_any}
 use Rattle.std.specs.BTreeSet.{BTreeSet, contains_by, UpdatesBy}
 use Rattle.std.specs.Cmp.Lexicographic.{texts_ties}
@@ -9,8 +9,14 @@ use Rattle.std.proofs.lemmas.List.Folds.{list_any-append}
 use Rattle.std.proofs.Math.Bool.{and-false}
 use denote.Ref.{Bor}
 use Rattle.mx_base.specs.Order.{text_cmp}
+use Rattle.mx_base.specs.Path.{first_segment}
+use Rattle.mx_base.specs.Join.{joined}
+use Rattle.mx_base.specs.declared.path_join.PathError.{PathError}
+use Rattle.elixir_terms.specs.declared.term.Term.{Term}
+use Rattle.tree_store.specs.Files.{is_in_build}
+use Rattle.std.proofs.lemmas.List.Elements.{All-cons}
 use Rattle.mix_main.specs.declared.declaration.Declaration.{Declaration}
-use Rattle.mix_main.specs.Manifest.{differ, apps_differ}
+use Rattle.mix_main.specs.Manifest.{string_of, list_of, only_of, pair_of, keyword, app_of, is_kept_apart, open_dir, dir_of, path_option, declared, declaration_of, with_first, declarations_of, differ, apps_differ, if_apps_differ, deps_of, header_version, root_fields, root_declarations}
 
 abbrev pub apps_of : List Declaration → List (List ℕ)
 apps_of declarations = map (λ d. d.app) declarations
@@ -94,3 +100,74 @@ seen_more ds i d old new within is updates seen q =
     ∙ cond_or (bytes_eq q d.app) (list_any (bytes_eq q) (apps_of (take i ds)))
     ∙ sym (list_any-append (bytes_eq q) (apps_of (take i ds)) (d.app ∷ []))
     ∙ ap (list_any (bytes_eq q)) (sym (apps_more ds i d within is))
+
+-- no file of a declared folder is in the folder of builds
+abbrev AreOutside : List Declaration → Type 0
+AreOutside declarations = All (λ d. IsFalse (is_in_build d.dir)) declarations
+
+nothing_outside : AreOutside []
+nothing_outside = λ k d h. absurd (omega (arith, h))
+
+apart_dir : (joined_dir : Result (List ℕ) PathError) → IfSome (open_dir joined_dir) (λ dir. IsFalse (is_in_build dir))
+apart_dir (Err e) = tt
+apart_dir (Ok dir) = at (is_kept_apart (first_segment dir)) refl
+  where
+    at : (b : Bool) → is_kept_apart (first_segment dir) ≡ b → IfSome (cond b None (Some dir)) (λ d. IsFalse (is_in_build d))
+    at true e = tt
+    at false e = (neither (is_in_build dir) (bytes_eq (first_segment dir) (codes "deps") || bytes_eq (first_segment dir) (codes "hex")) e).0
+
+apart_path : (text : Option (List ℕ)) → IfSome (option_and_then dir_of text) (λ dir. IsFalse (is_in_build dir))
+apart_path None = tt
+apart_path (Some text) = apart_dir (joined [] text)
+
+apart_declared : (app dir : Option (List ℕ)) → IfSome dir (λ d. IsFalse (is_in_build d)) → IfSome (declared app dir) (λ d. IsFalse (is_in_build d.dir))
+apart_declared None dir out = tt
+apart_declared (Some app) None out = tt
+apart_declared (Some app) (Some dir) out = out
+
+apart_pair : (pair : Option (Term × Term)) → IfSome (option_and_then (λ p. declared (app_of p.0) (path_option p.1)) pair) (λ d. IsFalse (is_in_build d.dir))
+apart_pair None = tt
+apart_pair (Some pair) =
+    apart_declared (app_of pair.0) (path_option pair.1)
+    (apart_path (option_and_then string_of (option_and_then (keyword (codes "path")) (option_and_then only_of (list_of pair.1)))))
+
+apart_first : (first : Option Declaration) (rest : Option (List Declaration)) → IfSome first (λ d. IsFalse (is_in_build d.dir)) → IfSome rest AreOutside → IfSome (with_first first rest) AreOutside
+apart_first None rest out outs = tt
+apart_first (Some first) None out outs = tt
+apart_first (Some first) (Some rest) out outs = All-cons (λ d. IsFalse (is_in_build d.dir)) first rest out outs
+
+apart_terms : (ts : List Term) → IfSome (declarations_of ts) AreOutside
+apart_terms [] = nothing_outside
+apart_terms (t ∷ ts) = apart_first (declaration_of t) (declarations_of ts) (apart_pair (pair_of t)) (apart_terms ts)
+
+apart_differ : (ds : Option (List Declaration)) → IfSome ds AreOutside → IfSome (option_and_then if_apps_differ ds) AreOutside
+apart_differ None outs = tt
+apart_differ (Some ds) outs = at (apps_differ ds)
+  where
+    at : (b : Bool) → IfSome (cond b (Some ds) None) AreOutside
+    at true = outs
+    at false = tt
+
+apart_deps : (ts : Option (List Term)) → IfSome (option_and_then if_apps_differ (option_and_then declarations_of ts)) AreOutside
+apart_deps None = tt
+apart_deps (Some ts) = apart_differ (declarations_of ts) (apart_terms ts)
+
+if_header : (b : Bool) (ds : Option (List Declaration)) → IfSome ds AreOutside → IfSome (cond b ds None) AreOutside
+if_header true ds outs = outs
+if_header false ds outs = tt
+
+apart_fields : (ts : List Term) → IfSome (root_fields ts) AreOutside
+apart_fields [] = tt
+apart_fields (app ∷ []) = tt
+apart_fields (app ∷ version ∷ []) = if_header (is_some (header_version app version)) (Some []) nothing_outside
+apart_fields (app ∷ version ∷ deps ∷ []) =
+    if_header (is_some (header_version app version)) (deps_of deps) (apart_deps (option_and_then list_of (keyword (codes "deps") deps)))
+apart_fields (app ∷ version ∷ deps ∷ other ∷ more) = tt
+
+apart_list : (ts : Option (List Term)) → IfSome (option_and_then root_fields ts) AreOutside
+apart_list None = tt
+apart_list (Some ts) = apart_fields ts
+
+-- what a manifest declares lies outside the folder of builds
+pub declared_outside : (t : Term) (ds : List Declaration) → root_declarations t ≡ Some ds → All (λ d. IsFalse (is_in_build d.dir)) ds
+declared_outside t ds e = subst (λ (o : Option (List Declaration)). IfSome o AreOutside) e (apart_list (list_of t))
