@@ -1,0 +1,4 @@
+pub mod Condition
+pub mod Grammar
+pub mod Meaning
+pub mod Refusal

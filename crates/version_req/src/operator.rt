@@ -1,0 +1,20 @@
+// The operators of comparisons.
+
+/// How a version is to stand to the operand of a comparison, by precedence.
+#[derive(Clone, Copy, Debug, PartialEq, Eq)]
+pub enum Operator {
+    /// `==`, or no operator.
+    Equal,
+    /// `!=`
+    NotEqual,
+    /// `>`
+    Greater,
+    /// `>=`
+    GreaterOrEqual,
+    /// `<`
+    Less,
+    /// `<=`
+    LessOrEqual,
+    /// `~>`: at least the operand, with its major number, and its minor number where the patch is written.
+    Compatible,
+}

@@ -1,0 +1,56 @@
+// Comparisons and requirements, which contracts see without where they lie in memory.
+ghost use Rattle.std.specs.Prelude.{◌≡◌, IfOk, IfErr};
+ghost use Rattle.version_req.specs.Condition.{Alternatives};
+ghost use Rattle.version_req.specs.Grammar.{Spells};
+ghost use Rattle.version_req.specs.Refusal.{HasCause};
+
+use crate::error::ReqError;
+use crate::operator::Operator;
+use mx_base::ListOf;
+use semver::Version;
+use std::alloc::{AllocError, Global};
+use std::marker::Model;
+
+/// An operator and its operand, as `>= 1.2.0`.
+#[derive(Debug, Drop)]
+pub struct Comparison {
+    pub(crate) operator: Operator,
+    pub(crate) version: Version,
+    /// Whether the version was written with its patch, which may be left out after `~>`.
+    pub(crate) patch_written: bool,
+}
+
+impl Model for Comparison {
+    ghost use Rattle.semver.specs.Identifiers.{parts_of};
+    ghost use Rattle.version_req.specs.Condition.{Condition};
+
+    ghost Value = { Condition };
+
+    ghost view = { λ c. record { operator = c.operator; operand = parts_of c.version; patch_written = c.patch_written } };
+}
+
+/// What a version has to meet: all comparisons of any one alternative.
+#[derive(Debug, Drop)]
+pub struct Requirement {
+    pub(crate) alternatives: ListOf<ListOf<Comparison>>,
+}
+
+impl Model for Requirement {
+    ghost use Rattle.version_req.specs.Condition.{Alternatives};
+
+    ghost Value = { Alternatives };
+
+    ghost view = { λ requirement. requirement.alternatives };
+}
+
+impl Requirement {
+    /// The requirement that the whole text spells.
+    pub fn parse(alloc: Global, text: &[u8]) -> Result<Requirement, ReqError>
+        ensures ok { IfOk result (Spells text.now) }
+        ensures only { (requirement : Alternatives) → Spells text.now requirement
+            → IfOk result (λ answer. answer ≡ requirement) }
+        ensures err { IfErr result (HasCause text.now) }
+    {
+        Err(ReqError::OutOfMemory)
+    }
+}
