@@ -1,4 +1,5 @@
 pub mod Condition
 pub mod Grammar
 pub mod Meaning
+pub mod Reading
 pub mod Refusal

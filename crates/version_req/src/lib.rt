@@ -9,6 +9,7 @@ mod error;
 mod matching;
 mod operator;
 mod requirement;
+mod scan;
 
 pub use error::ReqError;
 pub use matching::{compare, matches};
