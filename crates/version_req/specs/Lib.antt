@@ -1,5 +1,6 @@
 pub mod Condition
 pub mod Grammar
+pub mod Machine
 pub mod Meaning
 pub mod Reading
 pub mod Refusal
