@@ -1,3 +1,4 @@
 pub mod Complete
 pub mod MachineSteps
 pub mod ScanSteps
+pub mod Sound
