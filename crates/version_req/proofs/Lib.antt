@@ -1,4 +1,6 @@
 pub mod Complete
 pub mod MachineSteps
+pub mod Refused
+pub mod RunSound
 pub mod ScanSteps
 pub mod Sound
