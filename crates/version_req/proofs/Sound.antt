@@ -1,5 +1,6 @@
 -- What the readers read, and what the machine accepts, is spelled so.
-use Rattle.std.proofs.Common.{◌≡◌, ◌≢◌, ◌⊎◌, ℕ, zero, suc, ◌+◌, ◌-◌, ◌*◌, ◌/◌, ◌%◌, ◌^◌, ◌<◌, ◌≤◌, ◌==◌, ◌++◌, ◌&&◌, List, [], ◌∷◌, length, Bool, true, false, IsFalse, Result, Ok, Err, Option, Some, None, refl, sym, ap, ◌∙◌, arith, inl, inr, subst, append_assoc, append-nil, length-append, decimal, codes}
+use Rattle.std.proofs.Common.{◌≡◌, ◌≢◌, ◌⊎◌, ℕ, zero, suc, ◌+◌, ◌-◌, ◌*◌, ◌/◌, ◌%◌, ◌^◌, ◌<◌, ◌≤◌, ◌==◌, ◌++◌, ◌&&◌, List, [], ◌∷◌, length, Bool, true, false, IsFalse, Result, Ok, Err, IfOk, IsSome, Option, Some, None, refl, sym, ap, ◌∙◌, arith, inl, inr, subst, append_assoc, append-nil, length-append, decimal, codes}
+use Rattle.std.specs.Borrow.{Bor}
 use Rattle.std.specs.Char.{is_ascii_digit}
 use Rattle.std.specs.List.{list_all}
 use Rattle.std.proofs.lemmas.Bool.{cases_Bool, cases_lt, eq-eqb, eqb-true, le-leb, lt-leb}
@@ -21,7 +22,7 @@ use Rattle.version_req.specs.declared.scan.Head.{Head}
 use Rattle.version_req.specs.declared.scan.Stuck.{Stuck}
 use Rattle.version_req.specs.Condition.{Condition, Alternatives}
 use Rattle.version_req.specs.Grammar.{Joined, MayLackPatch, Spells, SpellsAlternatives, SpellsComparison, SpellsOperator, operand_text, operator_text, spaces}
-use Rattle.version_req.specs.Reading.{Read, ◌>>=◌, after_byte, comparison_of, completed, condition, digits_of, full_head, head_of, identifiers_from, is_identifier, joint_of, mark_of, marked_of, number_of, operator_of, patch_of, short_head, stuck, with_digit, with_equal, without_spaces, word_of}
+use Rattle.version_req.specs.Reading.{Read, ◌>>=◌, after_byte, comparison_of, completed, condition, digits_of, full_head, head_of, identifiers_from, is_identifier, joint_of, mark_of, marked_of, number_of, operator_of, patch_of, read_view, short_head, stuck, with_digit, with_equal, without_spaces, word_of}
 
 -- ---- answers
 
@@ -529,3 +530,33 @@ joint_of-Ok (b ∷ r) o rest h = elim (cases_Bool (b == 32)) [
       spaced_word gap.0 (b ∷ r) (without_spaces r) o rest (ap (λ (k : ℕ). k ∷ r) (eqb-true b 32 space) ∙ ap (λ (t : List ℕ). 32 ∷ t) gap.1) word
   | inr other ↦ cc (sym (joint_other b r other) ∙ h)
 ]
+
+-- ---- what the code's clauses say beside the values
+
+pub record ComparisonFits (text rest : List ℕ) (c : Condition) : Type 0 where
+  pub pre : is_pre_release c.operand.3 ≡ true
+  pub build : is_build c.operand.4 ≡ true
+  pub shorter : length rest ≤ length text
+
+pub comparison_fits : (text : List ℕ) (c : Condition) (rest : List ℕ) → comparison_of text ≡ Ok (c, rest) → ComparisonFits text rest c
+comparison_fits text c rest e =
+    let read = comparison_of-Ok text c rest e in
+    let size = ap length read.2 in
+    let valid = (read.3).valid in
+    record {
+      pre = valid.3;
+      build = valid.4;
+      shorter = omega (arith, size, length-append (spaces read.0) (read.1 ++ rest), length-append read.1 rest);
+    }
+
+pub joint_shorter : (text : List ℕ) (j : Joint) (rest : List ℕ) → joint_of text ≡ Ok (Some j, rest) → length rest < length text
+joint_shorter text j rest e =
+    let read = joint_of-Ok text (Some j) rest e in
+    let word = joint_word j ++ (32 ∷ rest) in
+    omega (arith, ap length read.1, length-append (spaces (suc read.0)) word, length-append (joint_word j) (32 ∷ rest))
+
+pub joint_fits : (text : List ℕ) (r : Result (Option Joint × Bor (List ℕ)) Stuck) → read_view r ≡ joint_of text
+    → IfOk r (λ read. IsSome read.0 → length read.1.now < length text)
+joint_fits text (Err s) e = tt
+joint_fits text (Ok (None, rest)) e = λ some. cc some
+joint_fits text (Ok (Some j, rest)) e = λ some. joint_shorter text j rest.now (sym e)

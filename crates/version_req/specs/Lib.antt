@@ -4,3 +4,4 @@ pub mod Machine
 pub mod Meaning
 pub mod Reading
 pub mod Refusal
+pub mod Stops

@@ -8,10 +8,11 @@
 mod error;
 mod matching;
 mod operator;
+mod parse;
 mod requirement;
 mod scan;
 
 pub use error::ReqError;
 pub use matching::{compare, matches};
 pub use operator::Operator;
-pub use requirement::{Comparison, Requirement};
+pub use requirement::{Comparison, Requirement, one_requirement};

@@ -1,11 +1,12 @@
 // Comparisons and requirements, which contracts see without where they lie in memory.
-ghost use Rattle.std.specs.Prelude.{◌≡◌, IfOk, IfErr};
+ghost use Rattle.std.specs.Prelude.{◌≡◌, ℕ, List, IfOk, IfErr};
 ghost use Rattle.version_req.specs.Condition.{Alternatives};
 ghost use Rattle.version_req.specs.Grammar.{Spells};
 ghost use Rattle.version_req.specs.Refusal.{HasCause};
 
 use crate::error::ReqError;
 use crate::operator::Operator;
+use crate::parse::{self, Fault};
 use mx_base::ListOf;
 use semver::Version;
 use std::alloc::{AllocError, Global};
@@ -51,6 +52,17 @@ impl Requirement {
             → IfOk result (λ answer. answer ≡ requirement) }
         ensures err { IfErr result (HasCause text.now) }
     {
-        Err(ReqError::OutOfMemory)
+        match parse::alternatives(alloc, text) {
+            Ok(alternatives) => Ok(Requirement { alternatives }),
+            Err(Fault::Stuck(at)) => Err(ReqError::Refused {
+                at: (text.len() - at.left) as u64,
+            }),
+            Err(Fault::OutOfMemory) => Err(ReqError::OutOfMemory),
+        }
     }
 }
+
+/// No text spells two requirements.
+pub fn one_requirement()
+    ensures { (text : List ℕ) (a b : Alternatives) → Spells text a → Spells text b → a ≡ b }
+{}

@@ -1,8 +1,8 @@
 // The readers of the pieces of a requirement. Each gives what it read and what is left of the text, or
 // how many bytes are left where no requirement goes on. They take no memory.
-ghost use Rattle.std.specs.Prelude.{◌≡◌, ◌≤◌, ◌-◌, [], length, true};
+ghost use Rattle.std.specs.Prelude.{◌≡◌, ◌<◌, ◌≤◌, ◌-◌, [], length, true, IfOk, IsSome};
 ghost use Rattle.std.specs.List.{list_all};
-ghost use Rattle.semver.specs.Grammar.{has_leading_zero, is_identifier_byte};
+ghost use Rattle.semver.specs.Grammar.{has_leading_zero, is_build, is_identifier_byte, is_pre_release};
 ghost use Rattle.semver.specs.Order.{is_numeric};
 ghost use Rattle.version_req.specs.Reading as Spec;
 
@@ -269,7 +269,10 @@ fn read_marked(kind: Kind, text: &[u8]) -> Result<(&[u8], &[u8]), Stuck>
 /// The comparison at the front of a text, perhaps after spaces.
 #[tactic(auto, unfolding(crate::specs::Reading::comparison_of))]
 pub(crate) fn read_comparison(text: &[u8]) -> Result<(Scanned<'_>, &[u8]), Stuck>
-    ensures { Spec.scanned result ≡ Spec.comparison_of text.now }
+    ensures value { Spec.scanned result ≡ Spec.comparison_of text.now }
+    ensures pre { IfOk result (λ read. is_pre_release read.0.pre.now ≡ true) }
+    ensures build { IfOk result (λ read. is_build read.0.build.now ≡ true) }
+    ensures shorter { IfOk result (λ read. length read.1.now ≤ length text.now) }
 {
     let (head, rest) = read_head(text)?;
     let (pre, rest) = read_marked(Kind::PreRelease, rest)?;
@@ -297,7 +300,8 @@ fn read_word(text: &[u8]) -> Result<(Option<Joint>, &[u8]), Stuck>
 /// What follows a comparison: nothing but spaces, or a word and at least one space on each side of it.
 #[tactic(auto, unfolding(crate::specs::Reading::joint_of))]
 pub(crate) fn read_joint(text: &[u8]) -> Result<(Option<Joint>, &[u8]), Stuck>
-    ensures { Spec.read_view result ≡ Spec.joint_of text.now }
+    ensures value { Spec.read_view result ≡ Spec.joint_of text.now }
+    ensures shorter { IfOk result (λ read. IsSome read.0 → length read.1.now < length text.now) }
 {
     match text {
         [] => Ok((None, text)),
