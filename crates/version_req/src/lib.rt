@@ -11,6 +11,8 @@ mod operator;
 mod parse;
 mod requirement;
 mod scan;
+#[cfg(test)]
+mod tests;
 
 pub use error::ReqError;
 pub use matching::{compare, matches};

@@ -30,6 +30,20 @@ impl Model for Comparison {
     ghost view = { λ c. record { operator = c.operator; operand = parts_of c.version; patch_written = c.patch_written } };
 }
 
+impl Clone for Comparison {
+    ghost use Rattle.std.specs.Prelude.{◌≡◌};
+
+    ghost is_clone = { λ comparison copy. copy ≡ comparison };
+
+    fn clone(&self) -> Result<Comparison, AllocError> {
+        Ok(Comparison {
+            operator: self.operator,
+            version: self.version.clone()?,
+            patch_written: self.patch_written,
+        })
+    }
+}
+
 /// What a version has to meet: all comparisons of any one alternative.
 #[derive(Debug, Drop)]
 pub struct Requirement {
@@ -42,6 +56,18 @@ impl Model for Requirement {
     ghost Value = { Alternatives };
 
     ghost view = { λ requirement. requirement.alternatives };
+}
+
+impl Clone for Requirement {
+    ghost use Rattle.std.specs.Prelude.{◌≡◌};
+
+    ghost is_clone = { λ requirement copy. copy ≡ requirement };
+
+    fn clone(&self) -> Result<Requirement, AllocError> {
+        Ok(Requirement {
+            alternatives: self.alternatives.clone()?,
+        })
+    }
 }
 
 impl Requirement {
