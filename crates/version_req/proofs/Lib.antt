@@ -1,6 +1,7 @@
 pub mod Ascii
 pub mod Complete
 pub mod MachineSteps
+pub mod ReadingSteps
 pub mod Refused
 pub mod RunSound
 pub mod ScanSteps

@@ -6,15 +6,16 @@ use Rattle.std.proofs.lemmas.Bool.{cases_Bool, eqb-true}
 use Rattle.semver.specs.Grammar.{is_identifier_byte}
 use Rattle.version_req.specs.declared.operator.Operator.{Operator}
 use Rattle.version_req.specs.declared.operator.Operator.TheVariants.{Equal, NotEqual, Greater, GreaterOrEqual, Less, LessOrEqual, Compatible}
-use Rattle.version_req.specs.declared.scan.Joint.{Joint}
-use Rattle.version_req.specs.declared.scan.Joint.TheVariants.{And, Or}
-use Rattle.version_req.specs.declared.scan.Kind.{Kind}
-use Rattle.version_req.specs.declared.scan.Kind.TheVariants.{PreRelease, Build}
+use Rattle.version_req.specs.declared.scanned.Joint.{Joint}
+use Rattle.version_req.specs.declared.scanned.Joint.TheVariants.{And, Or}
+use Rattle.version_req.specs.declared.identifiers.Kind.{Kind}
+use Rattle.version_req.specs.declared.identifiers.Kind.TheVariants.{PreRelease, Build}
 use Rattle.version_req.specs.declared.scan.Head.{Head}
 use Rattle.version_req.specs.declared.scan.Stuck.{Stuck}
 use Rattle.version_req.specs.Condition.{Condition, Alternatives}
 use Rattle.version_req.specs.Machine.{Numbers, Major, Minor, Patch, Place, Lead, Half, Angle, Before, Number, Whole, Ids, AfterPre, After, Gap, Word, Tree, Next, Go, Close, Enter, finish, run, step, joined, with_condition, closed, first_digit, lacking_patch}
 use Rattle.version_req.specs.Reading.{Read, ◌>>=◌, after_byte, comparison_of, completed, condition, digits_of, full_head, head_of, identifiers_from, is_identifier, joint_of, marked_of, number_of, operator_of, patch_of, short_head, stuck, with_digit, with_equal, without_spaces, word_of}
+use Rattle.version_req.proofs.ReadingSteps.{comparison_is, digits_nil, digits_over, digits_refuse, digits_take, head_is, ids_bad, ids_byte, ids_dot, ids_nil_bad, ids_nil_good, ids_stop, joint_nil, joint_other, joint_space, number_digit, number_nil, number_other}
 
 -- ---- single steps
 
@@ -178,25 +179,6 @@ abbrev pub starts_digit : List ℕ → Bool
 starts_digit [] = false
 starts_digit (b ∷ rest) = is_ascii_digit b
 
--- the digits of a number, after its first
-digits_nil : (value : ℕ) → digits_of value [] ≡ Ok (value, [])
-unfolding digits_of
-digits_nil value = refl
-
-digits_take : (value more b : ℕ) (rest : List ℕ) → is_ascii_digit b ≡ true → with_digit value (b - 48) ≡ Some more
-    → digits_of value (b ∷ rest) ≡ digits_of more rest
-unfolding digits_of
-digits_take value more b rest d h = rw (d, h) refl
-
-digits_refuse : (value b : ℕ) (rest : List ℕ) → is_ascii_digit b ≡ true → with_digit value (b - 48) ≡ None
-    → digits_of value (b ∷ rest) ≡ stuck (b ∷ rest)
-unfolding digits_of
-digits_refuse value b rest d h = rw (d, h) refl
-
-digits_over : (value b : ℕ) (rest : List ℕ) → is_ascii_digit b ≡ false → digits_of value (b ∷ rest) ≡ Ok (value, b ∷ rest)
-unfolding digits_of
-digits_over value b rest d = rw d refl
-
 cases_Option : {A : Type 0} (o : Option A) → (o ≡ None) ⊎ ((x : A) × (o ≡ Some x))
 cases_Option None = inl refl
 cases_Option (Some x) = inr (x, refl)
@@ -220,18 +202,6 @@ digits_follow n value (b ∷ rest) = elim (cases_Bool (is_ascii_digit b)) [
   ]
   | inr other ↦ rw (digits_over value b rest other) ((λ tree. refl), other)
 ]
-
-number_digit : (b : ℕ) (rest : List ℕ) → is_ascii_digit b ≡ true → number_of (b ∷ rest) ≡ digits_of (b - 48) rest
-unfolding number_of
-number_digit b rest h = rw h refl
-
-number_other : (b : ℕ) (rest : List ℕ) → is_ascii_digit b ≡ false → number_of (b ∷ rest) ≡ stuck (b ∷ rest)
-unfolding number_of
-number_other b rest h = rw h refl
-
-number_nil : number_of [] ≡ stuck []
-unfolding number_of
-number_nil = refl
 
 -- spaces may stand before the first number alone
 abbrev pub is_major : Numbers → Bool
@@ -316,10 +286,6 @@ patch_follows o a m (b ∷ rest) d = elim (cases_Bool (b == 46)) [
 
 -- ---- the operator and the numbers
 
-head_is : (text : List ℕ) → head_of text ≡ (operator_of (without_spaces text) >>= λ o. number_of (without_spaces o.1) >>= λ a. after_byte 46 a.1 >>= λ t. number_of t >>= λ m. patch_of o.0 a.0 m.0 m.1)
-unfolding head_of
-head_is text = refl
-
 abbrev whole : Head → Place
 whole h = Whole h
 
@@ -341,34 +307,6 @@ head_follows text = rw (head_is text) (
 abbrev pub after_ids : Kind → Head → List ℕ → List ℕ → Place
 after_ids PreRelease h pre text = AfterPre h text
 after_ids Build h pre text = After (condition h pre text)
-
-ids_nil_good : (k : Kind) (text last : List ℕ) → is_identifier k last ≡ true → identifiers_from k text last [] ≡ Ok (text, [])
-unfolding identifiers_from
-ids_nil_good k text last g = rw g refl
-
-ids_nil_bad : (k : Kind) (text last : List ℕ) → is_identifier k last ≡ false → identifiers_from k text last [] ≡ stuck []
-unfolding identifiers_from
-ids_nil_bad k text last g = rw g refl
-
-ids_byte : (k : Kind) (text last : List ℕ) (b : ℕ) (rest : List ℕ) → is_identifier_byte b ≡ true
-    → identifiers_from k text last (b ∷ rest) ≡ identifiers_from k (text ++ b ∷ []) (last ++ b ∷ []) rest
-unfolding identifiers_from
-ids_byte k text last b rest h = rw h refl
-
-ids_dot : (k : Kind) (text last : List ℕ) (b : ℕ) (rest : List ℕ) → is_identifier_byte b ≡ false → is_identifier k last ≡ true → (b == 46) ≡ true
-    → identifiers_from k text last (b ∷ rest) ≡ identifiers_from k (text ++ b ∷ []) [] rest
-unfolding identifiers_from
-ids_dot k text last b rest h g d = rw (h, g, d) refl
-
-ids_stop : (k : Kind) (text last : List ℕ) (b : ℕ) (rest : List ℕ) → is_identifier_byte b ≡ false → is_identifier k last ≡ true → (b == 46) ≡ false
-    → identifiers_from k text last (b ∷ rest) ≡ Ok (text, b ∷ rest)
-unfolding identifiers_from
-ids_stop k text last b rest h g d = rw (h, g, d) refl
-
-ids_bad : (k : Kind) (text last : List ℕ) (b : ℕ) (rest : List ℕ) → is_identifier_byte b ≡ false → is_identifier k last ≡ false
-    → identifiers_from k text last (b ∷ rest) ≡ stuck (b ∷ rest)
-unfolding identifiers_from
-ids_bad k text last b rest h g = rw (h, g) refl
 
 ids_leave : (k : Kind) (h : Head) (pre text last : List ℕ) (b : ℕ) → is_identifier_byte b ≡ false → is_identifier k last ≡ true → (b == 46) ≡ false
     → step (Ids k h pre text last) b ≡ step (after_ids k h pre text) b
@@ -421,10 +359,6 @@ build_follows h pre (b ∷ rest) = elim (cases_Bool (b == 43)) [
 ]
 
 -- ---- a whole comparison
-
-comparison_is : (text : List ℕ) → comparison_of text ≡ (head_of text >>= λ h. marked_of PreRelease h.1 >>= λ pre. marked_of Build pre.1 >>= λ build. Ok (condition h.0 pre.0 build.0, build.1))
-unfolding comparison_of
-comparison_is text = refl
 
 abbrev pub after : Condition → Place
 after c = After c
@@ -481,18 +415,6 @@ word_joins (b ∷ rest) tree h = elim (cases_Bool (b == 97)) [
     | inr n2 ↦ rw (n1, n2) (halt Gap b rest tree (rw (h, n1, n2) refl))
   ]
 ]
-
-joint_nil : joint_of [] ≡ Ok (None, [])
-unfolding joint_of
-joint_nil = refl
-
-joint_space : (b : ℕ) (rest : List ℕ) → (b == 32) ≡ true → joint_of (b ∷ rest) ≡ word_of (without_spaces rest)
-unfolding joint_of
-joint_space b rest h = rw h refl
-
-joint_other : (b : ℕ) (rest : List ℕ) → (b == 32) ≡ false → joint_of (b ∷ rest) ≡ stuck (b ∷ rest)
-unfolding joint_of
-joint_other b rest h = rw h refl
 
 -- what follows the comparison c, where the tree has it already
 abbrev pub JoinsAfter : Condition → List ℕ → Tree → Read (Option Joint) → Type 0

@@ -10,10 +10,10 @@ use Rattle.semver.specs.Grammar.{is_build_identifier, is_identifier_byte}
 use Rattle.semver.specs.Order.{is_numeric}
 use Rattle.version_req.specs.declared.operator.Operator.{Operator}
 use Rattle.version_req.specs.declared.operator.Operator.TheVariants.{Equal, NotEqual, Greater, GreaterOrEqual, Less, LessOrEqual, Compatible}
-use Rattle.version_req.specs.declared.scan.Joint.{Joint}
-use Rattle.version_req.specs.declared.scan.Joint.TheVariants.{And, Or}
-use Rattle.version_req.specs.declared.scan.Kind.{Kind}
-use Rattle.version_req.specs.declared.scan.Kind.TheVariants.{PreRelease, Build}
+use Rattle.version_req.specs.declared.scanned.Joint.{Joint}
+use Rattle.version_req.specs.declared.scanned.Joint.TheVariants.{And, Or}
+use Rattle.version_req.specs.declared.identifiers.Kind.{Kind}
+use Rattle.version_req.specs.declared.identifiers.Kind.TheVariants.{PreRelease, Build}
 use Rattle.version_req.specs.declared.scan.Head.{Head}
 use Rattle.version_req.specs.Condition.{Condition, Alternatives}
 use Rattle.version_req.specs.Grammar.{Begins, Spells}

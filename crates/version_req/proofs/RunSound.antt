@@ -1,7 +1,7 @@
 -- What the machine accepts is spelled so.
 use Rattle.std.proofs.Common.{◌≡◌, ℕ, zero, suc, ◌+◌, ◌<◌, ◌≤◌, ◌++◌, List, [], ◌∷◌, length, Result, Ok, Err, Option, Some, None, refl, sym, ap, ◌∙◌, arith, subst, append_assoc, length-append, codes}
-use Rattle.version_req.specs.declared.scan.Joint.{Joint}
-use Rattle.version_req.specs.declared.scan.Joint.TheVariants.{And, Or}
+use Rattle.version_req.specs.declared.scanned.Joint.{Joint}
+use Rattle.version_req.specs.declared.scanned.Joint.TheVariants.{And, Or}
 use Rattle.version_req.specs.declared.scan.Stuck.{Stuck}
 use Rattle.version_req.specs.Condition.{Condition, Alternatives}
 use Rattle.version_req.specs.Grammar.{Joined, Spells, SpellsAlternatives, SpellsComparison, spaces}

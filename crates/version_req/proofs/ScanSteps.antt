@@ -7,7 +7,7 @@ use Rattle.std.proofs.lemmas.List.{drop_all, drop_more, get_or-drop, take_all, t
 use Rattle.std.proofs.lemmas.List.Folds.{list_all-append}
 use Rattle.std.proofs.lemmas.Grind.{common_steps}
 use Rattle.semver.specs.Grammar.{is_identifier_byte}
-use Rattle.version_req.specs.declared.scan.Kind.{Kind}
+use Rattle.version_req.specs.declared.identifiers.Kind.{Kind}
 use Rattle.version_req.specs.declared.scan.Stuck.{Stuck}
 use Rattle.version_req.specs.Reading.{Read, digits_of, identifiers_from, is_identifier, stuck, with_digit, without_spaces}
 

@@ -14,15 +14,16 @@ use Rattle.semver.specs.Parse.{Parts}
 use Rattle.semver.proofs.Segments.{and-left, and-right, parts-dot, parts-one}
 use Rattle.version_req.specs.declared.operator.Operator.{Operator}
 use Rattle.version_req.specs.declared.operator.Operator.TheVariants.{Equal, NotEqual, Greater, GreaterOrEqual, Less, LessOrEqual, Compatible}
-use Rattle.version_req.specs.declared.scan.Joint.{Joint}
-use Rattle.version_req.specs.declared.scan.Joint.TheVariants.{And, Or}
-use Rattle.version_req.specs.declared.scan.Kind.{Kind}
-use Rattle.version_req.specs.declared.scan.Kind.TheVariants.{PreRelease, Build}
+use Rattle.version_req.specs.declared.scanned.Joint.{Joint}
+use Rattle.version_req.specs.declared.scanned.Joint.TheVariants.{And, Or}
+use Rattle.version_req.specs.declared.identifiers.Kind.{Kind}
+use Rattle.version_req.specs.declared.identifiers.Kind.TheVariants.{PreRelease, Build}
 use Rattle.version_req.specs.declared.scan.Head.{Head}
 use Rattle.version_req.specs.declared.scan.Stuck.{Stuck}
 use Rattle.version_req.specs.Condition.{Condition, Alternatives}
 use Rattle.version_req.specs.Grammar.{Joined, MayLackPatch, Spells, SpellsAlternatives, SpellsComparison, SpellsOperator, operand_text, operator_text, spaces}
 use Rattle.version_req.specs.Reading.{Read, ◌>>=◌, after_byte, comparison_of, completed, condition, digits_of, full_head, head_of, identifiers_from, is_identifier, joint_of, mark_of, marked_of, number_of, operator_of, patch_of, read_view, short_head, stuck, with_digit, with_equal, without_spaces, word_of}
+use Rattle.version_req.proofs.ReadingSteps.{comparison_is, digits_nil, digits_over, digits_refuse, digits_take, head_is, ids_bad, ids_byte, ids_dot, ids_nil_bad, ids_nil_good, ids_stop, joint_nil, joint_other, joint_space, number_digit, number_nil, number_other}
 
 -- ---- answers
 
@@ -124,24 +125,6 @@ operator_of-Ok (b ∷ r) o rest h = elim (cases_Bool (b == 61)) [
 
 -- ---- numbers
 
-digits_nil : (value : ℕ) → digits_of value [] ≡ Ok (value, [])
-unfolding digits_of
-digits_nil value = refl
-
-digits_take : (value more b : ℕ) (rest : List ℕ) → is_ascii_digit b ≡ true → with_digit value (b - 48) ≡ Some more
-    → digits_of value (b ∷ rest) ≡ digits_of more rest
-unfolding digits_of
-digits_take value more b rest d h = rw (d, h) refl
-
-digits_refuse : (value b : ℕ) (rest : List ℕ) → is_ascii_digit b ≡ true → with_digit value (b - 48) ≡ None
-    → digits_of value (b ∷ rest) ≡ stuck (b ∷ rest)
-unfolding digits_of
-digits_refuse value b rest d h = rw (d, h) refl
-
-digits_over : (value b : ℕ) (rest : List ℕ) → is_ascii_digit b ≡ false → digits_of value (b ∷ rest) ≡ Ok (value, b ∷ rest)
-unfolding digits_of
-digits_over value b rest d = rw d refl
-
 -- a number that took one digit more
 with_digit-cases : (value digit : ℕ) → (with_digit value digit ≡ None) ⊎ ((0 < value) × (value * 10 + digit < 2 ^ 64) × (with_digit value digit ≡ Some (value * 10 + digit)))
 with_digit-cases value digit = elim (cases_Bool (value == 0)) [
@@ -181,18 +164,6 @@ digits_of-Ok value (b ∷ r) v rest fits h = elim (cases_Bool (is_ascii_digit b)
       let pair = ok_pair value v (b ∷ r) rest (sym (digits_over value b r other) ∙ h) in
       (rw (pair.0, pair.1) refl, rw (← pair.0) fits)
 ]
-
-number_nil : number_of [] ≡ stuck []
-unfolding number_of
-number_nil = refl
-
-number_digit : (b : ℕ) (rest : List ℕ) → is_ascii_digit b ≡ true → number_of (b ∷ rest) ≡ digits_of (b - 48) rest
-unfolding number_of
-number_digit b rest h = rw h refl
-
-number_other : (b : ℕ) (rest : List ℕ) → is_ascii_digit b ≡ false → number_of (b ∷ rest) ≡ stuck (b ∷ rest)
-unfolding number_of
-number_other b rest h = rw h refl
 
 pub number_of-Ok : (text : List ℕ) (v : ℕ) (rest : List ℕ) → number_of text ≡ Ok (v, rest) → (text ≡ decimal v ++ rest) × (v < 2 ^ 64)
 number_of-Ok [] v rest h = cc (sym number_nil ∙ h)
@@ -282,10 +253,6 @@ pub record HeadRead (text rest : List ℕ) (h : Head) : Type 0 where
   pub bytes : (before : ℕ) × (op : List ℕ) × (gap : ℕ) × SpellsOperator op h.operator
       × (text ≡ spaces before ++ (op ++ (spaces gap ++ (numbers_text h.patch_written h.major h.minor h.patch ++ rest))))
 
-head_is : (text : List ℕ) → head_of text ≡ (operator_of (without_spaces text) >>= λ o. number_of (without_spaces o.1) >>= λ a. after_byte 46 a.1 >>= λ t. number_of t >>= λ m. patch_of o.0 a.0 m.0 m.1)
-unfolding head_of
-head_is text = refl
-
 pub head_of-Ok : (text : List ℕ) (h : Head) (rest : List ℕ) → head_of text ≡ Ok (h, rest) → HeadRead text rest h
 head_of-Ok text h rest e =
     let o = bind_ok (operator_of (without_spaces text)) _ (h, rest) (sym (head_is text) ∙ e) in
@@ -316,34 +283,6 @@ head_of-Ok text h rest e =
     }
 
 -- ---- identifiers
-
-ids_nil_good : (k : Kind) (text last : List ℕ) → is_identifier k last ≡ true → identifiers_from k text last [] ≡ Ok (text, [])
-unfolding identifiers_from
-ids_nil_good k text last g = rw g refl
-
-ids_nil_bad : (k : Kind) (text last : List ℕ) → is_identifier k last ≡ false → identifiers_from k text last [] ≡ stuck []
-unfolding identifiers_from
-ids_nil_bad k text last g = rw g refl
-
-ids_byte : (k : Kind) (text last : List ℕ) (b : ℕ) (rest : List ℕ) → is_identifier_byte b ≡ true
-    → identifiers_from k text last (b ∷ rest) ≡ identifiers_from k (text ++ b ∷ []) (last ++ b ∷ []) rest
-unfolding identifiers_from
-ids_byte k text last b rest h = rw h refl
-
-ids_dot : (k : Kind) (text last : List ℕ) (b : ℕ) (rest : List ℕ) → is_identifier_byte b ≡ false → is_identifier k last ≡ true → (b == 46) ≡ true
-    → identifiers_from k text last (b ∷ rest) ≡ identifiers_from k (text ++ b ∷ []) [] rest
-unfolding identifiers_from
-ids_dot k text last b rest h g d = rw (h, g, d) refl
-
-ids_stop : (k : Kind) (text last : List ℕ) (b : ℕ) (rest : List ℕ) → is_identifier_byte b ≡ false → is_identifier k last ≡ true → (b == 46) ≡ false
-    → identifiers_from k text last (b ∷ rest) ≡ Ok (text, b ∷ rest)
-unfolding identifiers_from
-ids_stop k text last b rest h g d = rw (h, g, d) refl
-
-ids_bad : (k : Kind) (text last : List ℕ) (b : ℕ) (rest : List ℕ) → is_identifier_byte b ≡ false → is_identifier k last ≡ false
-    → identifiers_from k text last (b ∷ rest) ≡ stuck (b ∷ rest)
-unfolding identifiers_from
-ids_bad k text last b rest h g = rw (h, g) refl
 
 -- the bytes that were taken make good identifiers, with those of the one in hand
 abbrev IdsRead : Kind → List ℕ → List ℕ → List ℕ → List ℕ → List ℕ → Type 0
@@ -422,13 +361,11 @@ operand-split : (w : Bool) (a m p : ℕ) (pre build : List ℕ)
 operand-split true a m p pre build = full_text (decimal a) (decimal m) (decimal p) (marked 45 pre ++ marked 43 build)
 operand-split false a m p pre build = short_text (decimal a) (decimal m) (marked 45 pre ++ marked 43 build)
 
-comparison_is : (text : List ℕ) → comparison_of text ≡ (head_of text >>= λ h. marked_of PreRelease h.1 >>= λ pre. marked_of Build pre.1 >>= λ build. Ok (condition h.0 pre.0 build.0, build.1))
-unfolding comparison_of
-comparison_is text = refl
-
-regroup : (s op gap numbers pre build rest : List ℕ)
-    → s ++ (op ++ (gap ++ (numbers ++ (pre ++ (build ++ rest))))) ≡ s ++ ((op ++ (gap ++ (numbers ++ (pre ++ build)))) ++ rest)
-regroup s op gap numbers pre build rest = simp append_assoc
+-- a text by its pieces, as the grammar groups them
+whole_text : (text s op gap numbers after_numbers pre after_pre build after_build rest operand : List ℕ)
+    → text ≡ s ++ (op ++ (gap ++ (numbers ++ after_numbers))) → after_numbers ≡ pre ++ after_pre → after_pre ≡ build ++ after_build → after_build ≡ rest
+    → operand ≡ numbers ++ (pre ++ build) → text ≡ s ++ ((op ++ (gap ++ operand)) ++ rest)
+whole_text text s op gap numbers after_numbers pre after_pre build after_build rest operand e f g h i = rw (e, f, g, h, i) (simp append_assoc)
 
 abbrev pub ReadsComparison : List ℕ → List ℕ → Condition → Type 0
 ReadsComparison text rest c = (before : ℕ) × (t : List ℕ) × (text ≡ spaces before ++ (t ++ rest)) × SpellsComparison t c
@@ -443,15 +380,11 @@ comparison_of-Ok text c rest e =
     let pre = marked_of-Ok PreRelease h.0.1 p.0.0 p.0.1 p.1 in
     let build = marked_of-Ok Build p.0.1 b.0.0 b.0.1 b.1 in
     let s = head.bytes in
-    let numbers = numbers_text (h.0.0).patch_written (h.0.0).major (h.0.0).minor (h.0.0).patch in
-    let operand = operand_text (h.0.0).patch_written ((h.0.0).major, (h.0.0).minor, (h.0.0).patch, p.0.0, b.0.0) in
-    let t = s.1 ++ (spaces s.2 ++ operand) in
-    let tail : h.0.1 ≡ marked 45 p.0.0 ++ (marked 43 b.0.0 ++ rest) =
-    pre.0 ∙ ap (λ (x : List ℕ). marked 45 p.0.0 ++ x) (build.0 ∙ ap (λ (x : List ℕ). marked 43 b.0.0 ++ x) pair.1) in
+    let n = h.0.0 in
+    let t = s.1 ++ (spaces s.2 ++ operand_text n.patch_written (n.major, n.minor, n.patch, p.0.0, b.0.0)) in
     let whole : text ≡ spaces s.0 ++ (t ++ rest) =
-    s.4 ∙ ap (λ (x : List ℕ). spaces s.0 ++ (s.1 ++ (spaces s.2 ++ (numbers ++ x)))) tail
-    ∙ regroup (spaces s.0) s.1 (spaces s.2) numbers (marked 45 p.0.0) (marked 43 b.0.0) rest
-    ∙ ap (λ (x : List ℕ). spaces s.0 ++ ((s.1 ++ (spaces s.2 ++ x)) ++ rest)) (sym (operand-split (h.0.0).patch_written (h.0.0).major (h.0.0).minor (h.0.0).patch p.0.0 b.0.0)) in
+    whole_text text (spaces s.0) s.1 (spaces s.2) (numbers_text n.patch_written n.major n.minor n.patch) h.0.1 (marked 45 p.0.0) p.0.1 (marked 43 b.0.0) b.0.1 rest
+    (operand_text n.patch_written (n.major, n.minor, n.patch, p.0.0, b.0.0)) s.4 pre.0 build.0 pair.1 (operand-split n.patch_written n.major n.minor n.patch p.0.0 b.0.0) in
     let spelled : SpellsComparison t (condition h.0.0 p.0.0 b.0.0) = record {
       valid = (head.major, head.minor, head.patch, pre.1, build.1);
       patch = head.lacks;
@@ -477,6 +410,12 @@ word_read text j o s rest bytes e =
     let pair = got_joint (Some j) o s rest e in
     subst (λ (q : Option Joint). ReadsWord text q rest) pair.0 (bytes ∙ ap (λ (t : List ℕ). joint_word j ++ (32 ∷ t)) pair.1)
 
+and_bytes : (b : ℕ) (r t u v : List ℕ) → b ≡ 97 → r ≡ 110 ∷ t → t ≡ 100 ∷ u → u ≡ 32 ∷ v → b ∷ r ≡ codes "and" ++ (32 ∷ v)
+and_bytes b r t u v a n d s = rw (a, n, d, s) refl
+
+or_bytes : (b : ℕ) (r t u : List ℕ) → b ≡ 111 → r ≡ 114 ∷ t → t ≡ 32 ∷ u → b ∷ r ≡ codes "or" ++ (32 ∷ u)
+or_bytes b r t u o n s = rw (o, n, s) refl
+
 word_of-Ok : (text : List ℕ) (o : Option Joint) (rest : List ℕ) → word_of text ≡ Ok (o, rest) → ReadsWord text o rest
 word_of-Ok [] o rest h =
     let pair = got_joint None o [] rest h in
@@ -486,30 +425,17 @@ word_of-Ok (b ∷ r) o rest h = elim (cases_Bool (b == 97)) [
       let n = bind_ok (after_byte 110 r) (λ t. after_byte 100 t >>= λ u. after_byte 32 u >>= λ v. got_pair (Some And) v) (o, rest) (rw a at h) in
       let d = bind_ok (after_byte 100 n.0) (λ u. after_byte 32 u >>= λ v. got_pair (Some And) v) (o, rest) n.2 in
       let s = bind_ok (after_byte 32 d.0) (λ v. got_pair (Some And) v) (o, rest) d.2 in
-      let bytes : r ≡ 110 ∷ 100 ∷ 32 ∷ s.0 =
-      after_byte-Ok 110 r n.0 n.1 ∙ ap (λ (t : List ℕ). 110 ∷ t) (after_byte-Ok 100 n.0 d.0 d.1 ∙ ap (λ (t : List ℕ). 100 ∷ t) (after_byte-Ok 32 d.0 s.0 s.1)) in
-      word_read (b ∷ r) And o s.0 rest (ap (λ (k : ℕ). k ∷ r) (eqb-true b 97 a) ∙ ap (λ (t : List ℕ). 97 ∷ t) bytes) s.2
+      let bytes = and_bytes b r n.0 d.0 s.0 (eqb-true b 97 a) (after_byte-Ok 110 r n.0 n.1) (after_byte-Ok 100 n.0 d.0 d.1) (after_byte-Ok 32 d.0 s.0 s.1) in
+      word_read (b ∷ r) And o s.0 rest bytes s.2
   | inr n1 ↦ elim (cases_Bool (b == 111)) [
     | inl oh ↦
         let n = bind_ok (after_byte 114 r) (λ t. after_byte 32 t >>= λ u. got_pair (Some Or) u) (o, rest) (rw (n1, oh) at h) in
         let s = bind_ok (after_byte 32 n.0) (λ u. got_pair (Some Or) u) (o, rest) n.2 in
-        let bytes : r ≡ 114 ∷ 32 ∷ s.0 = after_byte-Ok 114 r n.0 n.1 ∙ ap (λ (t : List ℕ). 114 ∷ t) (after_byte-Ok 32 n.0 s.0 s.1) in
-        word_read (b ∷ r) Or o s.0 rest (ap (λ (k : ℕ). k ∷ r) (eqb-true b 111 oh) ∙ ap (λ (t : List ℕ). 111 ∷ t) bytes) s.2
+        let bytes = or_bytes b r n.0 s.0 (eqb-true b 111 oh) (after_byte-Ok 114 r n.0 n.1) (after_byte-Ok 32 n.0 s.0 s.1) in
+        word_read (b ∷ r) Or o s.0 rest bytes s.2
     | inr n2 ↦ cc (rw (n1, n2) at h)
   ]
 ]
-
-joint_nil : joint_of [] ≡ Ok (None, [])
-unfolding joint_of
-joint_nil = refl
-
-joint_space : (b : ℕ) (rest : List ℕ) → (b == 32) ≡ true → joint_of (b ∷ rest) ≡ word_of (without_spaces rest)
-unfolding joint_of
-joint_space b rest h = rw h refl
-
-joint_other : (b : ℕ) (rest : List ℕ) → (b == 32) ≡ false → joint_of (b ∷ rest) ≡ stuck (b ∷ rest)
-unfolding joint_of
-joint_other b rest h = rw h refl
 
 abbrev pub ReadsJoint : List ℕ → Option Joint → List ℕ → Type 0
 ReadsJoint text None rest = (n : ℕ) × (text ≡ spaces n)

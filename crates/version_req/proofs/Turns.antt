@@ -1,6 +1,6 @@
 -- The turns of the loop that reads a requirement, by the machine.
 use Rattle.std.proofs.Common.{◌≡◌, ℕ, ◌++◌, List, [], ◌∷◌, Result, Ok, Err, IfErr, IsErrAnd, Option, Some, None, sym, ap, ◌∙◌}
-use Rattle.version_req.specs.declared.scan.Joint.{Joint}
+use Rattle.version_req.specs.declared.scanned.Joint.{Joint}
 use Rattle.version_req.specs.declared.parse.Fault.{Fault}
 use Rattle.version_req.specs.declared.parse.Fault.TheVariants as faults
 use Rattle.version_req.specs.declared.scan.Stuck.{Stuck}

@@ -6,11 +6,13 @@
 #![tactic(auto)]
 
 mod error;
+mod identifiers;
 mod matching;
 mod operator;
 mod parse;
 mod requirement;
 mod scan;
+mod scanned;
 #[cfg(test)]
 mod tests;
 

@@ -15,6 +15,7 @@ pub enum Operator {
     Less,
     /// `<=`
     LessOrEqual,
-    /// `~>`: at least the operand, with its major number, and its minor number where the patch is written.
+    /// `~>`: at least the operand, with its major number, and with its minor number too where the patch
+    /// is written.
     Compatible,
 }

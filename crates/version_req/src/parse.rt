@@ -7,7 +7,8 @@ ghost use Rattle.version_req.specs.Reading.{scanned_view};
 ghost use Rattle.version_req.specs.Stops.{StopsAs};
 
 use crate::requirement::Comparison;
-use crate::scan::{self, Joint, Scanned};
+use crate::scan;
+use crate::scanned::{Joint, Scanned, read_comparison, read_joint};
 use mx_base::ListOf;
 use semver::{BuildMetadata, Prerelease, Version};
 use std::alloc::{AllocError, Global};
@@ -107,9 +108,9 @@ pub(crate) fn alternatives(alloc: Global, text: &[u8]) -> Result<ListOf<ListOf<C
     let mut group = ListOf::new(alloc);
     let mut rest = text;
     'comparisons: loop {
-        let (scanned, after) = scan::read_comparison(rest)?;
+        let (scanned, after) = read_comparison(rest)?;
         group.push(owned(alloc, &scanned)?)?;
-        let (joint, next) = scan::read_joint(after)?;
+        let (joint, next) = read_joint(after)?;
         let Some(joint) = joint else {
             done.push(group)?;
             return Ok(done);

@@ -27,7 +27,11 @@ impl Model for Comparison {
 
     ghost Value = { Condition };
 
-    ghost view = { λ c. record { operator = c.operator; operand = parts_of c.version; patch_written = c.patch_written } };
+    ghost view = { λ c. record {
+      operator = c.operator;
+      operand = parts_of c.version;
+      patch_written = c.patch_written;
+    } };
 }
 
 impl Clone for Comparison {

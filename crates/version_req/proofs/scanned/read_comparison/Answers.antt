@@ -1,7 +1,7 @@
 use Rattle.std.proofs.Common.{◌≡◌, Ok, rules}
 use Rattle.version_req.specs.Reading.{comparison_of, condition}
 use Rattle.version_req.proofs.Sound.{ComparisonFits, comparison_fits}
-use Rattle.version_req.proofs.scan.read_comparison.Goals as goal
+use Rattle.version_req.proofs.scanned.read_comparison.Goals as goal
 
 pub returns-clause-pre : goal.returns-clause-pre
 unfolding comparison_of

@@ -3,7 +3,7 @@ use Rattle.std.specs.List.{list_all}
 use Rattle.semver.specs.Grammar.{is_identifier_byte}
 use Rattle.version_req.specs.Reading.{identifiers_from}
 use Rattle.version_req.proofs.ScanSteps.{ids_at, part}
-use Rattle.version_req.proofs.scan.read_identifiers.Given as goal
+use Rattle.version_req.proofs.identifiers.read_identifiers.Given as goal
 
 abbrev pub invariant-bytes : goal.invariant-bytes
 invariant-bytes l = record {

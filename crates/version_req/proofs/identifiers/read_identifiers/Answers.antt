@@ -3,8 +3,8 @@ use Rattle.std.proofs.lemmas.List.{drop_all, take_rest}
 use Rattle.semver.specs.Grammar.{is_identifier_byte}
 use Rattle.version_req.specs.Reading.{is_identifier}
 use Rattle.version_req.proofs.ScanSteps.{ids_dot, ids_end, ids_end_stuck, ids_letter, ids_stop, ids_stuck, part, stuck_at, stuck_end}
-use Rattle.version_req.proofs.scan.read_identifiers.Goals as goal
-use Rattle.version_req.proofs.scan.read_identifiers.Goals.{then-not-is_identifier_byte+else-not-is_identifier+else-byte-ne46, else-not-is_identifier_byte}
+use Rattle.version_req.proofs.identifiers.read_identifiers.Goals as goal
+use Rattle.version_req.proofs.identifiers.read_identifiers.Goals.{then-not-is_identifier_byte+else-not-is_identifier+else-byte-ne46, else-not-is_identifier_byte}
 
 pub returns-then-not-is_identifier : goal.returns-then-not-is_identifier
 returns-then-not-is_identifier c =
