@@ -1,5 +1,5 @@
 -- Pre-releases and build metadata are ASCII.
-use Rattle.std.proofs.Common.{◌≡◌, ℕ, ◌==◌, ◌&&◌, ◌<◌, List, [], ◌∷◌, Bool, true, false, refl, sym, arith, inl, inr, subst, IsUtf8, IsAscii}
+use Rattle.std.proofs.Common.{◌≡◌, ℕ, ◌==◌, ◌&&◌, ◌<◌, List, [], ◌∷◌, Bool, true, refl, sym, arith, inl, inr, subst, IsUtf8, IsAscii}
 use Rattle.std.specs.List.{list_all}
 use Rattle.std.proofs.lemmas.Bool.{cases_Bool, eqb-true}
 use Rattle.std.proofs.lemmas.Str.{IsUtf8-from_ascii}

@@ -1,5 +1,5 @@
 -- The machine accepts what the grammar spells, with its requirement.
-use Rattle.std.proofs.Common.{◌≡◌, ◌≢◌, ◌⊎◌, ℕ, zero, suc, ◌+◌, ◌-◌, ◌*◌, ◌/◌, ◌%◌, ◌^◌, ◌<◌, ◌≤◌, ◌==◌, ◌++◌, ◌&&◌, List, [], ◌∷◌, length, Bool, true, false, IsFalse, Result, Ok, Err, Option, Some, None, refl, sym, ap, ◌∙◌, arith, inl, inr, subst, append_assoc, append-nil, decimal, codes}
+use Rattle.std.proofs.Common.{◌≡◌, ℕ, zero, suc, ◌+◌, ◌-◌, ◌*◌, ◌/◌, ◌%◌, ◌^◌, ◌<◌, ◌≤◌, ◌==◌, ◌++◌, List, [], ◌∷◌, Bool, true, false, IsFalse, Result, Ok, Some, refl, sym, ap, ◌∙◌, arith, inl, inr, subst, append_assoc, append-nil, decimal, codes}
 use Rattle.std.specs.Char.{is_ascii_digit}
 use Rattle.std.specs.List.{list_all}
 use Rattle.std.proofs.lemmas.Bool.{cases_Bool, eq-eqb, eqb-true, lt-leb}
@@ -14,16 +14,15 @@ use Rattle.semver.specs.Parse.{Parts}
 use Rattle.semver.proofs.Segments.{and-left, and-right, parts-dot, parts-one}
 use Rattle.version_req.specs.declared.operator.Operator.{Operator}
 use Rattle.version_req.specs.declared.operator.Operator.TheVariants.{Equal, NotEqual, Greater, GreaterOrEqual, Less, LessOrEqual, Compatible}
-use Rattle.version_req.specs.declared.scanned.Joint.{Joint}
 use Rattle.version_req.specs.declared.scanned.Joint.TheVariants.{And, Or}
 use Rattle.version_req.specs.declared.identifiers.Kind.{Kind}
 use Rattle.version_req.specs.declared.identifiers.Kind.TheVariants.{PreRelease, Build}
 use Rattle.version_req.specs.declared.scan.Head.{Head}
 use Rattle.version_req.specs.Condition.{Condition, Alternatives}
 use Rattle.version_req.specs.Grammar.{Joined, MayLackPatch, Spells, SpellsAlternatives, SpellsComparison, SpellsOperator, operand_text, operator_text, spaces}
-use Rattle.version_req.specs.Machine.{Numbers, Major, Minor, Patch, Place, Lead, Half, Angle, Before, Number, Whole, Ids, AfterPre, After, Gap, Word, Tree, Next, Go, Close, Enter, closed, empty, ends, finish, joined, numbers_end, run, step, with_condition}
+use Rattle.version_req.specs.Machine.{Numbers, Major, Minor, Patch, Place, Lead, Half, Angle, Before, Number, Ids, Gap, Word, Tree, Go, Close, closed, empty, finish, joined, run, step, with_condition}
 use Rattle.version_req.specs.Reading.{condition, full_head, is_identifier, with_digit}
-use Rattle.version_req.proofs.MachineSteps.{alike, at_end, close, enter, go, starts_space}
+use Rattle.version_req.proofs.MachineSteps.{alike, at_end, close, enter, go}
 
 -- ---- spaces
 

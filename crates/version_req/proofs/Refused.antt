@@ -1,5 +1,5 @@
 -- Where the machine is stuck: some text leads on from each place before, and none from there.
-use Rattle.std.proofs.Common.{◌≡◌, ◌⊎◌, ℕ, zero, suc, ◌+◌, ◌-◌, ◌<◌, ◌≤◌, ◌==◌, ◌++◌, ◌&&◌, List, [], ◌∷◌, length, take, Bool, true, false, not, Result, Ok, Err, Option, Some, None, refl, sym, ap, ◌∙◌, arith, inl, inr, subst, append_assoc, append-nil, length-append}
+use Rattle.std.proofs.Common.{◌≡◌, ◌⊎◌, ℕ, suc, ◌+◌, ◌-◌, ◌<◌, ◌≤◌, ◌==◌, ◌++◌, ◌&&◌, List, [], ◌∷◌, length, take, Bool, true, false, Result, Ok, Err, Option, Some, None, refl, sym, ap, ◌∙◌, arith, inl, inr, subst, append_assoc, length-append}
 use Rattle.std.specs.Prelude.{if◌then◌else◌, nat_lt}
 use Rattle.std.specs.Char.{is_ascii_digit}
 use Rattle.std.specs.List.{list_all}
@@ -16,8 +16,8 @@ use Rattle.version_req.specs.declared.identifiers.Kind.{Kind}
 use Rattle.version_req.specs.declared.identifiers.Kind.TheVariants.{PreRelease, Build}
 use Rattle.version_req.specs.declared.scan.Head.{Head}
 use Rattle.version_req.specs.Condition.{Condition, Alternatives}
-use Rattle.version_req.specs.Grammar.{Begins, Spells}
-use Rattle.version_req.specs.Machine.{Numbers, Major, Minor, Patch, Place, Lead, Half, Angle, Before, Number, Whole, Ids, AfterPre, After, Gap, Word, Tree, Next, Go, Close, Enter, after_letter, closed, closing, empty, ends, finish, ids_end, ids_ends, joined, lacking_patch, next_digit, number_end, numbers_end, run, step, with_condition}
+use Rattle.version_req.specs.Grammar.{Begins}
+use Rattle.version_req.specs.Machine.{Numbers, Major, Minor, Patch, Place, Lead, Half, Angle, Before, Number, Whole, Ids, AfterPre, After, Gap, Word, Tree, Next, Go, Close, Enter, after_letter, closed, closing, empty, ends, finish, ids_end, ids_ends, joined, lacking_patch, next_digit, number_end, run, step, with_condition}
 use Rattle.version_req.specs.Reading.{is_identifier, with_digit}
 use Rattle.version_req.specs.Refusal.{IsRefusedAt}
 use Rattle.version_req.proofs.Complete.{run-Spells}

@@ -1,14 +1,13 @@
 -- What the machine accepts is spelled so.
-use Rattle.std.proofs.Common.{◌≡◌, ℕ, zero, suc, ◌+◌, ◌<◌, ◌≤◌, ◌++◌, List, [], ◌∷◌, length, Result, Ok, Err, Option, Some, None, refl, sym, ap, ◌∙◌, arith, subst, append_assoc, length-append, codes}
+use Rattle.std.proofs.Common.{◌≡◌, ℕ, zero, suc, ◌<◌, ◌++◌, List, [], ◌∷◌, length, Result, Ok, Err, Option, Some, None, refl, sym, ap, ◌∙◌, arith, subst, append_assoc, length-append, codes}
 use Rattle.version_req.specs.declared.scanned.Joint.{Joint}
 use Rattle.version_req.specs.declared.scanned.Joint.TheVariants.{And, Or}
-use Rattle.version_req.specs.declared.scan.Stuck.{Stuck}
 use Rattle.version_req.specs.Condition.{Condition, Alternatives}
-use Rattle.version_req.specs.Grammar.{Joined, Spells, SpellsAlternatives, SpellsComparison, spaces}
-use Rattle.version_req.specs.Machine.{After, Lead, Tree, closed, empty, joined, run, with_condition}
+use Rattle.version_req.specs.Grammar.{Spells, SpellsAlternatives, SpellsComparison, spaces}
+use Rattle.version_req.specs.Machine.{After, Lead, Tree, empty, run}
 use Rattle.version_req.specs.Reading.{Read, comparison_of, joint_of}
 use Rattle.version_req.proofs.MachineSteps.{Follows, JoinsAfter, after, comparison_follows, joint_follows}
-use Rattle.version_req.proofs.Sound.{ReadsComparison, ReadsJoint, comparison_of-Ok, joint_of-Ok, joint_word}
+use Rattle.version_req.proofs.Sound.{ReadsComparison, comparison_of-Ok, joint_of-Ok}
 
 -- ---- one comparison in front of a requirement
 

@@ -1,17 +1,16 @@
 -- What the readers read, and what the machine accepts, is spelled so.
-use Rattle.std.proofs.Common.{◌≡◌, ◌≢◌, ◌⊎◌, ℕ, zero, suc, ◌+◌, ◌-◌, ◌*◌, ◌/◌, ◌%◌, ◌^◌, ◌<◌, ◌≤◌, ◌==◌, ◌++◌, ◌&&◌, List, [], ◌∷◌, length, Bool, true, false, IsFalse, Result, Ok, Err, IfOk, IsSome, Option, Some, None, refl, sym, ap, ◌∙◌, arith, inl, inr, subst, append_assoc, append-nil, length-append, decimal, codes}
+use Rattle.std.proofs.Common.{◌≡◌, ◌⊎◌, ℕ, suc, ◌+◌, ◌-◌, ◌*◌, ◌/◌, ◌%◌, ◌^◌, ◌<◌, ◌≤◌, ◌==◌, ◌++◌, List, [], ◌∷◌, length, Bool, true, false, IsFalse, Result, Ok, Err, IfOk, IsSome, Option, Some, None, refl, sym, ap, ◌∙◌, arith, inl, inr, subst, append_assoc, append-nil, length-append, decimal, codes}
 use Rattle.std.specs.Borrow.{Bor}
 use Rattle.std.specs.Char.{is_ascii_digit}
 use Rattle.std.specs.List.{list_all}
-use Rattle.std.proofs.lemmas.Bool.{cases_Bool, cases_lt, eq-eqb, eqb-true, le-leb, lt-leb}
+use Rattle.std.proofs.lemmas.Bool.{cases_Bool, cases_lt, eqb-true, le-leb, lt-leb}
 use Rattle.std.proofs.lemmas.Bool.Decides.{nat_tests}
 use Rattle.std.proofs.lemmas.Fmt.{decimal_digit, decimal_step}
 use Rattle.std.proofs.lemmas.List.Folds.{list_all-append}
-use Rattle.semver.specs.Grammar.{IsValid, is_build, is_identifier_byte, is_pre_release}
-use Rattle.semver.specs.Identifiers.{marked, parts_text}
+use Rattle.semver.specs.Grammar.{is_build, is_identifier_byte, is_pre_release}
+use Rattle.semver.specs.Identifiers.{marked}
 use Rattle.semver.specs.Order.{parts}
-use Rattle.semver.specs.Parse.{Parts}
-use Rattle.semver.proofs.Segments.{and-left, and-right, parts-dot, parts-one}
+use Rattle.semver.proofs.Segments.{parts-dot, parts-one}
 use Rattle.version_req.specs.declared.operator.Operator.{Operator}
 use Rattle.version_req.specs.declared.operator.Operator.TheVariants.{Equal, NotEqual, Greater, GreaterOrEqual, Less, LessOrEqual, Compatible}
 use Rattle.version_req.specs.declared.scanned.Joint.{Joint}
@@ -20,9 +19,9 @@ use Rattle.version_req.specs.declared.identifiers.Kind.{Kind}
 use Rattle.version_req.specs.declared.identifiers.Kind.TheVariants.{PreRelease, Build}
 use Rattle.version_req.specs.declared.scan.Head.{Head}
 use Rattle.version_req.specs.declared.scan.Stuck.{Stuck}
-use Rattle.version_req.specs.Condition.{Condition, Alternatives}
-use Rattle.version_req.specs.Grammar.{Joined, MayLackPatch, Spells, SpellsAlternatives, SpellsComparison, SpellsOperator, operand_text, operator_text, spaces}
-use Rattle.version_req.specs.Reading.{Read, ◌>>=◌, after_byte, comparison_of, completed, condition, digits_of, full_head, head_of, identifiers_from, is_identifier, joint_of, mark_of, marked_of, number_of, operator_of, patch_of, read_view, short_head, stuck, with_digit, with_equal, without_spaces, word_of}
+use Rattle.version_req.specs.Condition.{Condition}
+use Rattle.version_req.specs.Grammar.{SpellsComparison, SpellsOperator, operand_text, operator_text, spaces}
+use Rattle.version_req.specs.Reading.{Read, ◌>>=◌, after_byte, comparison_of, completed, condition, digits_of, full_head, head_of, identifiers_from, is_identifier, joint_of, mark_of, marked_of, number_of, operator_of, patch_of, read_view, short_head, with_digit, with_equal, without_spaces, word_of}
 use Rattle.version_req.proofs.ReadingSteps.{comparison_is, digits_nil, digits_over, digits_refuse, digits_take, head_is, ids_bad, ids_byte, ids_dot, ids_nil_bad, ids_nil_good, ids_stop, joint_nil, joint_other, joint_space, number_digit, number_nil, number_other}
 
 -- ---- answers

@@ -1,12 +1,12 @@
 -- The turns of the loop that reads a requirement, by the machine.
-use Rattle.std.proofs.Common.{◌≡◌, ℕ, ◌++◌, List, [], ◌∷◌, Result, Ok, Err, IfErr, IsErrAnd, Option, Some, None, sym, ap, ◌∙◌}
+use Rattle.std.proofs.Common.{◌≡◌, ℕ, ◌++◌, List, [], ◌∷◌, Result, Ok, Err, IfErr, IsErrAnd, Option, Some, None, ◌∙◌}
 use Rattle.version_req.specs.declared.scanned.Joint.{Joint}
 use Rattle.version_req.specs.declared.parse.Fault.{Fault}
 use Rattle.version_req.specs.declared.parse.Fault.TheVariants as faults
 use Rattle.version_req.specs.declared.scan.Stuck.{Stuck}
 use Rattle.version_req.specs.Condition.{Alternatives, Condition}
 use Rattle.version_req.specs.Stops.{StopsAs}
-use Rattle.version_req.specs.Machine.{After, Lead, Tree, closed, empty, joined, run, with_condition}
+use Rattle.version_req.specs.Machine.{After, Lead, Tree, empty, joined, run}
 use Rattle.version_req.specs.Reading.{Read, comparison_of, joint_of}
 use Rattle.version_req.proofs.MachineSteps.{Follows, JoinsAfter, after, comparison_follows, joint_follows}
 

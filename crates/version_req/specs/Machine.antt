@@ -1,7 +1,7 @@
 -- How far a requirement has been read, byte by byte: a machine that goes on exactly while the bytes
 -- begin some requirement. proofs/ shows that it accepts what the grammar spells and nothing else, that
 -- from each place of it some text leads to a requirement, and that the readers of `scan` follow it.
-use Rattle.std.specs.Prelude.{◌≡◌, ℕ, suc, ◌-◌, ◌==◌, Bool, true, false, Option, Some, None, Result, Ok, Err, List, [], ◌∷◌, ◌++◌, length, if◌then◌else◌}
+use Rattle.std.specs.Prelude.{ℕ, suc, ◌-◌, ◌==◌, false, Option, Some, None, Result, Ok, Err, List, [], ◌∷◌, ◌++◌, length, if◌then◌else◌}
 use Rattle.std.specs.Char.{is_ascii_digit}
 use Rattle.semver.specs.Grammar.{is_identifier_byte}
 use Rattle.version_req.specs.declared.operator.Operator.{Operator}

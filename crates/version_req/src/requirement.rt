@@ -84,9 +84,10 @@ impl Requirement {
     {
         match parse::alternatives(alloc, text) {
             Ok(alternatives) => Ok(Requirement { alternatives }),
-            Err(Fault::Stuck(at)) => Err(ReqError::Refused {
-                at: (text.len() - at.left) as u64,
-            }),
+            Err(Fault::Stuck(stuck)) => {
+                let at = text.len() - stuck.left;
+                Err(ReqError::Refused { at: at as u64 })
+            }
             Err(Fault::OutOfMemory) => Err(ReqError::OutOfMemory),
         }
     }

@@ -1,4 +1,4 @@
-use Rattle.std.proofs.Common.{◌≡◌, ◌==◌, ◌-◌, ◌∙◌, [], length, drop, slice_index, true, false, rules, sym, arith}
+use Rattle.std.proofs.Common.{◌≡◌, ◌==◌, ◌∙◌, length, slice_index, true, false, rules, sym, arith}
 use Rattle.std.proofs.lemmas.List.{drop_all, take_rest}
 use Rattle.semver.specs.Grammar.{is_identifier_byte}
 use Rattle.version_req.specs.Reading.{is_identifier}

@@ -1,6 +1,6 @@
-use Rattle.std.proofs.Common.{◌≡◌, ◌++◌, ◌∷◌, [], Ok, None, Some, sym, ap, ◌∙◌}
+use Rattle.std.proofs.Common.{◌≡◌, ◌++◌, ◌∷◌, [], sym, ap, ◌∙◌}
 use Rattle.version_req.specs.Condition.{Condition}
-use Rattle.version_req.specs.Machine.{Lead, Tree, empty, joined, run}
+use Rattle.version_req.specs.Machine.{Lead, empty, joined, run}
 use Rattle.version_req.specs.Reading.{scanned_view}
 use Rattle.version_req.proofs.Turns.{comparison_stuck, err_stuck, joint_none, joint_some, joint_stuck}
 use Rattle.version_req.proofs.parse.alternatives.Goals as goal

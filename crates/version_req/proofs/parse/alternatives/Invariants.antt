@@ -1,4 +1,4 @@
-use Rattle.std.proofs.Common.{◌≡◌, ℕ, length}
+use Rattle.std.proofs.Common.{◌≡◌, length}
 use Rattle.version_req.specs.Machine.{Lead, empty, run}
 use Rattle.version_req.proofs.parse.alternatives.Given as goal
 

@@ -1,6 +1,6 @@
 use Rattle.std.proofs.Common.{◌≡◌, Ok, rules}
 use Rattle.version_req.specs.Reading.{comparison_of, condition}
-use Rattle.version_req.proofs.Sound.{ComparisonFits, comparison_fits}
+use Rattle.version_req.proofs.Sound.{comparison_fits}
 use Rattle.version_req.proofs.scanned.read_comparison.Goals as goal
 
 pub returns-clause-pre : goal.returns-clause-pre
