@@ -40,14 +40,16 @@ MayLackPatch c = (c.operator ≡ Compatible) × (c.operand.2 ≡ 0)
 pub record SpellsComparison (text : List ℕ) (c : Condition) : Type 0 where
   pub valid : IsValid c.operand
   pub patch : IsFalse c.patch_written → MayLackPatch c
-  pub bytes : (operator : List ℕ) × (gap : ℕ) × SpellsOperator operator c.operator × (text ≡ operator ++ (spaces gap ++ operand_text c.patch_written c.operand))
+  pub bytes : (operator : List ℕ) × (gap : ℕ) × SpellsOperator operator c.operator
+      × (text ≡ operator ++ (spaces gap ++ operand_text c.patch_written c.operand))
 
 -- things one after the other, with a word between two of them and at least one space on each side of it
 abbrev pub Joined : {X : Type 0} → List ℕ → (List ℕ → X → Type 0) → List ℕ → List X → Type 0
-Joined word Spells text [] = ⊥
-Joined word Spells text (x ∷ []) = Spells text x
-Joined word Spells text (x ∷ y ∷ more) =
-    (first : List ℕ) × (before : ℕ) × (after : ℕ) × (rest : List ℕ) × Spells first x × Joined word Spells rest (y ∷ more)
+Joined word Each text [] = ⊥
+Joined word Each text (x ∷ []) = Each text x
+Joined word Each text (x ∷ y ∷ more) =
+    (first : List ℕ) × (before : ℕ) × (after : ℕ) × (rest : List ℕ)
+    × Each first x × Joined word Each rest (y ∷ more)
     × (text ≡ first ++ (spaces (suc before) ++ (word ++ (spaces (suc after) ++ rest))))
 
 -- comparisons joined by `and`, and these joined by `or`, which so binds less
@@ -57,7 +59,8 @@ SpellsAlternatives = Joined (codes "or") (Joined (codes "and") SpellsComparison)
 -- a requirement is that, with spaces before and after it
 abbrev pub Spells : List ℕ → Alternatives → Type 0
 Spells text requirement =
-    (before : ℕ) × (inner : List ℕ) × (after : ℕ) × SpellsAlternatives inner requirement × (text ≡ spaces before ++ (inner ++ spaces after))
+    (before : ℕ) × (inner : List ℕ) × (after : ℕ)
+    × SpellsAlternatives inner requirement × (text ≡ spaces before ++ (inner ++ spaces after))
 
 -- a text that some requirement begins with
 abbrev pub Begins : List ℕ → Type 0

@@ -14,11 +14,11 @@ abbrev pub precedence : Parts → Parts → Ordering
 precedence a b = ordering_then (nat_cmp a.0 b.0) (ordering_then (nat_cmp a.1 b.1)
     (ordering_then (nat_cmp a.2 b.2) (pre_cmp a.3 b.3)))
 
--- the version has the operand's major number, and its minor number too where the patch is written
+-- equal leading numbers: the major, and where the patch is written the minor too
 abbrev pub leads_alike : Condition → Parts → Bool
 leads_alike c v = (v.0 == c.operand.0) && (not c.patch_written || (v.1 == c.operand.1))
 
--- the version stands to the operand as this operator says; after `~>` the operand is the least version
+-- the version stands to the operand as the operator says; `~>` takes it as the least version
 abbrev pub stands : Operator → Condition → Parts → Bool
 stands Equal c v = is_eq (precedence v c.operand)
 stands NotEqual c v = is_ne (precedence v c.operand)
@@ -28,17 +28,18 @@ stands Less c v = is_lt (precedence v c.operand)
 stands LessOrEqual c v = is_le (precedence v c.operand)
 stands Compatible c v = is_ge (precedence v c.operand) && leads_alike c v
 
+-- whether it is a pre-release
 abbrev pub has_pre : Parts → Bool
 has_pre v = nat_lt 0 (length v.3)
 
--- the operators that take versions however late, or a range of later ones
+-- `>`, `>=` and `~>`, which reach for later versions
 abbrev pub takes_later : Operator → Bool
 takes_later Greater = true
 takes_later GreaterOrEqual = true
 takes_later Compatible = true
 takes_later operator = false
 
--- a pre-release that a comparison refuses where none are allowed: its operand is no pre-release itself
+-- where pre-releases are not allowed, these refuse one unless their operand is one
 abbrev pub bars : Condition → Parts → Bool
 bars c v = takes_later c.operator && has_pre v && not (has_pre c.operand)
 
