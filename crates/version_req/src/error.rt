@@ -1,7 +1,4 @@
 // Why a requirement is not read.
-ghost use Rattle.std.specs.Prelude.{◌≡◌};
-
-use std::alloc::{AllocError, AllocFailed};
 
 /// Why a text gives no requirement.
 #[derive(Clone, Copy, Debug, PartialEq, Eq, thiserror::Error)]
@@ -14,14 +11,4 @@ pub enum ReqError {
     },
     #[error("out of memory")]
     OutOfMemory,
-}
-
-impl From<AllocError> for ReqError {
-    ghost use Rattle.version_req.specs.declared.error.ReqError.TheVariants.{OutOfMemory};
-
-    ghost from_gives = { λ _ e. e ≡ OutOfMemory };
-
-    fn from(_error: AllocError) -> ReqError {
-        ReqError::OutOfMemory
-    }
 }

@@ -1,4 +1,4 @@
-use crate::{ReqError, Requirement, compare, matches};
+use crate::{ReqError, Requirement, compare, matches, one_requirement};
 use semver::Version;
 use std::alloc::Global;
 use std::cmp::Ordering;
@@ -264,5 +264,17 @@ fn precedence_passes_over_build_metadata(rt: HostRuntime) -> Result<(), Fail> {
     let one = Version::parse(rt.alloc(), "1.0.0+a.1")?;
     let other = Version::parse(rt.alloc(), "1.0.0")?;
     assert_eq!(rt; compare(&one, &other), Ordering::Equal);
+    Ok(())
+}
+
+#[test]
+fn a_copy_takes_the_same_versions(rt: HostRuntime) -> Result<(), Fail> {
+    one_requirement();
+    let requirement = Requirement::parse(rt.alloc(), b"~> 1.2 or == 3.0.0-rc")?;
+    let copy = requirement.clone()?;
+    let inside = Version::parse(rt.alloc(), "1.9.0")?;
+    let outside = Version::parse(rt.alloc(), "2.0.0")?;
+    assert!(rt; matches(&copy, &inside, false));
+    assert!(rt; !matches(&copy, &outside, false));
     Ok(())
 }
