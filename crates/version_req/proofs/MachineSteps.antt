@@ -1,7 +1,7 @@
 -- The readers of specs/Reading.antt follow the machine of specs/Machine.antt.
 use Rattle.std.proofs.Common.{◌≡◌, ℕ, ◌-◌, ◌==◌, ◌++◌, ◌&&◌, List, [], ◌∷◌, length, Bool, true, false, Result, Ok, Err, Option, Some, None, refl, sym, ◌∙◌, inl, inr, subst, ◌⊎◌}
 use Rattle.std.specs.Char.{is_ascii_digit}
-use Rattle.std.proofs.lemmas.Bool.{cases_Bool, eqb-true}
+use Rattle.std.proofs.lemmas.Bool.{cases_Bool}
 use Rattle.semver.specs.Grammar.{is_identifier_byte}
 use Rattle.version_req.specs.declared.operator.Operator.{Operator}
 use Rattle.version_req.specs.declared.operator.Operator.TheVariants.{Equal, NotEqual, Greater, GreaterOrEqual, Less, LessOrEqual, Compatible}
@@ -178,7 +178,7 @@ abbrev pub starts_digit : List ℕ → Bool
 starts_digit [] = false
 starts_digit (b ∷ rest) = is_ascii_digit b
 
-cases_Option : {A : Type 0} (o : Option A) → (o ≡ None) ⊎ ((x : A) × (o ≡ Some x))
+pub cases_Option : {A : Type 0} (o : Option A) → (o ≡ None) ⊎ ((x : A) × (o ≡ Some x))
 cases_Option None = inl refl
 cases_Option (Some x) = inr (x, refl)
 
@@ -212,9 +212,6 @@ before_first (Major o) b h = rw h refl
 before_first (Minor o major) b h = refl
 before_first (Patch o major minor) b h = refl
 
-before_ends : (n : Numbers) (tree : Tree) → finish (Before n) tree ≡ Err 0
-before_ends n tree = refl
-
 -- a number, where the text does not begin with a space that might stand there
 pub number_follows : (n : Numbers) (text : List ℕ) → (is_major n && starts_space text) ≡ false
     → Follows (Before n) text (λ v. Number n v) (number_of text) × EndsDigits (number_of text)
@@ -231,9 +228,6 @@ number_follows n (b ∷ rest) h = elim (cases_Bool (is_ascii_digit b)) [
 ]
 
 -- the dot after the first number
-dot_stands : (n : Numbers) (value b : ℕ) → (b == 46) ≡ true → is_ascii_digit b ≡ false
-dot_stands n value b h = rw (eqb-true b 46 h) refl
-
 pub dot_follows : (o : Operator) (value : ℕ) (text : List ℕ) → starts_digit text ≡ false
     → FollowsText (Number (Major o) value) text (Before (Minor o value)) (after_byte 46 text)
 dot_follows o value [] h = λ tree. at_end (Number (Major o) value) tree

@@ -21,7 +21,7 @@ use Rattle.version_req.specs.Machine.{Numbers, Major, Minor, Patch, Place, Lead,
 use Rattle.version_req.specs.Reading.{is_identifier, with_digit}
 use Rattle.version_req.specs.Refusal.{IsRefusedAt}
 use Rattle.version_req.proofs.Complete.{run-Spells}
-use Rattle.version_req.proofs.MachineSteps.{at_end, close, enter, go, halt}
+use Rattle.version_req.proofs.MachineSteps.{at_end, cases_Option, close, enter, go, halt}
 use Rattle.version_req.proofs.RunSound.{Spells-run}
 
 -- ---- places that can be reached: the last identifier has bytes of identifiers alone
@@ -71,10 +71,6 @@ digit_sound n None = tt
 lacking_sound : (o : Operator) (a v b : ℕ) → (lacking_patch o a v ≡ None) ⊎ ((h : Head) × (lacking_patch o a v ≡ Some h)) → LeadsSound (number_end (Minor o a) v b)
 lacking_sound o a v b (inl none) = if_sound (b == 46) (Some (Go (Before (Patch o a v)))) _ tt (rw none tt)
 lacking_sound o a v b (inr (h, some)) = if_sound (b == 46) (Some (Go (Before (Patch o a v)))) _ tt (rw some (numbers_sound h b))
-
-cases_Option : {A : Type 0} (o : Option A) → (o ≡ None) ⊎ ((x : A) × (o ≡ Some x))
-cases_Option None = inl refl
-cases_Option (Some x) = inr (x, refl)
 
 number_sound : (n : Numbers) (v b : ℕ) → LeadsSound (number_end n v b)
 number_sound (Major o) v b = if_sound (b == 46) (Some (Go (Before (Minor o v)))) None tt tt
