@@ -43,10 +43,12 @@ meant_by_files (Some files) path found meaning meant e says = subst (λ (o : Opt
 
 -- what the files mean as the manifest of a declaration gives its job
 job_meant : (files : List File) (d : Declaration) (path : List ℕ) (paths : List (List ℕ)) (found : Option (List ℕ)) (version : Result (List ℕ) Refusal) → paths_below d.dir files ≡ path ∷ paths → found ≡ bytes_at (manifest_path d.dir) files → IsMeant found (version_by (manifest_path d.dir)) version → IsJob files d (result_map (job_with files d) version)
-job_meant files d path paths found version some same meant =
-    (meant.0, subst (λ (o : Option (List ℕ)). IsManifest o meant.0) same meant.1,
-    ap (λ (ps : List (List ℕ)). unless_missing ps d (result_map (job_with files d) (version_by (manifest_path d.dir) meant.0))) some
-    ∙ ap (result_map (job_with files d)) meant.2)
+job_meant files d path paths found version some same meant = (
+  meant.0,
+  subst (λ (o : Option (List ℕ)). IsManifest o meant.0) same meant.1,
+  ap (λ (ps : List (List ℕ)). unless_missing ps d (result_map (job_with files d) (version_by (manifest_path d.dir) meant.0))) some
+      ∙ ap (result_map (job_with files d)) meant.2,
+)
 
 -- the job that is made of a version
 abbrev pub job_made : Declaration → List File → List ℕ → Job
@@ -69,9 +71,11 @@ job_says (Some files) d (path ∷ paths) sources (Err OutOfMemory) some listed f
 pub job_missing : (told : Option (List File)) (d : Declaration) (paths : List (List ℕ)) → paths ≡ [] → IfSome told (λ files. paths ≡ paths_below d.dir files) → IfSome told (λ files. IsJob files d (Err (PathMissing d.app d.dir)))
 job_missing None d paths none listed = tt
 job_missing (Some files) d paths none listed =
-    let empty : paths_below d.dir files ≡ [] = sym listed ∙ none in
-    (Absent, sym (manifest_among d.dir files) ∙ ap (λ (ps : List (List ℕ)). bytes_at project_path (filter_map (source_at d.dir files) ps)) empty,
-    ap (λ (ps : List (List ℕ)). unless_missing ps d (result_map (job_with files d) (version_by (manifest_path d.dir) Absent))) empty)
+    let empty : paths_below d.dir files ≡ [] = sym listed ∙ none in (
+      Absent,
+      sym (manifest_among d.dir files) ∙ ap (λ (ps : List (List ℕ)). bytes_at project_path (filter_map (source_at d.dir files) ps)) empty,
+      ap (λ (ps : List (List ℕ)). unless_missing ps d (result_map (job_with files d) (version_by (manifest_path d.dir) Absent))) empty,
+    )
 
 declarations_left : (ds : List Declaration) (i : ℕ) (d : Declaration) → i < length ds → d ≡ get_or ds i d → drop i ds ≡ d ∷ drop (i + 1) ds
 declarations_left ds i d within is =

@@ -22,3 +22,6 @@ pub use declaration::Declaration;
 pub use plain::plain_compile;
 pub use refusal::Refusal;
 pub use status::Status;
+
+#[cfg(test)]
+mod tests;
