@@ -62,6 +62,7 @@ other_source dir name all path sources (Some rest) e other = at (is_source rest)
         let same : child_of dir name ≡ path = ap (λ (r : List ℕ). child_of dir r) (same_name name rest is) ∙ sym (after_is (folder_text dir) path rest e) in
         let clash : true ≡ false = sym (ties_itself (child_of dir name) path same) ∙ other in
         cc
+
     at : (b : Bool) (found : Option (List ℕ)) → bytes_at name (cons_option (option_and_then (λ r. option_map (λ bytes. record { path = r; bytes = bytes }) found) (cond b (Some rest) None)) sources) ≡ bytes_at name sources
     at false found = refl
     at true None = refl

@@ -1,8 +1,8 @@
 -- What manifests mean, jobs of declarations, and the plan, one declaration after another.
-use Rattle.std.proofs.Common.{◌≡◌, ℕ, suc, ◌+◌, ◌<◌, Bool, true, false, ◌||◌, not, cond, List, [], ◌∷◌, ◌++◌, map, filter_map, drop, length, get_or, Option, Some, None, IfSome, Result, Ok, Err, MatchResult, MatchOption, All, IsFalse, codes, bytes_eq, refl, sym, ◌∙◌, ap, subst, append_assoc, append-nil, add-one, drop-cons, eqb}
+use Rattle.std.proofs.Common.{◌≡◌, ℕ, suc, ◌+◌, ◌<◌, Bool, true, false, ◌||◌, not, cond, List, [], ◌∷◌, ◌++◌, map, filter_map, drop, length, get_or, Option, Some, None, IfSome, Result, Ok, Err, MatchResult, MatchOption, All, IsFalse, codes, bytes_eq, refl, sym, ◌∙◌, ap, subst, append_assoc, append-nil, add-one, drop-cons, eqb, arith}
 use Rattle.std.specs.Result.{IsErrAnd}
 use Rattle.std.proofs.lemmas.Bool.{eqb-true, eqb-false}
-use Rattle.std.proofs.lemmas.List.{nil_from_length}
+use Rattle.std.proofs.lemmas.List.{nil_from_length, map-append}
 use Rattle.std.proofs.lemmas.List.Elements.{All-cons}
 use Rattle.mx_base.specs.declared.file.File.{File}
 use Rattle.mx_base.specs.Order.{bytes_at}
@@ -43,10 +43,12 @@ meant_by_files (Some files) path found meaning meant e says = subst (λ (o : Opt
 
 -- what the files mean as the manifest of a declaration gives its job
 job_meant : (files : List File) (d : Declaration) (path : List ℕ) (paths : List (List ℕ)) (found : Option (List ℕ)) (version : Result (List ℕ) Refusal) → paths_below d.dir files ≡ path ∷ paths → found ≡ bytes_at (manifest_path d.dir) files → IsMeant found (version_by (manifest_path d.dir)) version → IsJob files d (result_map (job_with files d) version)
-job_meant files d path paths found version some same meant =
-    (meant.0, subst (λ (o : Option (List ℕ)). IsManifest o meant.0) same meant.1,
-    ap (λ (ps : List (List ℕ)). unless_missing ps d (result_map (job_with files d) (version_by (manifest_path d.dir) meant.0))) some
-    ∙ ap (result_map (job_with files d)) meant.2)
+job_meant files d path paths found version some same meant = (
+  meant.0,
+  subst (λ (o : Option (List ℕ)). IsManifest o meant.0) same meant.1,
+  ap (λ (ps : List (List ℕ)). unless_missing ps d (result_map (job_with files d) (version_by (manifest_path d.dir) meant.0))) some
+      ∙ ap (result_map (job_with files d)) meant.2,
+)
 
 -- the job that is made of a version
 abbrev pub job_made : Declaration → List File → List ℕ → Job
@@ -69,9 +71,11 @@ job_says (Some files) d (path ∷ paths) sources (Err OutOfMemory) some listed f
 pub job_missing : (told : Option (List File)) (d : Declaration) (paths : List (List ℕ)) → paths ≡ [] → IfSome told (λ files. paths ≡ paths_below d.dir files) → IfSome told (λ files. IsJob files d (Err (PathMissing d.app d.dir)))
 job_missing None d paths none listed = tt
 job_missing (Some files) d paths none listed =
-    let empty : paths_below d.dir files ≡ [] = sym listed ∙ none in
-    (Absent, sym (manifest_among d.dir files) ∙ ap (λ (ps : List (List ℕ)). bytes_at project_path (filter_map (source_at d.dir files) ps)) empty,
-    ap (λ (ps : List (List ℕ)). unless_missing ps d (result_map (job_with files d) (version_by (manifest_path d.dir) Absent))) empty)
+    let empty : paths_below d.dir files ≡ [] = sym listed ∙ none in (
+      Absent,
+      sym (manifest_among d.dir files) ∙ ap (λ (ps : List (List ℕ)). bytes_at project_path (filter_map (source_at d.dir files) ps)) empty,
+      ap (λ (ps : List (List ℕ)). unless_missing ps d (result_map (job_with files d) (version_by (manifest_path d.dir) Absent))) empty,
+    )
 
 declarations_left : (ds : List Declaration) (i : ℕ) (d : Declaration) → i < length ds → d ≡ get_or ds i d → drop i ds ≡ d ∷ drop (i + 1) ds
 declarations_left ds i d within is =
@@ -148,3 +152,36 @@ some_listed paths count empty counts e h none = eqb-false count 0 (sym e ∙ h) 
 pub handed_on : {X : Type 0} (result : Result X PlanFault) (fault : PlanFault) → IsErrAnd result (λ e. e ≡ fault) → result ≡ Err fault
 handed_on (Ok x) fault h = absurd h
 handed_on (Err e) fault h = ap (λ (x : PlanFault). Err x) h
+
+same_result : (rest : Result (List Job) Refusal) → rest ≡ result_map (λ more. [] ++ more) rest
+same_result (Ok more) = refl
+same_result (Err refusal) = refl
+
+pub nothing_yet : (told : Option (List File)) (jobs : List Job) (left all : List Declaration) → jobs ≡ [] → left ≡ all → IfSome told (λ files. GoesOn files jobs left all)
+nothing_yet None jobs left all none same = tt
+nothing_yet (Some files) jobs left all none same =
+    subst (λ (js : List Job). GoesOn files js left all) (sym none)
+    (λ rest planned. subst (ArePlanned files all) (same_result rest) (subst (λ (ds : List Declaration). ArePlanned files ds rest) same planned))
+
+abbrev pub SameApps : List Job → List Declaration → List Declaration → Type 0
+SameApps jobs left all = map (λ job. job.app) jobs ++ map (λ d. d.app) left ≡ map (λ d. d.app) all
+
+pub no_apps : (jobs : List Job) (left all : List Declaration) → jobs ≡ [] → left ≡ all → SameApps jobs left all
+no_apps jobs left all none same =
+    ap (λ (js : List Job). map (λ job. job.app) js ++ map (λ d. d.app) left) none ∙ ap (map (λ (d : Declaration). d.app)) same
+
+pub app_more : (jobs : List Job) (job : Job) (d : Declaration) (left all : List Declaration) → job.app ≡ d.app → SameApps jobs (d ∷ left) all → SameApps (jobs ++ job ∷ []) left all
+app_more jobs job d left all same so_far =
+    ap (λ (names : List (List ℕ)). names ++ map (λ (x : Declaration). x.app) left) (map-append (λ (j : Job). j.app) jobs (job ∷ []))
+    ∙ append_assoc (map (λ (j : Job). j.app) jobs) (job.app ∷ []) (map (λ (x : Declaration). x.app) left)
+    ∙ ap (λ (name : List ℕ). map (λ (j : Job). j.app) jobs ++ name ∷ map (λ (x : Declaration). x.app) left) same
+    ∙ so_far
+
+pub rest_outside : (d : Declaration) (left : List Declaration) → All (λ x. IsFalse (is_in_build x.dir)) (d ∷ left) → All (λ x. IsFalse (is_in_build x.dir)) left
+rest_outside d left all = λ k x h. all (suc k) x (omega (arith, h))
+
+pub first_outside : (d : Declaration) (left : List Declaration) → All (λ x. IsFalse (is_in_build x.dir)) (d ∷ left) → IsFalse (is_in_build d.dir)
+first_outside d left all = all 0 d (omega arith)
+
+pub none_left : (left : List Declaration) (count : ℕ) → count ≡ length left → count ≡ 0 → left ≡ []
+none_left left count counts none = nil_from_length left (sym counts ∙ none)

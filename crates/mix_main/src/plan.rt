@@ -107,11 +107,7 @@ fn jobs<S: Store>(
 }
 
 // The job of a declaration.
-fn job<S: Store>(
-    alloc: Global,
-    store: &mut S,
-    declaration: Declaration,
-) -> Result<Job, PlanFault>
+fn job<S: Store>(alloc: Global, store: &mut S, declaration: Declaration) -> Result<Job, PlanFault>
     requires { IsFalse (is_in_build declaration.dir) }
     ensures job { IfSome (S.sources store.old) (λ files. Says (IsJob files declaration) result) }
     ensures app { IfOk result (λ job. job.app ≡ declaration.app) }

@@ -26,10 +26,10 @@ returns-in_err-version-clause-job g c =
     let counts : length paths.items ≡ vec_len paths = omega (arith, paths.ok.0) in
     let some = some_listed paths.items (vec_len paths) c.is_empty.result counts c.is_empty.ensures c.if-is_empty.false in
     let found : IfSome told (λ files. sources ≡ filter_map (source_at d.dir files) paths.items) =
-      subst (λ (o : Option (List File)). IfSome o (λ files. sources ≡ filter_map (source_at d.dir files) paths.items)) c.in_ok-paths.ensures.sources
-      (subst (λ (ps : List (List ℕ)). IfSome (g.S.Store.sources c.list.new.self) (λ files. sources ≡ filter_map (source_at d.dir files) ps)) c.deref.ensures.value c.in_ok-sources.ensures.found) in
+    subst (λ (o : Option (List File)). IfSome o (λ files. sources ≡ filter_map (source_at d.dir files) paths.items)) c.in_ok-paths.ensures.sources
+    (subst (λ (ps : List (List ℕ)). IfSome (g.S.Store.sources c.list.new.self) (λ files. sources ≡ filter_map (source_at d.dir files) ps)) c.deref.ensures.value c.in_ok-sources.ensures.found) in
     let said : Says (IsMeant (bytes_at project_path sources) (version_by (manifest_path d.dir))) (Err fault) =
-      subst (λ (fs : List File). Says (IsMeant (bytes_at project_path fs) (version_by (manifest_path d.dir))) (Err fault)) c.as_slice.ensures.value c.in_err-version.ensures.meant in
+    subst (λ (fs : List File). Says (IsMeant (bytes_at project_path fs) (version_by (manifest_path d.dir))) (Err fault)) c.as_slice.ensures.value c.in_err-version.ensures.meant in
     subst (λ (r : Result Job PlanFault). IfSome told (λ files. Says (IsJob files d) r)) (sym (handed_on c.from_residual-in_err-version.result fault c.from_residual-in_err-version.ensures.1))
     (job_says told d paths.items sources (Err fault) some c.in_ok-paths.ensures.found found said)
 
@@ -43,9 +43,9 @@ returns-clause-job g c =
     let counts : length paths.items ≡ vec_len paths = omega (arith, paths.ok.0) in
     let some = some_listed paths.items (vec_len paths) c.is_empty.result counts c.is_empty.ensures c.if-is_empty.false in
     let found : IfSome told (λ files. sources ≡ filter_map (source_at d.dir files) paths.items) =
-      subst (λ (o : Option (List File)). IfSome o (λ files. sources ≡ filter_map (source_at d.dir files) paths.items)) c.in_ok-paths.ensures.sources
-      (subst (λ (ps : List (List ℕ)). IfSome (g.S.Store.sources c.list.new.self) (λ files. sources ≡ filter_map (source_at d.dir files) ps)) c.deref.ensures.value c.in_ok-sources.ensures.found) in
+    subst (λ (o : Option (List File)). IfSome o (λ files. sources ≡ filter_map (source_at d.dir files) paths.items)) c.in_ok-paths.ensures.sources
+    (subst (λ (ps : List (List ℕ)). IfSome (g.S.Store.sources c.list.new.self) (λ files. sources ≡ filter_map (source_at d.dir files) ps)) c.deref.ensures.value c.in_ok-sources.ensures.found) in
     let said : Says (IsMeant (bytes_at project_path sources) (version_by (manifest_path d.dir))) (Ok version) =
-      subst (λ (fs : List File). Says (IsMeant (bytes_at project_path fs) (version_by (manifest_path d.dir))) (Ok version)) c.as_slice.ensures.value c.in_ok-version.ensures.meant in
+    subst (λ (fs : List File). Says (IsMeant (bytes_at project_path fs) (version_by (manifest_path d.dir))) (Ok version)) c.as_slice.ensures.value c.in_ok-version.ensures.meant in
     subst (λ (needs : List ℕ). IfSome told (λ files. Says (IsJob files d) (Ok (record { app = d.app; version = version; sources = sources; needs = needs })))) (sym c.new.ensures)
     (job_says told d paths.items sources (Ok version) some c.in_ok-paths.ensures.found found said)
