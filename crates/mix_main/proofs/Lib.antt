@@ -1,4 +1,5 @@
 pub mod AmongLemmas
 pub mod ManifestLemmas
+pub mod OneLemmas
 pub mod PlanLemmas
 pub mod SourceLemmas

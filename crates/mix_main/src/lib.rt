@@ -9,4 +9,5 @@ mod refusal;
 mod sources;
 
 pub use declaration::Declaration;
+pub use plan::plan_is_the_only_one;
 pub use refusal::Refusal;
