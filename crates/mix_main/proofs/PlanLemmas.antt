@@ -1,17 +1,12 @@
 -- What manifests mean, jobs of declarations, and the plan, one declaration after another.
-use Rattle.std.proofs.Common.{◌≡◌, ℕ, suc, ◌+◌, ◌<◌, Bool, true, false, ◌||◌, not, cond, List, [], ◌∷◌, ◌++◌, map, filter_map, drop, length, get_or, Option, Some, None, IfSome, Result, Ok, Err, MatchResult, MatchOption, All, IsFalse, codes, bytes_eq, refl, sym, ◌∙◌, ap, subst, append_assoc, append-nil, add-one, drop-cons, eqb, arith}
+use Rattle.std.proofs.Common.{◌≡◌, ℕ, suc, ◌+◌, ◌<◌, Bool, true, false, List, [], ◌∷◌, ◌++◌, map, filter_map, drop, length, get_or, Option, Some, None, IfSome, Result, Ok, Err, MatchResult, MatchOption, All, IsFalse, refl, sym, ◌∙◌, ap, subst, append_assoc, append-nil, add-one, drop-cons, eqb, arith}
 use Rattle.std.specs.Result.{IsErrAnd}
 use Rattle.std.proofs.lemmas.Bool.{eqb-true, eqb-false}
 use Rattle.std.proofs.lemmas.List.{nil_from_length, map-append}
-use Rattle.std.proofs.lemmas.List.Elements.{All-cons}
 use Rattle.mx_base.specs.declared.file.File.{File}
 use Rattle.mx_base.specs.Order.{bytes_at}
-use Rattle.mx_base.specs.Path.{first_segment}
-use Rattle.mx_base.specs.Join.{joined}
-use Rattle.mx_base.specs.declared.path_join.PathError.{PathError}
 use Rattle.elixir_terms.specs.declared.term.Term.{Term}
 use Rattle.elixir_terms.specs.Spells.{Spells}
-use Rattle.elixir_terms.proofs.ReadLemmas.{spells_one}
 use Rattle.compile_model.specs.declared.job.Job.{Job}
 use Rattle.tree_store.specs.Files.{paths_below, is_in_build}
 use Rattle.mix_main.specs.declared.declaration.Declaration.{Declaration}
@@ -19,8 +14,7 @@ use Rattle.mix_main.specs.declared.refusal.Refusal.{Refusal}
 use Rattle.mix_main.specs.declared.refusal.Refusal.TheVariants.{PathMissing}
 use Rattle.mix_main.specs.declared.plan_fault.PlanFault.{PlanFault}
 use Rattle.mix_main.specs.declared.plan_fault.PlanFault.TheVariants.{Refused, Read, OutOfMemory}
-use Rattle.mix_main.specs.Manifest.{is_kept_apart}
-use Rattle.mix_main.specs.Plan.{Manifest, IsManifest, project_path, manifest_path, version_by, source_at, sources_of, result_map, unless_missing, job_with, job_of, ArePlanned, IsPlan, declared_by}
+use Rattle.mix_main.specs.Plan.{Manifest, IsManifest, project_path, manifest_path, version_by, source_at, result_map, unless_missing, job_with, ArePlanned, IsPlan, declared_by}
 use Rattle.mix_main.specs.Plan.Manifest.{Absent, Unread, Reads}
 use Rattle.mix_main.specs.PlanFaults.{Says, IsMeant, IsJob, RefusedBy}
 use Rattle.mix_main.proofs.AmongLemmas.{manifest_among}

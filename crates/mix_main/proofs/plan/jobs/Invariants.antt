@@ -1,4 +1,4 @@
-use Rattle.std.proofs.Common.{◌≡◌, List, length, All, IsFalse, IfSome}
+use Rattle.std.proofs.Common.{◌≡◌, length, All, IsFalse, IfSome}
 use Rattle.std.specs.Vec.Iter.{into_iter_items, into_iter_len}
 use Rattle.tree_store.specs.Files.{is_in_build}
 use Rattle.mix_main.proofs.PlanLemmas.{GoesOn, SameApps}
