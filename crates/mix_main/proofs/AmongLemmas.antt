@@ -1,12 +1,12 @@
 -- The manifest of a dependency is found among its sources.
-use Rattle.std.proofs.Common.{◌≡◌, ℕ, suc, ◌+◌, ◌<◌, ◌==◌, Bool, true, false, ◌||◌, cond, List, [], ◌∷◌, ◌++◌, drop, length, get_or, filter, filter_map, find, Option, Some, None, is_some, option_map, option_and_then, refl, sym, ◌∙◌, ap, bytes_eq, eq-eqb, add-one, drop-cons}
+use Rattle.std.proofs.Common.{◌≡◌, ℕ, suc, ◌+◌, ◌<◌, Bool, true, false, ◌||◌, cond, List, [], ◌∷◌, ◌++◌, drop, length, get_or, filter_map, find, Option, Some, None, is_some, option_map, option_and_then, refl, sym, ◌∙◌, ap, bytes_eq, eq-eqb, add-one, drop-cons}
 use Rattle.std.specs.List.{cons_option, list_any}
 use Rattle.std.specs.Ordering.{is_eq}
 use Rattle.std.specs.Cmp.Lexicographic.{texts_ties}
 use Rattle.std.proofs.lemmas.Cmp.{nat_list_eq_equiv}
 use Rattle.mx_base.specs.declared.file.File.{File}
 use Rattle.mx_base.specs.Order.{text_cmp, paths_of, bytes_at}
-use Rattle.mx_base.specs.Path.{text_after, folder_text, child_of, path_from, is_below}
+use Rattle.mx_base.specs.Path.{text_after, folder_text, child_of, path_from}
 use Rattle.mx_base.proofs.FolderLemmas.{after_is}
 use Rattle.tree_store.specs.Files.{paths_below}
 use Rattle.tree_store.proofs.OrderLemmas.{same_name, ties_itself}

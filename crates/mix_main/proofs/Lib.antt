@@ -1,6 +1,7 @@
 pub mod AmongLemmas
 pub mod EndLemmas
 pub mod ManifestLemmas
+pub mod OneLemmas
 pub mod PlainLemmas
 pub mod PlanLemmas
 pub mod ReportLemmas

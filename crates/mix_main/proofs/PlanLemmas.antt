@@ -1,17 +1,12 @@
 -- What manifests mean, jobs of declarations, and the plan, one declaration after another.
-use Rattle.std.proofs.Common.{◌≡◌, ℕ, suc, ◌+◌, ◌<◌, Bool, true, false, ◌||◌, not, cond, List, [], ◌∷◌, ◌++◌, map, filter_map, drop, length, get_or, Option, Some, None, IfSome, Result, Ok, Err, MatchResult, MatchOption, All, IsFalse, codes, bytes_eq, refl, sym, ◌∙◌, ap, subst, append_assoc, append-nil, add-one, drop-cons, eqb}
+use Rattle.std.proofs.Common.{◌≡◌, ℕ, suc, ◌+◌, ◌<◌, Bool, true, false, List, [], ◌∷◌, ◌++◌, map, filter_map, drop, length, get_or, Option, Some, None, IfSome, Result, Ok, Err, MatchResult, MatchOption, All, IsFalse, refl, sym, ◌∙◌, ap, subst, append_assoc, append-nil, add-one, drop-cons, eqb, arith}
 use Rattle.std.specs.Result.{IsErrAnd}
 use Rattle.std.proofs.lemmas.Bool.{eqb-true, eqb-false}
-use Rattle.std.proofs.lemmas.List.{nil_from_length}
-use Rattle.std.proofs.lemmas.List.Elements.{All-cons}
+use Rattle.std.proofs.lemmas.List.{nil_from_length, map-append}
 use Rattle.mx_base.specs.declared.file.File.{File}
 use Rattle.mx_base.specs.Order.{bytes_at}
-use Rattle.mx_base.specs.Path.{first_segment}
-use Rattle.mx_base.specs.Join.{joined}
-use Rattle.mx_base.specs.declared.path_join.PathError.{PathError}
 use Rattle.elixir_terms.specs.declared.term.Term.{Term}
 use Rattle.elixir_terms.specs.Spells.{Spells}
-use Rattle.elixir_terms.proofs.ReadLemmas.{spells_one}
 use Rattle.compile_model.specs.declared.job.Job.{Job}
 use Rattle.tree_store.specs.Files.{paths_below, is_in_build}
 use Rattle.mix_main.specs.declared.declaration.Declaration.{Declaration}
@@ -19,8 +14,7 @@ use Rattle.mix_main.specs.declared.refusal.Refusal.{Refusal}
 use Rattle.mix_main.specs.declared.refusal.Refusal.TheVariants.{PathMissing}
 use Rattle.mix_main.specs.declared.plan_fault.PlanFault.{PlanFault}
 use Rattle.mix_main.specs.declared.plan_fault.PlanFault.TheVariants.{Refused, Read, OutOfMemory}
-use Rattle.mix_main.specs.Manifest.{is_kept_apart}
-use Rattle.mix_main.specs.Plan.{Manifest, IsManifest, project_path, manifest_path, version_by, source_at, sources_of, result_map, unless_missing, job_with, job_of, ArePlanned, IsPlan, declared_by}
+use Rattle.mix_main.specs.Plan.{Manifest, IsManifest, project_path, manifest_path, version_by, source_at, result_map, unless_missing, job_with, ArePlanned, IsPlan, declared_by}
 use Rattle.mix_main.specs.Plan.Manifest.{Absent, Unread, Reads}
 use Rattle.mix_main.specs.PlanFaults.{Says, IsMeant, IsJob, RefusedBy}
 use Rattle.mix_main.proofs.AmongLemmas.{manifest_among}
@@ -152,3 +146,36 @@ some_listed paths count empty counts e h none = eqb-false count 0 (sym e ∙ h) 
 pub handed_on : {X : Type 0} (result : Result X PlanFault) (fault : PlanFault) → IsErrAnd result (λ e. e ≡ fault) → result ≡ Err fault
 handed_on (Ok x) fault h = absurd h
 handed_on (Err e) fault h = ap (λ (x : PlanFault). Err x) h
+
+same_result : (rest : Result (List Job) Refusal) → rest ≡ result_map (λ more. [] ++ more) rest
+same_result (Ok more) = refl
+same_result (Err refusal) = refl
+
+pub nothing_yet : (told : Option (List File)) (jobs : List Job) (left all : List Declaration) → jobs ≡ [] → left ≡ all → IfSome told (λ files. GoesOn files jobs left all)
+nothing_yet None jobs left all none same = tt
+nothing_yet (Some files) jobs left all none same =
+    subst (λ (js : List Job). GoesOn files js left all) (sym none)
+    (λ rest planned. subst (ArePlanned files all) (same_result rest) (subst (λ (ds : List Declaration). ArePlanned files ds rest) same planned))
+
+abbrev pub SameApps : List Job → List Declaration → List Declaration → Type 0
+SameApps jobs left all = map (λ job. job.app) jobs ++ map (λ d. d.app) left ≡ map (λ d. d.app) all
+
+pub no_apps : (jobs : List Job) (left all : List Declaration) → jobs ≡ [] → left ≡ all → SameApps jobs left all
+no_apps jobs left all none same =
+    ap (λ (js : List Job). map (λ job. job.app) js ++ map (λ d. d.app) left) none ∙ ap (map (λ (d : Declaration). d.app)) same
+
+pub app_more : (jobs : List Job) (job : Job) (d : Declaration) (left all : List Declaration) → job.app ≡ d.app → SameApps jobs (d ∷ left) all → SameApps (jobs ++ job ∷ []) left all
+app_more jobs job d left all same so_far =
+    ap (λ (names : List (List ℕ)). names ++ map (λ (x : Declaration). x.app) left) (map-append (λ (j : Job). j.app) jobs (job ∷ []))
+    ∙ append_assoc (map (λ (j : Job). j.app) jobs) (job.app ∷ []) (map (λ (x : Declaration). x.app) left)
+    ∙ ap (λ (name : List ℕ). map (λ (j : Job). j.app) jobs ++ name ∷ map (λ (x : Declaration). x.app) left) same
+    ∙ so_far
+
+pub rest_outside : (d : Declaration) (left : List Declaration) → All (λ x. IsFalse (is_in_build x.dir)) (d ∷ left) → All (λ x. IsFalse (is_in_build x.dir)) left
+rest_outside d left all = λ k x h. all (suc k) x (omega (arith, h))
+
+pub first_outside : (d : Declaration) (left : List Declaration) → All (λ x. IsFalse (is_in_build x.dir)) (d ∷ left) → IsFalse (is_in_build d.dir)
+first_outside d left all = all 0 d (omega arith)
+
+pub none_left : (left : List Declaration) (count : ℕ) → count ≡ length left → count ≡ 0 → left ≡ []
+none_left left count counts none = nil_from_length left (sym counts ∙ none)

@@ -1,5 +1,5 @@
 -- The sources that are found, one path after another.
-use Rattle.std.proofs.Common.{◌≡◌, ℕ, suc, ◌+◌, ◌<◌, ◌≤◌, List, [], ◌∷◌, ◌++◌, map, filter_map, drop, length, get_or, Option, Some, None, IfSome, refl, sym, ◌∙◌, ap, subst, append_assoc, append-nil, add-one, drop-cons}
+use Rattle.std.proofs.Common.{◌≡◌, ℕ, suc, ◌+◌, ◌<◌, ◌≤◌, List, [], ◌∷◌, ◌++◌, map, filter_map, drop, length, get_or, Option, Some, None, IfSome, sym, ◌∙◌, ap, subst, append_assoc, append-nil, add-one, drop-cons}
 use Rattle.std.specs.List.{cons_option}
 use Rattle.std.proofs.lemmas.List.{map-append, drop_all}
 use Rattle.mx_base.specs.declared.file.File.{File}

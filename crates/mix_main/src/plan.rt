@@ -1,11 +1,14 @@
 // The plan of a project.
-ghost use Rattle.std.specs.Prelude.{◌≡◌, [], ℕ, Ok, All, IfOk, IfErr, IfSome, IsTrue, IsFalse, map, MatchOption};
+ghost use Rattle.std.specs.Prelude.{◌≡◌, Ok, List, Result, All, IfOk, IfErr, IfSome, IsTrue, IsFalse, map, MatchOption};
 ghost use Rattle.std.specs.Option.{option_copied};
 ghost use Rattle.elixir_terms.specs.declared.term.Term.{Term};
 ghost use Rattle.elixir_terms.specs.Spells.{Spells};
+ghost use Rattle.mx_base.specs.declared.file.File.{File};
 ghost use Rattle.mx_base.specs.Causes.{Counted};
 ghost use Rattle.mx_base.specs.Order.{bytes_at};
+ghost use Rattle.compile_model.specs.declared.job.Job.{Job};
 ghost use Rattle.tree_store.specs.Files.{is_in_build};
+ghost use Rattle.mix_main.specs.declared.refusal.Refusal.{Refusal};
 ghost use Rattle.mix_main.specs.Manifest.{apps_differ};
 ghost use Rattle.mix_main.specs.Plan.{project_path, manifest_path, declared_by, version_by, result_map, ArePlanned, IsPlan, jobs_differ};
 ghost use Rattle.mix_main.specs.PlanFaults.{is_read, RefusedBy, Says, IsMeant, IsJob};
@@ -172,3 +175,8 @@ fn term(alloc: Global, text: &[u8]) -> Result<Option<Term>, AllocError>
         },
     }
 }
+
+/// The files of a project have one plan, or one first refusal.
+pub fn plan_is_the_only_one()
+    ensures { (files : List File) (p q : Result (List Job) Refusal) → IsPlan files p → IsPlan files q → p ≡ q }
+{}

@@ -1,7 +1,5 @@
-use Rattle.std.proofs.Common.{◌≡◌, ℕ, List, Option, Some, option_map, Ok, Err, sym, ◌∙◌, ap}
-use Rattle.mix_main.specs.declared.declaration.Declaration.{Declaration}
+use Rattle.std.proofs.Common.{ℕ, List, option_map, Ok, Err, sym, ◌∙◌, ap}
 use Rattle.mix_main.specs.declared.refusal.Refusal.TheVariants.{NotRead, Shape}
-use Rattle.mix_main.specs.Manifest.{root_declarations}
 use Rattle.mix_main.specs.Plan.{project_path, declared_by, or_shape}
 use Rattle.mix_main.proofs.ManifestLemmas.{declared_outside}
 use Rattle.mix_main.proofs.PlanLemmas.{meant_unread, meant_reads}

@@ -1,4 +1,4 @@
-use Rattle.std.proofs.Common.{◌≡◌, ℕ, List, IfSome, Option, Ok, Err, filter_map, sym, ◌∙◌, ap, subst, arith, length, vec_len, Result}
+use Rattle.std.proofs.Common.{◌≡◌, ℕ, List, IfSome, Option, Ok, Err, filter_map, sym, subst, arith, length, vec_len, Result}
 use Rattle.compile_model.specs.declared.job.Job.{Job}
 use Rattle.mix_main.specs.declared.plan_fault.PlanFault.{PlanFault}
 use Rattle.mx_base.specs.declared.file.File.{File}

@@ -1,4 +1,4 @@
-use Rattle.std.proofs.Common.{◌≡◌, ℕ, ◌<◌, List, Bool, true, false, length, sym, ◌∙◌, subst, bytes_eq, arith}
+use Rattle.std.proofs.Common.{◌≡◌, ℕ, ◌<◌, List, true, false, length, sym, ◌∙◌, subst, bytes_eq, arith}
 use Rattle.mix_main.specs.Plan.{project_path}
 use Rattle.mix_main.proofs.AmongLemmas.{found_at, passed}
 use Rattle.mix_main.proofs.plan.manifest_in.Goals as goal

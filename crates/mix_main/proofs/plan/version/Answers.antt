@@ -1,4 +1,4 @@
-use Rattle.std.proofs.Common.{◌≡◌, ℕ, List, Ok, Err, sym, ◌∙◌, ap}
+use Rattle.std.proofs.Common.{ℕ, List, Ok, Err, sym, ◌∙◌, ap}
 use Rattle.std.specs.Option.{option_copied}
 use Rattle.mx_base.specs.Order.{bytes_at}
 use Rattle.mix_main.specs.declared.refusal.Refusal.TheVariants.{NotRead, Shape}

@@ -1,4 +1,4 @@
-use Rattle.std.proofs.Common.{◌≡◌, ℕ, ◌+◌, ◌<◌, ◌++◌, List, Option, IfSome, length, drop, filter_map, sym, ◌∙◌, subst, arith, rules}
+use Rattle.std.proofs.Common.{◌≡◌, ◌+◌, ◌<◌, ◌++◌, List, Option, IfSome, length, drop, filter_map, sym, ◌∙◌, subst, arith, rules}
 use Rattle.std.proofs.lemmas.Grind.{common_steps}
 use Rattle.mx_base.specs.declared.file.File.{File}
 use Rattle.mx_base.specs.Order.{ArePathsInOrder}

@@ -1,5 +1,4 @@
 use Rattle.std.proofs.Common.{◌≡◌, ◌++◌, map, drop, filter_map, IfSome}
-use Rattle.mx_base.specs.Causes.{Counted}
 use Rattle.mx_base.specs.Order.{ArePathsInOrder, paths_of}
 use Rattle.mx_base.specs.Path.{folder_text}
 use Rattle.mix_main.specs.Plan.{source_at}
