@@ -1,4 +1,5 @@
 pub mod EndLemmas
 pub mod PlainLemmas
 pub mod ReportLemmas
+pub mod StandLemmas
 pub mod TreeLemmas
