@@ -1,11 +1,17 @@
 -- What a status tells of a stop.
-use Rattle.std.proofs.Common.{◌≡◌, ◌⊎◌, inl, inr, ℕ, List, take, Option, subst, refl, sym}
+use Rattle.std.proofs.Common.{◌≡◌, ◌∙◌, ◌⊎◌, inl, inr, ℕ, List, take, Option, Some, Err, None, IfSome, subst, refl, sym}
 use Rattle.mx_base.specs.Sink.{with_bytes}
+use Rattle.mx_base.specs.declared.file.File.{File}
+use Rattle.compile_model.specs.declared.outcome.Outcome.{Outcome}
+use Rattle.compile_model.specs.Content.{Content}
+use Rattle.mix_main.specs.declared.refusal.Refusal.{Refusal}
 use Rattle.mix_main.specs.declared.stop.Stop.{Stop}
+use Rattle.mix_main.specs.declared.stop.Stop.TheVariants as stop
 use Rattle.mix_main.specs.declared.status.Status.{Status}
 use Rattle.mix_main.specs.declared.status.Status.TheVariants.{Built, SomeFailed, BadWords, Refused, ReadFault, TreeFault, Died, OutOfMemory, Missing, WriteFault}
-use Rattle.mix_main.specs.Ends.{Says, Tells, TakesLine, FaultLine, stop_line}
-use Rattle.mix_main.specs.Status.{EndsWords}
+use Rattle.mix_main.specs.Ends.{Says, Tells, TakesLine, TakesPrefix, RefusesInput, CompileWrites, IfWrite, FaultLine, stop_line}
+use Rattle.mix_main.specs.Status.{EndsWords, IsRefusal, IsBuilt}
+use Rattle.mix_main.specs.Stop.{IfRefused, RefusedFirst, UnlessWrite}
 use Rattle.mix_main.specs.Texts.{memory_line, bad_words_line}
 
 -- the answer tells what the status that went with the text tells
@@ -85,3 +91,51 @@ fault_line Died s old new tells takes = subst (λ (t : Stop). new ≡ with_bytes
 fault_line OutOfMemory s old new tells takes = takes
 fault_line Missing s old new tells takes = tt
 fault_line WriteFault s old new tells takes = tt
+
+-- where the sink failed it took a prefix of the text
+pub says_cut : (text : List ℕ) (status result : Status) (old new : Option (List ℕ)) → Says text status result old new → result ≡ WriteFault → (n : ℕ) × (new ≡ with_bytes old (take n text))
+says_cut text status result old new says e = subst (λ (r : Status). Says text status r old new) e says
+
+-- the line of a stop, or the one on want of memory, is one that a compile writes
+writes_line : (compile : Content → Outcome) (files : List File) (s : Stop) (text : List ℕ) → RefusedFirst files s → (text ≡ stop_line s) ⊎ (text ≡ memory_line) → CompileWrites compile files text
+writes_line compile files (stop.Refused refusal) text first (inl e) = inr (inl (refusal, first, e))
+writes_line compile files stop.Read text first (inl e) = inr (inr (inl e))
+writes_line compile files stop.Tree text first (inl e) = inr (inr (inr (inl e)))
+writes_line compile files stop.Died text first (inl e) = inr (inr (inr (inr (inl e))))
+writes_line compile files stop.Memory text first (inl e) = inr (inr (inr (inr (inr e))))
+writes_line compile files stop.Write text first (inl e) = inr (inr (inr (inr (inr e))))
+writes_line compile files s text first (inr e) = inr (inr (inr (inr (inr e))))
+
+-- where the sink failed at a stop's line
+pub stop_cut : (compile : Content → Outcome) (files : List File) (result : Status) (s : Stop) (old new : Option (List ℕ)) → RefusedFirst files s → TakesLine result s old new → result ≡ WriteFault → TakesPrefix (CompileWrites compile files) old new
+stop_cut compile files result s old new first takes e =
+    let t : TakesLine WriteFault s old new = subst (λ (r : Status). TakesLine r s old new) e takes in
+    (t.1, writes_line compile files s t.1 first t.2, t.0, t.3)
+
+-- what holds where the input is refused, where the status tells so
+pub if_refused : (result : Status) (s : Stop) (P : Type 0) → Tells result s → IsRefusal result → IfRefused s P → P
+if_refused result s P tells (inl e) holds =
+    let t : Tells Refused s = subst (λ (r : Status). Tells r s) e tells in
+    subst (λ (x : Stop). IfRefused x P) t.1 holds
+if_refused result s P tells (inr e) holds =
+    let t : Tells Missing s = subst (λ (r : Status). Tells r s) e tells in
+    subst (λ (x : Stop). IfRefused x P) t.1 holds
+
+-- a refusal with its status and its line
+pub refuses_input : (files : List File) (result : Status) (s : Stop) (took takes : Option (List ℕ)) → Tells result s → TakesLine result s took takes → IsRefusal result → RefusedFirst files s → RefusesInput files result took takes
+refuses_input files result s took takes tells line (inl e) first =
+    let t : Tells Refused s = subst (λ (r : Status). Tells r s) e tells in
+    let l : TakesLine Refused s took takes = subst (λ (r : Status). TakesLine r s took takes) e line in
+    record { refusal = t.0; refused = subst (RefusedFirst files) t.1 first; status = e ∙ sym t.2; line = subst (λ (x : Stop). takes ≡ with_bytes took (stop_line x)) t.1 l }
+refuses_input files result s took takes tells line (inr e) first =
+    let t : Tells Missing s = subst (λ (r : Status). Tells r s) e tells in
+    let l : TakesLine Missing s took takes = subst (λ (r : Status). TakesLine r s took takes) e line in
+    record { refusal = t.0; refused = subst (RefusedFirst files) t.1 first; status = e ∙ sym t.2; line = subst (λ (x : Stop). takes ≡ with_bytes took (stop_line x)) t.1 l }
+
+pub not_built : (result : Status) (s : Stop) → Tells result s → IsBuilt result → ⊥
+not_built result s tells (inl e) = subst (λ (r : Status). Tells r s) e tells
+not_built result s tells (inr e) = subst (λ (r : Status). Tells r s) e tells
+
+pub if_some_all : {X : Type 0} (o : Option X) (P : X → Type 0) → ((x : X) → P x) → IfSome o P
+if_some_all None P holds = tt
+if_some_all (Some x) P holds = holds x

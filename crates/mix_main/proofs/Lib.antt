@@ -6,4 +6,5 @@ pub mod PlainLemmas
 pub mod PlanLemmas
 pub mod ReportLemmas
 pub mod SourceLemmas
+pub mod StandLemmas
 pub mod TreeLemmas

@@ -53,7 +53,7 @@ cleared_fixed env [] q s e = refl
 cleared_fixed env (app ∷ apps) q s e =
     ap (cleared_by env apps q) (either_fixed (is_same_build (record { env = env; app = app }) q) s e) ∙ cleared_fixed env apps q s e
 
-emptied_twice : (s : Slot) → emptied_slot (emptied_slot s) ≡ emptied_slot s
+pub emptied_twice : (s : Slot) → emptied_slot (emptied_slot s) ≡ emptied_slot s
 emptied_twice (Here None) = refl
 emptied_twice (Here (Some h)) = refl
 emptied_twice Out = refl
@@ -119,20 +119,28 @@ then_app Equal t e = refl
 then_app Greater t e = cc
 
 -- in an environment a build is known by its app
-own_app : (env app : List ℕ) (q : BuildKey) → is_in_env env q ≡ true → is_same_build (record { env = env; app = app }) q ≡ is_same_text app q.app
+pub own_app : (env app : List ℕ) (q : BuildKey) → is_in_env env q ≡ true → is_same_build (record { env = env; app = app }) q ≡ is_same_text app q.app
 own_app env app q e = then_app (text_cmp env q.env) (text_cmp app q.app) e
 
-either : (a b : Bool) → (a || b) ≡ false → (a ≡ false) × (b ≡ false)
+pub either : (a b : Bool) → (a || b) ≡ false → (a ≡ false) × (b ≡ false)
 either true b e = cc
 either false b e = (refl, e)
 
-both : (a b : Bool) → (a && b) ≡ true → (a ≡ true) × (b ≡ true)
+pub both : (a b : Bool) → (a && b) ≡ true → (a ≡ true) × (b ≡ true)
 both true b e = (refl, e)
 both false b e = cc
 
-not_true : (b : Bool) → not b ≡ true → b ≡ false
+pub not_true : (b : Bool) → not b ≡ true → b ≡ false
 not_true true e = cc
 not_true false e = refl
+
+-- texts with other bytes are other texts
+pub not_same : (a b : List ℕ) → bytes_eq b a ≡ false → is_same_text a b ≡ false
+not_same a b differ = at a b (is_same_text a b) refl differ
+  where
+    at : (a b : List ℕ) (t : Bool) → is_same_text a b ≡ t → bytes_eq b a ≡ false → t ≡ false
+    at a b false same differ = refl
+    at a b true same differ = let one = same_name a b same in let yes : bytes_eq b a ≡ true = subst (λ (x : List ℕ). bytes_eq b x ≡ true) (sym one) (nat_list_eq_equiv.refl b) in cc
 
 -- jobs of other apps leave a build as it is
 filled_apart : (env : List ℕ) (q : BuildKey) (jobs : List Job) (fates : List Fate) (s : Slot) → is_in_env env q ≡ true → list_any (bytes_eq q.app) (map (λ job. job.app) jobs) ≡ false → filled_by env q jobs fates s ≡ s
@@ -142,13 +150,6 @@ filled_apart env q (job ∷ jobs) (fate ∷ fates) s e apart =
     let parts = either (bytes_eq q.app job.app) (list_any (bytes_eq q.app) (map (λ job. job.app) jobs)) apart in
     ap (filled_by env q jobs fates) (either_same (is_same_build (record { env = env; app = job.app }) q) fate s (own_app env job.app q e ∙ not_same job.app q.app parts.0))
     ∙ filled_apart env q jobs fates s e parts.1
-  where
-    at : (a b : List ℕ) (t : Bool) → is_same_text a b ≡ t → bytes_eq b a ≡ false → t ≡ false
-    at a b false same differ = refl
-    at a b true same differ = let one = same_name a b same in let yes : bytes_eq b a ≡ true = subst (λ (x : List ℕ). bytes_eq b x ≡ true) (sym one) (nat_list_eq_equiv.refl b) in cc
-
-    not_same : (a b : List ℕ) → bytes_eq b a ≡ false → is_same_text a b ≡ false
-    not_same a b differ = at a b (is_same_text a b) refl differ
 
 filled_none : (env : List ℕ) (q : BuildKey) (jobs : List Job) (fates : List Fate) → filled_by env q jobs fates (Here None) ≡ Here None
 filled_none env q [] fates = refl

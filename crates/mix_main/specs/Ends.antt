@@ -18,7 +18,7 @@ use Rattle.mix_main.specs.Plan.{IsPlan}
 use Rattle.mix_main.specs.Report.{report, is_failed, AnyFailed}
 use Rattle.mix_main.specs.Status.{status_of}
 use Rattle.mix_main.specs.Texts.{read_fault_line, tree_fault_line, died_line, memory_line, refusal_line, bad_words_line}
-use Rattle.mix_main.specs.Tree.{LeavesTree}
+use Rattle.mix_main.specs.Tree.{LeavesTree, EachLeavesPart, FillsPartly}
 use Rattle.mix_main.specs.Words.{bad_word}
 
 -- the sink took the text, with which the status goes; or it failed, and took a prefix of it
@@ -86,6 +86,47 @@ FaultLine Died took takes = takes ≡ with_bytes took died_line
 FaultLine OutOfMemory took takes = takes ≡ with_bytes took memory_line
 FaultLine status took takes = Unit {0}
 
+-- nothing failed: the counts of the store, of its folders and of the compiler stand still
+abbrev pub NothingFailed : (reads reads' trees trees' deaths deaths' : ℕ) → Type 0
+NothingFailed reads reads' trees trees' deaths deaths' = (reads' ≡ reads) × (trees' ≡ trees) × (deaths' ≡ deaths)
+
+-- what holds where the sink failed
+abbrev pub IfWrite : Stop → Type 0 → Type 0
+IfWrite (stop.Refused refusal) P = Unit {0}
+IfWrite stop.Read P = Unit {0}
+IfWrite stop.Tree P = Unit {0}
+IfWrite stop.Died P = Unit {0}
+IfWrite stop.Memory P = Unit {0}
+IfWrite stop.Write P = P
+
+-- the report of the plan
+abbrev pub IsReport : (Content → Outcome) → List File → List ℕ → Type 0
+IsReport compile files text = (jobs : List Job) × IsPlan files (Ok jobs) × (text ≡ report jobs (seq compile jobs))
+
+-- the line of the first refusal
+abbrev pub IsRefusalLine : List File → List ℕ → Type 0
+IsRefusalLine files text = (refusal : Refusal) × IsPlan files (Err refusal) × (text ≡ refusal_line refusal)
+
+-- the line of a failure of the outside, or on want of memory
+abbrev pub IsFaultLine : List ℕ → Type 0
+IsFaultLine text = (text ≡ read_fault_line) ⊎ (text ≡ tree_fault_line) ⊎ (text ≡ died_line) ⊎ (text ≡ memory_line)
+
+-- the line that says at which word the words are no command
+abbrev pub IsWordsLine : List (List ℕ) → List ℕ → Type 0
+IsWordsLine words text = (at : ℕ) × (bad_word words ≡ Some at) × (text ≡ bad_words_line at)
+
+-- a text that a compile of these files may write
+abbrev pub CompileWrites : (Content → Outcome) → List File → List ℕ → Type 0
+CompileWrites compile files text = IsReport compile files text ⊎ IsRefusalLine files text ⊎ IsFaultLine text
+
+-- a text that the command may write
+abbrev pub CommandWrites : List (List ℕ) → (Content → Outcome) → List File → List ℕ → Type 0
+CommandWrites words compile files text = IsWordsLine words text ⊎ CompileWrites compile files text
+
+-- the sink took no more than a prefix of one of these texts
+abbrev pub TakesPrefix : (List ℕ → Type 0) → Option (List ℕ) → Option (List ℕ) → Type 0
+TakesPrefix Writes took takes = (text : List ℕ) × Writes text × (n : ℕ) × (takes ≡ with_bytes took (take n text))
+
 -- the words are no command: the sink took the line that says at which word
 abbrev pub RefusesWords : List (List ℕ) → Option (List ℕ) → Option (List ℕ) → Type 0
 RefusesWords words took takes = (at : ℕ) × (bad_word words ≡ Some at) × (takes ≡ with_bytes took (bad_words_line at))
@@ -93,3 +134,8 @@ RefusesWords words took takes = (at : ℕ) × (bad_word words ≡ Some at) × (t
 -- the environment of a command
 abbrev pub dev : List ℕ
 dev = codes "dev"
+
+-- what may stand in the environment after any answer: some of the files that were there, each whole, or output files of the plan
+abbrev pub MayStand : (Content → Outcome) → List ℕ → List File → (BuildKey → Slot) → (BuildKey → Slot) → Type 0
+MayStand compile env files old new =
+    EachLeavesPart old new ⊎ ((jobs : List Job) × IsPlan files (Ok jobs) × FillsPartly env jobs (seq compile jobs) old new)

@@ -1,5 +1,5 @@
 -- What compiling leaves in an environment.
-use Rattle.std.specs.Prelude.{◌≡◌, ℕ, Bool, false, List, [], ◌∷◌, if◌then◌else◌}
+use Rattle.std.specs.Prelude.{◌≡◌, ℕ, Bool, true, false, List, [], ◌∷◌, ◌++◌, take, drop, filter, Option, Some, None, option_map, if◌then◌else◌}
 use Rattle.std.specs.Ordering.{is_eq}
 use Rattle.mx_base.specs.declared.file.File.{File}
 use Rattle.mx_base.specs.Order.{text_cmp}
@@ -8,6 +8,7 @@ use Rattle.compile_model.specs.declared.outcome.Fate.{Fate}
 use Rattle.compile_model.specs.declared.outcome.Fate.TheVariants.{Built, Failed, Skipped}
 use Rattle.tree_store.specs.declared.key.BuildKey.{BuildKey}
 use Rattle.tree_store.specs.Slot.{Slot, emptied_slot, slot_with}
+use Rattle.tree_store.specs.Slot.Slot.{Here, Out}
 
 abbrev pub is_same_text : List ℕ → List ℕ → Bool
 is_same_text a b = is_eq (text_cmp a b)
@@ -39,3 +40,35 @@ ClearsEnv env old new = (q : BuildKey) → new q ≡ (if is_in_env env q then em
 -- outside the environment nothing changed
 abbrev pub StaysElsewhere : List ℕ → (BuildKey → Slot) → (BuildKey → Slot) → Type 0
 StaysElsewhere env old new = (q : BuildKey) → is_in_env env q ≡ false → new q ≡ old q
+
+-- a build with those of its files alone that stay
+abbrev pub slot_of_those : (File → Bool) → Slot → Slot
+slot_of_those stays (Here held) = Here (option_map (filter stays) held)
+slot_of_those stays Out = Out
+
+-- some of the files that a build held, each whole
+abbrev pub LeavesPart : Slot → Slot → Type 0
+LeavesPart old new = (stays : File → Bool) × (new ≡ slot_of_those stays old)
+
+-- each build holds some of the files that it held, each whole
+abbrev pub EachLeavesPart : (BuildKey → Slot) → (BuildKey → Slot) → Type 0
+EachLeavesPart old new = (q : BuildKey) → LeavesPart (old q) (new q)
+
+-- nothing, or so many bytes of the first file
+abbrev pub cut_file : Option ℕ → List File → List File
+cut_file None files = []
+cut_file (Some n) [] = []
+cut_file (Some n) (file ∷ files) = record { path = file.path; bytes = take n file.bytes } ∷ []
+
+-- so many of the files, and of the next one nothing or so many of its bytes
+abbrev pub begun : ℕ → Option ℕ → List File → List File
+begun whole part files = take whole files ++ cut_file part (drop whole files)
+
+-- the build holds no file
+abbrev pub IsEmpty : Slot → Type 0
+IsEmpty slot = slot ≡ emptied_slot slot
+
+-- each build of the environment holds the first output files of its app, and of the next one nothing or a prefix
+abbrev pub FillsPartly : List ℕ → List Job → List Fate → (BuildKey → Slot) → (BuildKey → Slot) → Type 0
+FillsPartly env jobs fates old new =
+    (q : BuildKey) → is_in_env env q ≡ true → (whole : ℕ) × (part : Option ℕ) × (new q ≡ slot_with (begun whole part (app_files q.app jobs fates)) (old q))

@@ -6,7 +6,7 @@ ghost use Rattle.tree_store.specs.Key.{is_same_build};
 ghost use Rattle.tree_store.specs.Slot.{ChangesSlot, AllHere, emptied_slot};
 ghost use Rattle.tree_store.specs.Slot.Slot.{Out};
 ghost use Rattle.mix_main.specs.Stop.{is_read, is_tree};
-ghost use Rattle.mix_main.specs.Tree.{ClearsEnv, StaysElsewhere};
+ghost use Rattle.mix_main.specs.Tree.{ClearsEnv, EachLeavesPart, StaysElsewhere};
 
 use crate::stop::TreeStop;
 use mx_base::AppName;
@@ -14,7 +14,7 @@ use std::alloc::Global;
 use tree_store::{Folder, Store};
 
 /// Empties the folder of every app of the environment.
-#[tactic(auto, using(crate::proofs::TreeLemmas::elsewhere_more))]
+#[tactic(auto, using(crate::proofs::TreeLemmas::elsewhere_more, crate::proofs::StandLemmas::part_more))]
 pub(crate) fn clear_env<S: Store>(
     alloc: Global,
     env: &AppName,
@@ -22,6 +22,7 @@ pub(crate) fn clear_env<S: Store>(
 ) -> Result<(), TreeStop>
     requires { AllHere (S.slot store.old) }
     ensures cleared { OnOk result (ClearsEnv env.now (S.slot store.old) (S.slot store.new)) }
+    ensures part { EachLeavesPart (S.slot store.old) (S.slot store.new) }
     ensures elsewhere { StaysElsewhere env.now (S.slot store.old) (S.slot store.new) }
     ensures here { AllHere (S.slot store.new) }
     ensures sources { S.sources store.new ≡ S.sources store.old }
@@ -43,6 +44,7 @@ fn clear_app<S: Store>(
 ) -> Result<(), TreeStop>
     requires { AllHere (S.slot store.old) }
     ensures cleared { OnOk result (ChangesSlot (record { env = env.now; app = app.now }) emptied_slot (S.slot store.old) (S.slot store.new)) }
+    ensures part { EachLeavesPart (S.slot store.old) (S.slot store.new) }
     ensures others { (q : BuildKey) → is_same_build (record { env = env.now; app = app.now }) q ≡ false → S.slot store.new q ≡ S.slot store.old q }
     ensures here { AllHere (S.slot store.new) }
     ensures sources { S.sources store.new ≡ S.sources store.old }

@@ -2,7 +2,7 @@
 ghost use Rattle.std.specs.Prelude.{◌≡◌, ◌≢◌, map, IfSome, string_bytes};
 ghost use Rattle.mx_base.specs.Causes.{Counted, Rose};
 ghost use Rattle.tree_store.specs.Slot.{AllHere};
-ghost use Rattle.mix_main.specs.Ends.{Compiled, FaultLine, RefusesInput, RefusesWords, dev};
+ghost use Rattle.mix_main.specs.Ends.{CommandWrites, Compiled, FaultLine, MayStand, NothingFailed, RefusesInput, RefusesWords, TakesPrefix, dev};
 ghost use Rattle.mix_main.specs.Status.{IsBuilt, IsRefusal, is_write_fault};
 ghost use Rattle.mix_main.specs.Tree.{StaysElsewhere};
 ghost use Rattle.mix_main.specs.Words.{IsCommand};
@@ -32,6 +32,7 @@ pub fn run<S: Store, C: Compiler, K: Sink>(
 
     // Status 0 and 1: the words are the command, and the report is written.
     ensures compiled { IsBuilt result → IfSome (S.sources store.old) (λ files. Compiled C.compile_of dev files result (S.slot store.old) (S.slot store.new) (K.taken out.old) (K.taken out.new)) }
+    ensures clean { IsBuilt result → NothingFailed (S.faults store.old) (S.faults store.new) (S.folder_faults store.old) (S.folder_faults store.new) (C.deaths compiler.old) (C.deaths compiler.new) }
 
     // Status 2: the words are no command.
     ensures bad_words { result ≡ Status.BadWords → RefusesWords (map (λ word. string_bytes word) words.now) (K.taken out.old) (K.taken out.new) }
@@ -40,7 +41,9 @@ pub fn run<S: Store, C: Compiler, K: Sink>(
     // Status 3 and 9: the input is refused.
     ensures refused { IsRefusal result → IfSome (S.sources store.old) (λ files. RefusesInput files result (K.taken out.old) (K.taken out.new)) }
     ensures same { IsRefusal result → S.slot store.new ≡ S.slot store.old }
+    ensures clean_refusal { IsRefusal result → NothingFailed (S.faults store.old) (S.faults store.new) (S.folder_faults store.old) (S.folder_faults store.new) (C.deaths compiler.old) (C.deaths compiler.new) }
     ensures same_words { result ≡ Status.BadWords → S.slot store.new ≡ S.slot store.old }
+    ensures clean_words { result ≡ Status.BadWords → NothingFailed (S.faults store.old) (S.faults store.new) (S.folder_faults store.old) (S.folder_faults store.new) (C.deaths compiler.old) (C.deaths compiler.new) }
 
     // Status 5, 6, 7, 8 and 10: the outside fails, or memory.
     ensures read_fault { result ≡ Status.ReadFault → Rose (S.faults store.old) (S.faults store.new) }
@@ -48,8 +51,10 @@ pub fn run<S: Store, C: Compiler, K: Sink>(
     ensures died { result ≡ Status.Died → Rose (C.deaths compiler.old) (C.deaths compiler.new) }
     ensures sink { Counted (K.faults out.old) (K.faults out.new) (is_write_fault result) }
     ensures line { FaultLine result (K.taken out.old) (K.taken out.new) }
+    ensures cut { result ≡ Status.WriteFault → IfSome (S.sources store.old) (λ files. TakesPrefix (CommandWrites (map (λ word. string_bytes word) words.now) C.compile_of files) (K.taken out.old) (K.taken out.new)) }
 
     // After any status.
+    ensures stands { IfSome (S.sources store.old) (λ files. MayStand C.compile_of dev files (S.slot store.old) (S.slot store.new)) }
     ensures elsewhere { StaysElsewhere dev (S.slot store.old) (S.slot store.new) }
     ensures here { AllHere (S.slot store.new) }
     ensures sources { S.sources store.new ≡ S.sources store.old }

@@ -1,5 +1,5 @@
 // Putting the built files.
-ghost use Rattle.std.specs.Prelude.{◌≡◌, ℕ, length, OnOk, false};
+ghost use Rattle.std.specs.Prelude.{◌≡◌, ℕ, length, OnOk, OnErr, false};
 ghost use Rattle.mx_base.specs.Causes.{Counted};
 ghost use Rattle.tree_store.specs.Faults.{is_failed};
 ghost use Rattle.tree_store.specs.Files.{with_files};
@@ -7,8 +7,8 @@ ghost use Rattle.tree_store.specs.declared.key.BuildKey.{BuildKey};
 ghost use Rattle.tree_store.specs.Key.{is_same_build};
 ghost use Rattle.tree_store.specs.Slot.{ChangesSlot, AllHere, filled_slot};
 ghost use Rattle.mix_main.specs.Stop.{is_read, is_tree};
-ghost use Rattle.mix_main.specs.Tree.{StaysElsewhere};
-ghost use Rattle.mix_main.specs.Filling.{filled_by};
+ghost use Rattle.mix_main.specs.Tree.{files_of, StaysElsewhere};
+ghost use Rattle.mix_main.specs.Filling.{filled_by, filled_once, BeginsHeld, BeginsSlot, BeginsEnv};
 
 use crate::stop::TreeStop;
 use compile_model::{Fate, Job};
@@ -28,6 +28,7 @@ pub(crate) fn fill_env<S: Store>(
     requires lengths { length fates.now ≡ length jobs.now }
     requires here { AllHere (S.slot store.old) }
     ensures filled { OnOk result ((q : BuildKey) → S.slot store.new q ≡ filled_by env.now q jobs.now fates.now (S.slot store.old q)) }
+    ensures begun { OnErr result (BeginsEnv env.now jobs.now fates.now (S.slot store.old) (S.slot store.new)) }
     ensures elsewhere { StaysElsewhere env.now (S.slot store.old) (S.slot store.new) }
     ensures here { AllHere (S.slot store.new) }
     ensures sources { S.sources store.new ≡ S.sources store.old }
@@ -35,11 +36,34 @@ pub(crate) fn fill_env<S: Store>(
     ensures trees { Counted (S.folder_faults store.old) (S.folder_faults store.new) (is_tree result) }
 {
     for (place, job) in jobs.iter().enumerate() {
-        if let Fate::Built(outcome) = &fates[place] {
-            fill_app(alloc, env, &job.app, outcome.get().files.as_slice(), store)?;
-        }
+        fill_job(alloc, env, job, &fates[place], store)?;
     }
     Ok(())
+}
+
+// Puts the files of a place, where it was built.
+fn fill_job<S: Store>(
+    alloc: Global,
+    env: &AppName,
+    job: &Job,
+    fate: &Fate,
+    store: &mut S,
+) -> Result<(), TreeStop>
+    requires { AllHere (S.slot store.old) }
+    ensures filled { OnOk result ((q : BuildKey) → S.slot store.new q ≡ filled_once (is_same_build (record { env = env.now; app = job.now.app }) q) fate.now (S.slot store.old q)) }
+    ensures begun { OnErr result (BeginsSlot (files_of fate.now) (S.slot store.old (record { env = env.now; app = job.now.app })) (S.slot store.new (record { env = env.now; app = job.now.app }))) }
+    ensures others { (q : BuildKey) → is_same_build (record { env = env.now; app = job.now.app }) q ≡ false → S.slot store.new q ≡ S.slot store.old q }
+    ensures here { AllHere (S.slot store.new) }
+    ensures sources { S.sources store.new ≡ S.sources store.old }
+    ensures reads { Counted (S.faults store.old) (S.faults store.new) (is_read result) }
+    ensures trees { Counted (S.folder_faults store.old) (S.folder_faults store.new) (is_tree result) }
+{
+    match fate {
+        Fate::Built(outcome) => {
+            fill_app(alloc, env, &job.app, outcome.get().files.as_slice(), store)
+        }
+        Fate::Failed(_) | Fate::Skipped { .. } => Ok(()),
+    }
 }
 
 fn fill_app<S: Store>(
@@ -51,6 +75,7 @@ fn fill_app<S: Store>(
 ) -> Result<(), TreeStop>
     requires { AllHere (S.slot store.old) }
     ensures filled { OnOk result (ChangesSlot (record { env = env.now; app = app.now }) (filled_slot files.now) (S.slot store.old) (S.slot store.new)) }
+    ensures begun { OnErr result (BeginsSlot files.now (S.slot store.old (record { env = env.now; app = app.now })) (S.slot store.new (record { env = env.now; app = app.now }))) }
     ensures others { (q : BuildKey) → is_same_build (record { env = env.now; app = app.now }) q ≡ false → S.slot store.new q ≡ S.slot store.old q }
     ensures here { AllHere (S.slot store.new) }
     ensures sources { S.sources store.new ≡ S.sources store.old }
@@ -69,6 +94,7 @@ fn fill_app<S: Store>(
 #[tactic(auto, using(tree_store::proofs::FilesLemmas::with_files_more))]
 fn put_files<F: Folder>(alloc: Global, files: &[File], folder: &mut F) -> Result<(), StoreFault>
     ensures held { OnOk result (F.held folder.new ≡ with_files files.now (F.held folder.old)) }
+    ensures begun { OnErr result (BeginsHeld files.now (F.held folder.old) (F.held folder.new)) }
     ensures key { F.key folder.new ≡ F.key folder.old }
     ensures cause { Counted (F.faults folder.old) (F.faults folder.new) (is_failed result) }
 {

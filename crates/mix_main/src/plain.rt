@@ -1,8 +1,8 @@
 // Compiling one dependency after another.
-ghost use Rattle.std.specs.Prelude.{◌≡◌, ◌≢◌, IfOk, IfErr, IfSome};
+ghost use Rattle.std.specs.Prelude.{◌≡◌, ◌≢◌, IfOk, IfErr, IfSome, OnOk};
 ghost use Rattle.mx_base.specs.Causes.{Counted, Rose};
 ghost use Rattle.tree_store.specs.Slot.{AllHere};
-ghost use Rattle.mix_main.specs.Ends.{Compiled, Finished, FaultLine, RefusesInput};
+ghost use Rattle.mix_main.specs.Ends.{Compiled, CompileWrites, Finished, FaultLine, IfWrite, IsReport, MayStand, NothingFailed, RefusesInput, TakesPrefix};
 ghost use Rattle.mix_main.specs.Status.{IsBuilt, IsRefusal, is_write_fault};
 ghost use Rattle.mix_main.specs.Stop.{StopCause, RefusedFirst, IfRefused, UnlessWrite, is_write};
 ghost use Rattle.mix_main.specs.Tree.{StaysElsewhere};
@@ -31,10 +31,12 @@ pub fn plain_compile<S: Store, C: Compiler, K: Sink>(
 
     // Where the report is written.
     ensures compiled { IsBuilt result → IfSome (S.sources store.old) (λ files. Compiled C.compile_of env.now files result (S.slot store.old) (S.slot store.new) (K.taken out.old) (K.taken out.new)) }
+    ensures clean { IsBuilt result → NothingFailed (S.faults store.old) (S.faults store.new) (S.folder_faults store.old) (S.folder_faults store.new) (C.deaths compiler.old) (C.deaths compiler.new) }
 
     // Where the input is refused.
     ensures refused { IsRefusal result → IfSome (S.sources store.old) (λ files. RefusesInput files result (K.taken out.old) (K.taken out.new)) }
     ensures same { IsRefusal result → S.slot store.new ≡ S.slot store.old }
+    ensures clean_refusal { IsRefusal result → NothingFailed (S.faults store.old) (S.faults store.new) (S.folder_faults store.old) (S.folder_faults store.new) (C.deaths compiler.old) (C.deaths compiler.new) }
     ensures no_words { result ≢ Status.BadWords }
 
     // Where the outside fails, or memory.
@@ -43,8 +45,10 @@ pub fn plain_compile<S: Store, C: Compiler, K: Sink>(
     ensures died { result ≡ Status.Died → Rose (C.deaths compiler.old) (C.deaths compiler.new) }
     ensures sink { Counted (K.faults out.old) (K.faults out.new) (is_write_fault result) }
     ensures line { FaultLine result (K.taken out.old) (K.taken out.new) }
+    ensures cut { result ≡ Status.WriteFault → IfSome (S.sources store.old) (λ files. TakesPrefix (CompileWrites C.compile_of files) (K.taken out.old) (K.taken out.new)) }
 
     // What stands after any answer.
+    ensures stands { IfSome (S.sources store.old) (λ files. MayStand C.compile_of env.now files (S.slot store.old) (S.slot store.new)) }
     ensures elsewhere { StaysElsewhere env.now (S.slot store.old) (S.slot store.new) }
     ensures here { AllHere (S.slot store.new) }
     ensures sources { S.sources store.new ≡ S.sources store.old }
@@ -67,11 +71,15 @@ fn compile<S: Store, C: Compiler, K: Sink>(
 ) -> Result<bool, Stop>
     requires { AllHere (S.slot store.old) }
     ensures compiled { IfOk result (λ failed. IfSome (S.sources store.old) (λ files. Finished C.compile_of env.now files failed (S.slot store.old) (S.slot store.new) (K.taken out.old) (K.taken out.new))) }
+    ensures clean { OnOk result (NothingFailed (S.faults store.old) (S.faults store.new) (S.folder_faults store.old) (S.folder_faults store.new) (C.deaths compiler.old) (C.deaths compiler.new)) }
     ensures stopped { IfErr result (StopCause (S.faults store.old) (S.faults store.new) (S.folder_faults store.old) (S.folder_faults store.new) (C.deaths compiler.old) (C.deaths compiler.new)) }
     ensures refused { IfErr result (λ stop. IfSome (S.sources store.old) (λ files. RefusedFirst files stop)) }
     ensures same { IfErr result (λ stop. IfRefused stop (S.slot store.new ≡ S.slot store.old)) }
+    ensures clean_refusal { IfErr result (λ stop. IfRefused stop (NothingFailed (S.faults store.old) (S.faults store.new) (S.folder_faults store.old) (S.folder_faults store.new) (C.deaths compiler.old) (C.deaths compiler.new))) }
     ensures unsaid { IfErr result (λ stop. UnlessWrite stop (K.taken out.new ≡ K.taken out.old)) }
     ensures sink { Counted (K.faults out.old) (K.faults out.new) (is_write result) }
+    ensures cut { IfErr result (λ stop. IfWrite stop (IfSome (S.sources store.old) (λ files. TakesPrefix (IsReport C.compile_of files) (K.taken out.old) (K.taken out.new)))) }
+    ensures stands { IfSome (S.sources store.old) (λ files. MayStand C.compile_of env.now files (S.slot store.old) (S.slot store.new)) }
     ensures elsewhere { StaysElsewhere env.now (S.slot store.old) (S.slot store.new) }
     ensures here { AllHere (S.slot store.new) }
     ensures sources { S.sources store.new ≡ S.sources store.old }

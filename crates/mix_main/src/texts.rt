@@ -1,9 +1,9 @@
 // The lines that say why there is no report.
-ghost use Rattle.std.specs.Prelude.{◌≡◌, ◌≢◌, IfOk, IsFalse};
+ghost use Rattle.std.specs.Prelude.{◌≡◌, ◌≢◌, ◌⊎◌, IfOk, IsFalse};
 ghost use Rattle.mx_base.specs.Sink.{with_bytes};
-ghost use Rattle.mix_main.specs.declared.status.Status.TheVariants.{BadWords, OutOfMemory};
+ghost use Rattle.mix_main.specs.declared.status.Status.TheVariants.{BadWords, OutOfMemory, WriteFault};
 ghost use Rattle.mx_base.specs.Causes.{Counted};
-ghost use Rattle.mix_main.specs.Ends.{Says, Tells, TakesLine, FaultLine};
+ghost use Rattle.mix_main.specs.Ends.{Says, Tells, TakesLine, TakesPrefix, FaultLine};
 ghost use Rattle.mix_main.specs.Status.{is_write_fault, status_of, EndsWords};
 ghost use Rattle.mix_main.specs.declared.stop.Stop.TheVariants.{Refused, Write};
 ghost use Rattle.mix_main.specs.Texts.{refusal_line, memory_line, bad_words_line};
@@ -41,6 +41,7 @@ pub(crate) fn say_bad_words<K: Sink>(alloc: Global, at: usize, out: &mut K) -> S
     ensures ends { EndsWords result }
     ensures bad_words { result ≡ BadWords → K.taken out.new ≡ with_bytes (K.taken out.old) (bad_words_line at) }
     ensures line { FaultLine result (K.taken out.old) (K.taken out.new) }
+    ensures cut { result ≡ WriteFault → TakesPrefix (λ text. (text ≡ bad_words_line at) ⊎ (text ≡ memory_line)) (K.taken out.old) (K.taken out.new) }
     ensures cause { Counted (K.faults out.old) (K.faults out.new) (is_write_fault result) }
 {
     match bad_words_line(alloc, at) {

@@ -5,10 +5,11 @@ use Rattle.compile_model.specs.declared.job.Job.{Job}
 use Rattle.compile_model.specs.declared.outcome.Fate.{Fate}
 use Rattle.tree_store.specs.declared.key.BuildKey.{BuildKey}
 use Rattle.tree_store.specs.Slot.{Slot}
-use Rattle.mix_main.specs.Tree.{ClearsEnv}
+use Rattle.mix_main.specs.Tree.{ClearsEnv, EachLeavesPart}
 use Rattle.mix_main.specs.Filling.{filled_by}
 use Rattle.mix_main.specs.Report.{report, is_failed}
-use Rattle.mix_main.proofs.PlainLemmas.{if_some_map, finished}
+use Rattle.mix_main.proofs.PlainLemmas.{if_some_map, finished, if_write, report_cut, part_stands, files_stand, filled_partly, filled_wholly}
+use Rattle.mix_main.proofs.StandLemmas.{same_part}
 use Rattle.mix_main.proofs.plain.compile.Goals as goal
 
 pub returns-clause-compiled : goal.returns-clause-compiled
@@ -27,3 +28,53 @@ returns-clause-compiled g c =
     (c.in_ok-write.ensures.taken ∙ ap (with_bytes (g.K.Sink.taken c.args.out.now)) c.deref-3.ensures.value)
     (c.any_failed.ensures ∙ ap (list_any is_failed) c.deref-4.ensures.value))
     c.in_ok-plan.ensures.plan
+
+pub returns-in_err-plan-clause-stands : goal.returns-in_err-plan-clause-stands
+returns-in_err-plan-clause-stands g c =
+    part_stands g.C.Meaning.compile_of c.args.env.now (g.S.Store.sources c.args.store.now) (g.S.Store.slot c.args.store.now) _ (same_part (g.S.Store.slot c.args.store.now) _ c.in_err-plan.ensures.same)
+
+pub returns-in_err-clear_env-clause-stands : goal.returns-in_err-clear_env-clause-stands
+returns-in_err-clear_env-clause-stands g c =
+    part_stands g.C.Meaning.compile_of c.args.env.now (g.S.Store.sources c.args.store.now) (g.S.Store.slot c.args.store.now) (g.S.Store.slot c.clear_env.new.store)
+    (subst (λ (slots : BuildKey → Slot). EachLeavesPart slots (g.S.Store.slot c.clear_env.new.store)) c.in_ok-plan.ensures.same c.in_err-clear_env.ensures.part)
+
+pub returns-in_err-fates-clause-stands : goal.returns-in_err-fates-clause-stands
+returns-in_err-fates-clause-stands g c =
+    part_stands g.C.Meaning.compile_of c.args.env.now (g.S.Store.sources c.args.store.now) (g.S.Store.slot c.args.store.now) (g.S.Store.slot c.clear_env.new.store)
+    (subst (λ (slots : BuildKey → Slot). EachLeavesPart slots (g.S.Store.slot c.clear_env.new.store)) c.in_ok-plan.ensures.same c.in_ok-clear_env.ensures.part)
+
+pub returns-in_err-fill_env-clause-stands : goal.returns-in_err-fill_env-clause-stands
+returns-in_err-fill_env-clause-stands g c =
+    let env = c.args.env.now in
+    let mid = (g.S.Store.slot c.clear_env.new.store) in
+    files_stand g.C.Meaning.compile_of env (g.S.Store.sources c.args.store.now) c.in_ok-plan.plan.jobs (g.S.Store.slot c.args.store.now) (g.S.Store.slot c.fill_env.new.store) c.in_ok-plan.ensures.plan
+    (filled_partly g.C.Meaning.compile_of g.C.Meaning.files_in_order env c.in_ok-plan.plan.jobs c.as_slice.result.now c.in_ok-fates.fates.items c.deref.result.now (g.S.Store.slot c.args.store.now) mid (g.S.Store.slot c.fill_env.new.store)
+    c.as_slice.ensures c.deref.ensures.value c.in_ok-fates.ensures.fates c.in_ok-plan.ensures.apps
+    (subst (λ (slots : BuildKey → Slot). ClearsEnv env slots mid) c.in_ok-plan.ensures.same c.in_ok-clear_env.ensures.cleared) c.in_err-fill_env.ensures.begun)
+
+pub returns-in_err-text-clause-stands : goal.returns-in_err-text-clause-stands
+returns-in_err-text-clause-stands g c =
+    let env = c.args.env.now in
+    let mid = (g.S.Store.slot c.clear_env.new.store) in
+    files_stand g.C.Meaning.compile_of env (g.S.Store.sources c.args.store.now) c.in_ok-plan.plan.jobs (g.S.Store.slot c.args.store.now) (g.S.Store.slot c.fill_env.new.store) c.in_ok-plan.ensures.plan
+    (filled_wholly g.C.Meaning.compile_of g.C.Meaning.files_in_order env c.in_ok-plan.plan.jobs c.as_slice.result.now c.in_ok-fates.fates.items c.deref.result.now (g.S.Store.slot c.args.store.now) mid (g.S.Store.slot c.fill_env.new.store)
+    c.as_slice.ensures c.deref.ensures.value c.in_ok-fates.ensures.fates c.in_ok-plan.ensures.apps
+    (subst (λ (slots : BuildKey → Slot). ClearsEnv env slots mid) c.in_ok-plan.ensures.same c.in_ok-clear_env.ensures.cleared) c.in_ok-fill_env.ensures.filled)
+
+pub returns-in_err-write-clause-stands : goal.returns-in_err-write-clause-stands
+returns-in_err-write-clause-stands g c =
+    let env = c.args.env.now in
+    let mid = (g.S.Store.slot c.clear_env.new.store) in
+    files_stand g.C.Meaning.compile_of env (g.S.Store.sources c.args.store.now) c.in_ok-plan.plan.jobs (g.S.Store.slot c.args.store.now) (g.S.Store.slot c.fill_env.new.store) c.in_ok-plan.ensures.plan
+    (filled_wholly g.C.Meaning.compile_of g.C.Meaning.files_in_order env c.in_ok-plan.plan.jobs c.as_slice.result.now c.in_ok-fates.fates.items c.deref.result.now (g.S.Store.slot c.args.store.now) mid (g.S.Store.slot c.fill_env.new.store)
+    c.as_slice.ensures c.deref.ensures.value c.in_ok-fates.ensures.fates c.in_ok-plan.ensures.apps
+    (subst (λ (slots : BuildKey → Slot). ClearsEnv env slots mid) c.in_ok-plan.ensures.same c.in_ok-clear_env.ensures.cleared) c.in_ok-fill_env.ensures.filled)
+
+pub returns-clause-stands : goal.returns-clause-stands
+returns-clause-stands g c =
+    let env = c.args.env.now in
+    let mid = (g.S.Store.slot c.clear_env.new.store) in
+    files_stand g.C.Meaning.compile_of env (g.S.Store.sources c.args.store.now) c.in_ok-plan.plan.jobs (g.S.Store.slot c.args.store.now) (g.S.Store.slot c.fill_env.new.store) c.in_ok-plan.ensures.plan
+    (filled_wholly g.C.Meaning.compile_of g.C.Meaning.files_in_order env c.in_ok-plan.plan.jobs c.as_slice.result.now c.in_ok-fates.fates.items c.deref.result.now (g.S.Store.slot c.args.store.now) mid (g.S.Store.slot c.fill_env.new.store)
+    c.as_slice.ensures c.deref.ensures.value c.in_ok-fates.ensures.fates c.in_ok-plan.ensures.apps
+    (subst (λ (slots : BuildKey → Slot). ClearsEnv env slots mid) c.in_ok-plan.ensures.same c.in_ok-clear_env.ensures.cleared) c.in_ok-fill_env.ensures.filled)

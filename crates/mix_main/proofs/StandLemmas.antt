@@ -1,0 +1,293 @@
+-- What stands in a build after an error.
+use Rattle.std.proofs.Common.{◌≡◌, ◌⊎◌, inl, inr, ℕ, zero, suc, ◌+◌, ◌<◌, Bool, true, false, not, ◌&&◌, cond, Option, Some, None, option_map, List, [], ◌∷◌, ◌++◌, length, get_or, take, drop, filter, map, bytes_eq, refl, sym, ◌∙◌, ap, subst, arith, drop-cons, Result, Ok, Err, OnErr}
+use Rattle.std.proofs.lemmas.List.{append-nil, take-append-drop, take_more}
+use Rattle.std.proofs.Math.Seq.{take-length}
+use Rattle.std.specs.declared.cmp.Ordering.{Ordering}
+use Rattle.std.specs.declared.cmp.Ordering.TheVariants.{Less, Equal, Greater}
+use Rattle.std.specs.Ordering.{match_ordering, is_eq}
+use Rattle.std.specs.List.{AllByRecursion, list_any}
+use Rattle.mx_base.specs.declared.file.File.{File}
+use Rattle.mx_base.specs.Order.{text_cmp, IsBefore, AreInOrder, paths_of}
+use Rattle.compile_model.specs.declared.job.Job.{Job}
+use Rattle.compile_model.specs.declared.outcome.Fate.{Fate}
+use Rattle.compile_model.specs.declared.outcome.Fate.TheVariants.{Built, Failed, Skipped}
+use Rattle.compile_model.specs.Seq.{HoldsInOrder}
+use Rattle.tree_store.specs.declared.key.BuildKey.{BuildKey}
+use Rattle.tree_store.specs.Key.{is_same_build}
+use Rattle.tree_store.specs.Files.{put_file, put_all, with_file, without_file, emptied, HoldsPart, PutsPartly}
+use Rattle.tree_store.specs.Slot.{Slot, SetsSlot, ChangesSlot, emptied_slot, slot_with}
+use Rattle.tree_store.specs.Slot.Slot.{Here, Out}
+use Rattle.tree_store.proofs.FilesLemmas.{part_of_itself, put_all_in_order}
+use Rattle.tree_store.proofs.OrderLemmas.{less_back, same_name}
+use Rattle.tree_store.proofs.StoreLemmas.{lent_and_back, one_key}
+use Rattle.mix_main.specs.Plan.{jobs_differ}
+use Rattle.mix_main.specs.Tree.{is_same_text, is_in_env, files_of, app_files, ClearsEnv, LeavesTree, slot_of_those, LeavesPart, EachLeavesPart, cut_file, begun, IsEmpty, FillsPartly}
+use Rattle.mix_main.specs.Filling.{filled_once, BeginsHeld, BeginsSlot}
+use Rattle.mix_main.proofs.TreeLemmas.{own_app, either, both, not_true, not_same, emptied_twice}
+
+-- what holds anyway holds on an error
+pub on_err : {T E : Type 0} (r : Result T E) (P : Type 0) → P → OnErr r P
+on_err (Ok x) P holds = tt
+on_err (Err e) P holds = holds
+
+filter_none : (files : List File) → filter (λ f. false) files ≡ []
+filter_none [] = refl
+filter_none (f ∷ fs) = filter_none fs
+
+filter_twice : (f g : File → Bool) (files : List File) → filter g (filter f files) ≡ filter (λ x. f x && g x) files
+filter_twice f g [] = refl
+filter_twice f g (x ∷ xs) = at (f x) refl (filter_twice f g xs)
+  where
+    at : (b : Bool) → f x ≡ b → filter g (filter f xs) ≡ filter (λ y. f y && g y) xs → filter g (cond (f x) (x ∷ filter f xs) (filter f xs)) ≡ cond (f x && g x) (x ∷ filter (λ y. f y && g y) xs) (filter (λ y. f y && g y) xs)
+    at true e rest =
+        ap (λ (b : Bool). filter g (cond b (x ∷ filter f xs) (filter f xs))) e
+        ∙ ap (λ (ys : List File). cond (g x) (x ∷ ys) ys) rest
+        ∙ ap (λ (b : Bool). cond (b && g x) (x ∷ filter (λ y. f y && g y) xs) (filter (λ y. f y && g y) xs)) (sym e)
+    at false e rest =
+        ap (λ (b : Bool). filter g (cond b (x ∷ filter f xs) (filter f xs))) e
+        ∙ rest
+        ∙ ap (λ (b : Bool). cond (b && g x) (x ∷ filter (λ y. f y && g y) xs) (filter (λ y. f y && g y) xs)) (sym e)
+
+-- a slot is a part of itself
+pub part_itself : (s : Slot) → LeavesPart s s
+part_itself (Here held) = let p = part_of_itself held in (p.0, ap Here p.1)
+part_itself Out = (λ f. true, refl)
+
+those_twice : (f g : File → Bool) (s : Slot) → slot_of_those g (slot_of_those f s) ≡ slot_of_those (λ x. f x && g x) s
+those_twice f g (Here None) = refl
+those_twice f g (Here (Some files)) = ap (λ (fs : List File). Here (Some fs)) (filter_twice f g files)
+those_twice f g Out = refl
+
+-- a part of a part is a part
+part_twice : (a b c : Slot) → LeavesPart a b → LeavesPart b c → LeavesPart a c
+part_twice a b c p q = (λ x. p.0 x && q.0 x, q.1 ∙ ap (slot_of_those q.0) p.1 ∙ those_twice p.0 q.0 a)
+
+pub each_part_itself : (slots : BuildKey → Slot) → EachLeavesPart slots slots
+each_part_itself slots q = part_itself (slots q)
+
+pub same_part : (old new : BuildKey → Slot) → new ≡ old → EachLeavesPart old new
+same_part old new e = subst (λ (slots : BuildKey → Slot). EachLeavesPart old slots) (sym e) (each_part_itself old)
+
+pub part_more : (old mid new : BuildKey → Slot) → EachLeavesPart old mid → EachLeavesPart mid new → EachLeavesPart old new
+part_more old mid new p q k = part_twice (old k) (mid k) (new k) (p k) (q k)
+
+-- emptied is a part
+pub none_left : (old new : Option (List File)) → new ≡ emptied old → HoldsPart old new
+none_left None new e = (λ f. false, e)
+none_left (Some files) new e = (λ f. false, e ∙ ap (λ (fs : List File). Some fs) (sym (filter_none files)))
+
+-- a folder was handed out, lost files and came back
+pub lent_part : (key back_key : BuildKey) (held left : Option (List File)) (old mid new : BuildKey → Slot) → SetsSlot key Out old mid → back_key ≡ key → SetsSlot back_key (Here left) mid new → Here held ≡ old key → HoldsPart held left → EachLeavesPart old new
+lent_part key back_key held left old mid new out own back is part q =
+    at (is_same_build key q)
+    (lent_and_back key back_key (slot_of_those part.0) left old mid new out own back (ap (slot_of_those part.0) (sym is) ∙ ap Here (sym part.1)) q)
+  where
+    at : (b : Bool) → new q ≡ cond b (slot_of_those part.0 (old q)) (old q) → LeavesPart (old q) (new q)
+    at true e = (part.0, e)
+    at false e = subst (λ (s : Slot). LeavesPart (old q) s) (sym e) (part_itself (old q))
+
+-- the environment was emptied, and elsewhere nothing changed
+pub cleared_part : (env : List ℕ) (old new : BuildKey → Slot) → ClearsEnv env old new → EachLeavesPart old new
+cleared_part env old new clears q = at (is_in_env env q) (clears q)
+  where
+    none : (s : Slot) → LeavesPart s (emptied_slot s)
+    none (Here held) = let p = none_left held (emptied held) refl in (p.0, ap Here p.1)
+    none Out = (λ f. true, refl)
+
+    at : (b : Bool) → new q ≡ cond b (emptied_slot (old q)) (old q) → LeavesPart (old q) (new q)
+    at true e = subst (λ (s : Slot). LeavesPart (old q) s) (sym e) (none (old q))
+    at false e = subst (λ (s : Slot). LeavesPart (old q) s) (sym e) (part_itself (old q))
+
+before_at : (a : List ℕ) (ps : List File) (f : File) (post : List File) → IsBefore a (paths_of (ps ++ f ∷ post)) → text_cmp a f.path ≡ Less
+before_at a [] f post b = b.0
+before_at a (p ∷ ps) f post b = before_at a ps f post b.1
+
+-- a file put behind all that stand before it
+put_behind : (pre : List File) (f c : File) (post : List File) → AreInOrder (pre ++ f ∷ post) → c.path ≡ f.path → put_file c pre ≡ pre ++ c ∷ []
+put_behind [] f c post o e = refl
+put_behind (p ∷ ps) f c post o e =
+    ap (λ (r : Ordering). match_ordering r (c ∷ p ∷ ps) (record { path = p.path; bytes = c.bytes } ∷ ps) (p ∷ put_file c ps))
+    (ap (λ (t : List ℕ). text_cmp t p.path) e ∙ less_back p.path f.path (before_at p.path ps f post o.0))
+    ∙ ap (λ (fs : List File). p ∷ fs) (put_behind ps f c post o.1 e)
+
+without_behind : (pre : List File) (f : File) (post : List File) → AreInOrder (pre ++ f ∷ post) → without_file f.path pre ≡ pre
+without_behind [] f post o = refl
+without_behind (p ∷ ps) f post o =
+    ap (λ (r : Ordering). cond (not (is_eq r)) (p ∷ without_file f.path ps) (without_file f.path ps)) (less_back p.path f.path (before_at p.path ps f post o.0))
+    ∙ ap (λ (fs : List File). p ∷ fs) (without_behind ps f post o.1)
+
+map_const : (g : List File → List File) (xs : List File) (o : Option (List File)) → option_map g (option_map (λ h. xs) o) ≡ option_map (λ h. g xs) o
+map_const g xs None = refl
+map_const g xs (Some h) = refl
+
+abbrev just : List File → Option (List File) → Option (List File)
+just xs o = option_map (λ h. xs) o
+
+next : (files : List File) (k : ℕ) (file : File) → k < length files → get_or files k file ≡ file → drop k files ≡ file ∷ drop (suc k) files
+next files k file lt is = drop-cons files k file lt ∙ ap (λ (f : File). f ∷ drop (suc k) files) is
+
+split : (files : List File) (k : ℕ) (file : File) → k < length files → get_or files k file ≡ file → AreInOrder files → AreInOrder (take k files ++ file ∷ drop (suc k) files)
+split files k file lt is order =
+    subst AreInOrder (sym (take-append-drop k files) ∙ ap (λ (fs : List File). take k files ++ fs) (next files k file lt is)) order
+
+-- one file more was put
+pub put_next : (files : List File) (k : ℕ) (file : File) (old mid new : Option (List File)) → k < length files → get_or files k file ≡ file → AreInOrder files → mid ≡ just (take k files) old → new ≡ with_file file mid → new ≡ just (take (k + 1) files) old
+put_next files k file old mid new lt is order m e =
+    e ∙ ap (with_file file) m ∙ map_const (put_file file) (take k files) old
+    ∙ ap (λ (fs : List File). just fs old)
+    (put_behind (take k files) file file (drop (suc k) files) (split files k file lt is order) refl
+    ∙ ap (λ (f : File). take k files ++ f ∷ []) (sym is) ∙ sym (take_more files k file lt))
+
+-- the next one was put in part
+pub put_last_partly : (files : List File) (k : ℕ) (file : File) (old mid new : Option (List File)) → k < length files → get_or files k file ≡ file → AreInOrder files → mid ≡ just (take k files) old → PutsPartly file mid new → (whole : ℕ) × (part : Option ℕ) × (new ≡ just (begun whole part files) old)
+put_last_partly files k file old mid new lt is order m (inl e) =
+    (k, None, e ∙ m ∙ ap (λ (fs : List File). just fs old) (sym (append-nil (take k files))))
+put_last_partly files k file old mid new lt is order m (inr (inl e)) = (
+  k,
+  None,
+  e ∙ ap (option_map (without_file file.path)) m ∙ map_const (without_file file.path) (take k files) old
+      ∙ ap (λ (fs : List File). just fs old) (without_behind (take k files) file (drop (suc k) files) (split files k file lt is order) ∙ sym (append-nil (take k files))),
+)
+put_last_partly files k file old mid new lt is order m (inr (inr (n, e))) =
+    let cut : File = record { path = file.path; bytes = take n file.bytes } in (
+      k,
+      Some n,
+      e ∙ ap (with_file cut) m ∙ map_const (put_file cut) (take k files) old
+          ∙ ap (λ (fs : List File). just fs old)
+          (put_behind (take k files) file cut (drop (suc k) files) (split files k file lt is order) refl
+          ∙ ap (λ (fs : List File). take k files ++ cut_file (Some n) fs) (sym (next files k file lt is))),
+    )
+
+here_same : (a b : Option (List File)) → Here a ≡ Here b → a ≡ b
+here_same a b e = cc
+
+-- the same of slots
+pub begins_slot : (files : List File) (old new : Option (List File)) (from to : Slot) → Here old ≡ from → to ≡ Here new → BeginsHeld files old new → BeginsSlot files from to
+begins_slot files old new from to is was begins order empty =
+    let none : old ≡ emptied old = here_same old (emptied old) (subst (λ (s : Slot). s ≡ emptied_slot s) (sym is) empty) in
+    let b = begins order none in
+    (b.0, b.1, was ∙ ap Here b.2 ∙ ap (slot_with (begun b.0 b.1 files)) is)
+
+emptied_with_none : (s : Slot) → emptied_slot s ≡ slot_with [] s
+emptied_with_none (Here held) = refl
+emptied_with_none Out = refl
+
+-- what is empty has begun with none
+pub none_begun : (files : List File) (s : Slot) → IsEmpty s → s ≡ slot_with (begun 0 None files) s
+none_begun files s empty = empty ∙ emptied_with_none s
+
+all_begun : (files : List File) → files ≡ begun (length files) None files
+all_begun files = sym (take-length files) ∙ sym (append-nil (take (length files) files))
+
+pub same_begins : (files : List File) (old new : Slot) → new ≡ old → BeginsSlot files old new
+same_begins files old new e order empty = (0, None, e ∙ none_begun files old empty)
+
+-- what one job did, which an error ended
+abbrev pub StopsOnce : Bool → Fate → Slot → Slot → Type 0
+StopsOnce true fate s new = BeginsSlot (files_of fate) s new
+StopsOnce false fate s new = new ≡ s
+
+-- what jobs did one after another, of which an error may have ended one
+abbrev pub Stops : List ℕ → BuildKey → List Job → List Fate → Slot → Slot → Type 0
+Stops env q [] fates s new = new ≡ s
+Stops env q (job ∷ jobs) [] s new = new ≡ s
+Stops env q (job ∷ jobs) (fate ∷ fates) s new =
+    StopsOnce (is_same_build (record { env = env; app = job.app }) q) fate s new ⊎ Stops env q jobs fates (filled_once (is_same_build (record { env = env; app = job.app }) q) fate s) new
+
+-- an error ended this job
+pub stops_here : (env : List ℕ) (q : BuildKey) (job : Job) (fate : Fate) (old new : BuildKey → Slot) → BeginsSlot (files_of fate) (old (record { env = env; app = job.app })) (new (record { env = env; app = job.app })) → ((q : BuildKey) → is_same_build (record { env = env; app = job.app }) q ≡ false → new q ≡ old q) → StopsOnce (is_same_build (record { env = env; app = job.app }) q) fate (old q) (new q)
+stops_here env q job fate old new begins others = at (is_same_build (record { env = env; app = job.app }) q) refl
+  where
+    at : (b : Bool) → is_same_build (record { env = env; app = job.app }) q ≡ b → StopsOnce b fate (old q) (new q)
+    at true e = subst (λ (k : BuildKey). BeginsSlot (files_of fate) (old k) (new k)) (one_key (record { env = env; app = job.app }) q e) begins
+    at false e = others q e
+
+-- an error ended the job at this place
+pub stops_at : (env : List ℕ) (q : BuildKey) (jobs : List Job) (fates : List Fate) (place : ℕ) (job : Job) (fate : Fate) (s new : Slot) → place < length jobs → place < length fates → job ≡ get_or jobs place job → fate ≡ get_or fates place fate → StopsOnce (is_same_build (record { env = env; app = job.app }) q) fate s new → Stops env q (drop place jobs) (drop place fates) s new
+stops_at env q jobs fates place job fate s new lt lt' is is' once =
+    subst (λ (js : List Job). Stops env q js (drop place fates) s new) (sym (drop-cons jobs place job lt ∙ ap (λ (j : Job). j ∷ drop (suc place) jobs) (sym is)))
+    (subst (λ (fs : List Fate). Stops env q (job ∷ drop (suc place) jobs) fs s new) (sym (drop-cons fates place fate lt' ∙ ap (λ (f : Fate). f ∷ drop (suc place) fates) (sym is'))) (inl once))
+
+once_apart : (b : Bool) (fate : Fate) (s : Slot) → b ≡ false → filled_once b fate s ≡ s
+once_apart true fate s e = cc
+once_apart false (Built o) s e = refl
+once_apart false (Failed o) s e = refl
+once_apart false (Skipped n) s e = refl
+
+stops_apart : (env : List ℕ) (q : BuildKey) (jobs : List Job) (fates : List Fate) (s new : Slot) → is_in_env env q ≡ true → list_any (bytes_eq q.app) (map (λ job. job.app) jobs) ≡ false → Stops env q jobs fates s new → new ≡ s
+stops_apart env q [] fates s new e apart stops = stops
+stops_apart env q (job ∷ jobs) [] s new e apart stops = stops
+stops_apart env q (job ∷ jobs) (fate ∷ fates) s new e apart stops =
+    at stops (λ t. stops_apart env q jobs fates t new e (either (bytes_eq q.app job.app) (list_any (bytes_eq q.app) (map (λ job. job.app) jobs)) apart).1)
+  where
+    own : is_same_build (record { env = env; app = job.app }) q ≡ false
+    own = own_app env job.app q e ∙ not_same job.app q.app (either (bytes_eq q.app job.app) (list_any (bytes_eq q.app) (map (λ job. job.app) jobs)) apart).0
+
+    at : StopsOnce (is_same_build (record { env = env; app = job.app }) q) fate s new ⊎ Stops env q jobs fates (filled_once (is_same_build (record { env = env; app = job.app }) q) fate s) new → ((t : Slot) → Stops env q jobs fates t new → new ≡ t) → new ≡ s
+    at (inl here) more = subst (λ (b : Bool). StopsOnce b fate s new) own here
+    at (inr rest) more =
+        more (filled_once (is_same_build (record { env = env; app = job.app }) q) fate s) rest
+        ∙ once_apart (is_same_build (record { env = env; app = job.app }) q) fate s own
+
+order_of : (fate : Fate) → HoldsInOrder fate → AreInOrder (files_of fate)
+order_of (Built o) order = order
+order_of (Failed o) order = tt
+order_of (Skipped n) order = tt
+
+once_own : (fate : Fate) (s : Slot) → HoldsInOrder fate → IsEmpty s → filled_once true fate s ≡ slot_with (files_of fate) s
+once_own (Built o) (Here None) order empty = refl
+once_own (Built o) (Here (Some h)) order empty =
+    let none : h ≡ [] = cc in
+    ap (λ (fs : List File). Here (Some (put_all fs o.files))) none ∙ ap (λ (fs : List File). Here (Some fs)) (put_all_in_order o.files order)
+once_own (Built o) Out order empty = refl
+once_own (Failed o) s order empty = empty ∙ emptied_with_none s
+once_own (Skipped n) s order empty = empty ∙ emptied_with_none s
+
+-- an empty build of the environment has the first files of its own job
+pub stops_begun : (env : List ℕ) (q : BuildKey) (jobs : List Job) (fates : List Fate) (s new : Slot) → is_in_env env q ≡ true → jobs_differ jobs ≡ true → AllByRecursion HoldsInOrder fates → IsEmpty s → Stops env q jobs fates s new → (whole : ℕ) × (part : Option ℕ) × (new ≡ slot_with (begun whole part (app_files q.app jobs fates)) s)
+stops_begun env q [] fates s new e differ order empty stops = (0, None, stops ∙ none_begun [] s empty)
+stops_begun env q (job ∷ jobs) [] s new e differ order empty stops = (0, None, stops ∙ none_begun [] s empty)
+stops_begun env q (job ∷ jobs) (fate ∷ fates) s new e differs order empty stops =
+    at (is_same_text job.app q.app) refl (subst (λ (b : Bool). StopsOnce b fate s new ⊎ Stops env q jobs fates (filled_once b fate s) new) (own_app env job.app q e) stops)
+    (stops_begun env q jobs fates s new e (both (not (list_any (bytes_eq job.app) (map (λ job. job.app) jobs))) (jobs_differ jobs) differs).1 order.1 empty)
+  where
+    parts : (not (list_any (bytes_eq job.app) (map (λ job. job.app) jobs)) ≡ true) × (jobs_differ jobs ≡ true)
+    parts = both (not (list_any (bytes_eq job.app) (map (λ job. job.app) jobs))) (jobs_differ jobs) differs
+
+    at : (t : Bool) → is_same_text job.app q.app ≡ t → StopsOnce t fate s new ⊎ Stops env q jobs fates (filled_once t fate s) new → (Stops env q jobs fates s new → (whole : ℕ) × (part : Option ℕ) × (new ≡ slot_with (begun whole part (app_files q.app jobs fates)) s)) → (whole : ℕ) × (part : Option ℕ) × (new ≡ slot_with (begun whole part (cond t (files_of fate) (app_files q.app jobs fates))) s)
+    at true same (inl here) more = here (order_of fate order.0) empty
+    at true same (inr rest) more = (
+      length (files_of fate),
+      None,
+      stops_apart env q jobs fates (filled_once true fate s) new e (subst (λ (x : List ℕ). list_any (bytes_eq x) (map (λ job. job.app) jobs) ≡ false) (same_name job.app q.app same) (not_true (list_any (bytes_eq job.app) (map (λ job. job.app) jobs)) parts.0)) rest
+          ∙ once_own fate s order.0 empty ∙ ap (λ (fs : List File). slot_with fs s) (all_begun (files_of fate)),
+    )
+    at false same (inl here) more = (0, None, here ∙ none_begun (app_files q.app jobs fates) s empty)
+    at false same (inr rest) more =
+        more (subst (λ (x : Slot). Stops env q jobs fates x new) (once_apart false fate s refl) rest)
+
+emptied_with : (files : List File) (s : Slot) → slot_with files (emptied_slot s) ≡ slot_with files s
+emptied_with files (Here None) = refl
+emptied_with files (Here (Some h)) = refl
+emptied_with files Out = refl
+
+cleared_slot : (env : List ℕ) (old mid : BuildKey → Slot) (q : BuildKey) → ClearsEnv env old mid → is_in_env env q ≡ true → mid q ≡ emptied_slot (old q)
+cleared_slot env old mid q clears e = clears q ∙ ap (λ (b : Bool). cond b (emptied_slot (old q)) (old q)) e
+
+pub cleared_empty : (env : List ℕ) (old mid : BuildKey → Slot) → ClearsEnv env old mid → (q : BuildKey) → is_in_env env q ≡ true → IsEmpty (mid q)
+cleared_empty env old mid clears q e =
+    let is : mid q ≡ emptied_slot (old q) = cleared_slot env old mid q clears e in
+    is ∙ sym (emptied_twice (old q)) ∙ ap emptied_slot (sym is)
+
+-- emptied, and filled until an error
+pub cleared_filled : (env : List ℕ) (jobs : List Job) (fates : List Fate) (old mid new : BuildKey → Slot) → ClearsEnv env old mid → FillsPartly env jobs fates mid new → FillsPartly env jobs fates old new
+cleared_filled env jobs fates old mid new clears fills q e =
+    let f = fills q e in
+    let files : List File = begun f.0 f.1 (app_files q.app jobs fates) in
+    (f.0, f.1, f.2 ∙ ap (slot_with files) (cleared_slot env old mid q clears e) ∙ emptied_with files (old q))
+
+-- all files are the first ones
+pub all_filled : (env : List ℕ) (jobs : List Job) (fates : List Fate) (old new : BuildKey → Slot) → LeavesTree env jobs fates old new → FillsPartly env jobs fates old new
+all_filled env jobs fates old new leaves q e =
+    let files : List File = app_files q.app jobs fates in
+    (length files, None, leaves q ∙ ap (λ (b : Bool). cond b (slot_with files (old q)) (old q)) e ∙ ap (λ (fs : List File). slot_with fs (old q)) (all_begun files))
