@@ -9,7 +9,7 @@ use std::io::Print;
 #[derive(Drop)]
 pub struct HostSink<R> {
     rt: R,
-    faults: FaultCount,
+    pub(crate) faults: FaultCount,
 }
 
 impl<R: Print + Drop> HostSink<R> {

@@ -32,8 +32,8 @@ pub struct HostStore<R> {
     rt: R,
     root: PathBuf,
     out: BTreeSet<BuildKey>,
-    faults: FaultCount,
-    returned: FaultCount,
+    pub(crate) faults: FaultCount,
+    pub(crate) returned: FaultCount,
 }
 
 impl<R: Files + AllocGlobal + Clone + Drop> HostStore<R> {
