@@ -1,9 +1,9 @@
 -- Paths below the folder of a walk.
-use Rattle.std.proofs.Common.{◌≡◌, ℕ, Bool, true, false, cond, ◌==◌, List, [], ◌∷◌, ◌++◌, Option, Some, None, is_some, IsTrue, refl, sym, ◌∙◌, ap, subst, append_assoc}
+use Rattle.std.proofs.Common.{◌≡◌, ℕ, Bool, true, false, cond, ◌==◌, List, [], ◌∷◌, ◌++◌, Some, None, is_some, refl, sym, ◌∙◌, ap, subst, append_assoc}
 use Rattle.std.proofs.lemmas.Bool.{eq-eqb}
 use Rattle.std.specs.List.{All}
 use Rattle.std.proofs.lemmas.List.Elements.{All-nil, All-cons, All-same}
-use Rattle.mx_base.specs.Path.{text_after, folder_text, path_from, is_below, child_of}
+use Rattle.mx_base.specs.Path.{text_after, folder_text, is_below, child_of}
 use Rattle.tree_host.specs.Walk.{Area, LeadsBelow}
 
 after_itself : (p rest : List ℕ) → text_after p (p ++ rest) ≡ Some rest

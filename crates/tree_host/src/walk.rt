@@ -1,9 +1,9 @@
 // The files below a folder of the real file system.
-ghost use Rattle.std.specs.Prelude.{◌≡◌, All, IsTrue, IfOk, IfSome, OnOk};
+ghost use Rattle.std.specs.Prelude.{◌≡◌, All, IfOk, IfSome};
 ghost use Rattle.std.specs.List.{list_any};
 ghost use Rattle.mx_base.specs.Order.{ArePathsInOrder};
-ghost use Rattle.mx_base.specs.Path.{is_segment, is_outside, child_of};
-ghost use Rattle.tree_host.specs.Walk.{Area, IsIn, LeadsBelow, shows};
+ghost use Rattle.mx_base.specs.Path.{is_segment, is_outside};
+ghost use Rattle.tree_host.specs.Walk.{IsIn, LeadsBelow, shows};
 
 use crate::files::{Kind, host_path, if_there, kind_at};
 use mx_base::RelPath;
