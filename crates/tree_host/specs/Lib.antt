@@ -1,0 +1,2 @@
+pub mod HostStore
+pub mod Walk

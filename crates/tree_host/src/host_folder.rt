@@ -1,0 +1,98 @@
+// A folder of a build in the real file system.
+ghost use Rattle.std.specs.Prelude.{◌≡◌, IfOk};
+ghost use Rattle.mx_base.specs.Order.{paths_of};
+
+use crate::fault_count::FaultCount;
+use crate::files::{Kind, host_path, kind_at, remove_folder, write_file};
+use crate::walk::{Scope, files_below};
+use mx_base::{AppName, Bytes, File, Files, RelPath};
+use std::alloc::Global;
+use std::path::{Path, PathBuf};
+use std::{fs, io};
+use tree_store::{BuildKey, Folder, StoreFault};
+
+/// The folder of a build, which a `HostStore` hands out. It tells no files. A link to a folder is
+/// followed neither in listing nor in clearing, also where it stands in this folder's own place.
+#[derive(Drop)]
+pub struct HostFolder<R> {
+    pub(crate) rt: R,
+    pub(crate) key: BuildKey,
+    pub(crate) dir: PathBuf,
+    pub(crate) faults: FaultCount,
+}
+
+impl<R: fs::Files + AllocGlobal + Clone + Drop> Folder for HostFolder<R> {
+    ghost use Rattle.std.specs.Prelude.{None};
+
+    ghost key = { λ folder. folder.key };
+
+    ghost held = { λ _. None };
+
+    ghost faults = { λ folder. folder.faults };
+
+    ghost tells = { ⊥ };
+
+    ghost told = { λ never _. absurd never };
+
+    fn env(&self) -> &AppName {
+        &self.key.env
+    }
+
+    fn app(&self) -> &AppName {
+        &self.key.app
+    }
+
+    /// Its subfolders go too, and whatever else isn't a file.
+    fn clear(&mut self, _alloc: Global) -> Result<(), StoreFault> {
+        let removed = remove_folder(&self.rt, self.dir.as_path());
+        self.faults.counted(removed)
+    }
+
+    /// It makes the folders that are missing. Where the path is that of a folder it is a fault.
+    fn put(&mut self, alloc: Global, path: &RelPath, bytes: &[u8]) -> Result<(), StoreFault> {
+        let path = host_path(alloc, self.dir.as_path(), path)?;
+        let written = write_file(&self.rt, path.as_path(), bytes);
+        self.faults.counted(written)
+    }
+
+    /// A folder that is absent has no files.
+    fn files(&mut self, alloc: Global) -> Result<Files, StoreFault> {
+        let files = read_files(&self.rt, alloc, self.dir.as_path());
+        self.faults.counted(files)
+    }
+}
+
+fn read_files<R: fs::Files + AllocGlobal + Clone + Drop>(
+    rt: &R,
+    alloc: Global,
+    dir: Path<'_>,
+) -> io::Result<Files> {
+    match kind_at(rt, dir)? {
+        Kind::Folder => {
+            let paths = files_below(rt, dir, &RelPath::root(alloc), Scope::Everything)?;
+            let files = read_each(rt, alloc, dir, paths)?;
+            Ok(Files::from_vec(files))
+        }
+        _ => Ok(Files::new(alloc)),
+    }
+}
+
+// A file that is gone since it was listed is a failure, since the build is ours alone.
+fn read_each<R: fs::Files + AllocGlobal>(
+    rt: &R,
+    alloc: Global,
+    dir: Path<'_>,
+    paths: Vec<RelPath>,
+) -> io::Result<Vec<File>>
+    ensures { IfOk result (λ files. paths_of files.items ≡ paths.items) }
+{
+    let mut files = Vec::new(alloc);
+    for path in paths {
+        let bytes = fs::read(rt, host_path(alloc, dir, &path)?)?;
+        files.push(File {
+            path,
+            bytes: Bytes::from_vec(bytes),
+        })?;
+    }
+    Ok(files)
+}
