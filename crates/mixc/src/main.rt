@@ -1,2 +1,34 @@
-//! The program: it hands its words to the top call, over the real file system and standard output.
+//! The program `mixc`: it hands the words after its own name to the top call, over the folder that it is run in
+//! and standard output, and ends with the status.
 #![tactic(auto)]
+
+use compile_model::EchoCompiler;
+use mix_main::{Status, run};
+use std::alloc::AllocError;
+use std::env;
+use std::io::ErrorKind;
+use std::process::ExitCode;
+use tree_host::{HostSink, HostStore};
+
+// The words of the command line. Words that aren't UTF-8 are none, so that the first of them is refused.
+fn words(rt: &HostRuntime) -> Result<Vec<String>, AllocError> {
+    match env::args(rt) {
+        Ok(words) => words.skip(1).collect(rt.alloc()),
+        Err(error) if error.kind() == ErrorKind::OutOfMemory => Err(AllocError),
+        Err(_) => Ok(Vec::new(rt.alloc())),
+    }
+}
+
+fn status(rt: &HostRuntime) -> Result<Status, AllocError> {
+    let words = words(rt)?;
+    let mut store = HostStore::new(rt.clone()?, rt.alloc(), ".")?;
+    let mut out = HostSink::new(rt.clone()?);
+    Ok(run(rt.alloc(), &words, &mut store, &mut EchoCompiler, &mut out))
+}
+
+fn main(rt: HostRuntime) -> ExitCode {
+    match status(&rt) {
+        Ok(status) => ExitCode::from(status.code()),
+        Err(_) => ExitCode::from(Status::OutOfMemory.code()),
+    }
+}
