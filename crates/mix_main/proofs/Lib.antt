@@ -1,5 +1,10 @@
+pub mod AmongLemmas
 pub mod EndLemmas
+pub mod ManifestLemmas
+pub mod OneLemmas
 pub mod PlainLemmas
+pub mod PlanLemmas
 pub mod ReportLemmas
+pub mod SourceLemmas
 pub mod StandLemmas
 pub mod TreeLemmas

@@ -1,11 +1,15 @@
 -- What a fault of a plan tells.
-use Rattle.std.specs.Prelude.{Bool, true, false, List, Result, Ok, Err}
+use Rattle.std.specs.Prelude.{◌≡◌, ℕ, Bool, true, false, List, Option, Result, Ok, Err}
 use Rattle.mx_base.specs.declared.file.File.{File}
+use Rattle.mx_base.specs.Order.{bytes_at}
+use Rattle.compile_model.specs.declared.job.Job.{Job}
 use Rattle.tree_store.specs.declared.store.StoreFault.{StoreFault}
 use Rattle.tree_store.specs.declared.store.StoreFault.TheVariants as store
+use Rattle.mix_main.specs.declared.declaration.Declaration.{Declaration}
+use Rattle.mix_main.specs.declared.refusal.Refusal.{Refusal}
 use Rattle.mix_main.specs.declared.plan_fault.PlanFault.{PlanFault}
 use Rattle.mix_main.specs.declared.plan_fault.PlanFault.TheVariants.{Refused, Read, OutOfMemory}
-use Rattle.mix_main.specs.Plan.{IsPlan}
+use Rattle.mix_main.specs.Plan.{Manifest, IsManifest, manifest_path, job_of, IsPlan}
 
 abbrev pub plan_fault : StoreFault → PlanFault
 plan_fault store.Failed = Read
@@ -23,3 +27,18 @@ abbrev pub RefusedBy : List File → PlanFault → Type 0
 RefusedBy files (Refused refusal) = IsPlan files (Err refusal)
 RefusedBy files Read = Unit {0}
 RefusedBy files OutOfMemory = Unit {0}
+
+-- what a call answers is right, unless the store or memory failed
+abbrev pub Says : {X : Type 0} → (Result X Refusal → Type 0) → Result X PlanFault → Type 0
+Says Right (Ok x) = Right (Ok x)
+Says Right (Err (Refused refusal)) = Right (Err refusal)
+Says Right (Err Read) = Unit {0}
+Says Right (Err OutOfMemory) = Unit {0}
+
+-- what the manifest that is found means
+abbrev pub IsMeant : {X : Type 0} → Option (List ℕ) → (Manifest → Result X Refusal) → Result X Refusal → Type 0
+IsMeant found meaning meant = (manifest : Manifest) × IsManifest found manifest × (meaning manifest ≡ meant)
+
+-- the job of a declaration, or why there is none
+abbrev pub IsJob : List File → Declaration → Result Job Refusal → Type 0
+IsJob files declaration = IsMeant (bytes_at (manifest_path declaration.dir) files) (job_of files declaration)

@@ -1,16 +1,32 @@
 // The plan of a project.
-ghost use Rattle.std.specs.Prelude.{◌≡◌, Ok, IfOk, IfErr, IfSome, IsTrue};
+ghost use Rattle.std.specs.Prelude.{◌≡◌, Ok, List, Result, All, IfOk, IfErr, IfSome, IsTrue, IsFalse, map, MatchOption};
+ghost use Rattle.std.specs.Option.{option_copied};
+ghost use Rattle.elixir_terms.specs.declared.term.Term.{Term};
+ghost use Rattle.elixir_terms.specs.Spells.{Spells};
+ghost use Rattle.mx_base.specs.declared.file.File.{File};
 ghost use Rattle.mx_base.specs.Causes.{Counted};
-ghost use Rattle.mix_main.specs.Plan.{IsPlan, jobs_differ};
-ghost use Rattle.mix_main.specs.PlanFaults.{is_read, RefusedBy};
+ghost use Rattle.mx_base.specs.Order.{bytes_at};
+ghost use Rattle.compile_model.specs.declared.job.Job.{Job};
+ghost use Rattle.tree_store.specs.Files.{is_in_build};
+ghost use Rattle.mix_main.specs.declared.refusal.Refusal.{Refusal};
+ghost use Rattle.mix_main.specs.Manifest.{apps_differ};
+ghost use Rattle.mix_main.specs.Plan.{project_path, manifest_path, declared_by, version_by, result_map, ArePlanned, IsPlan, jobs_differ};
+ghost use Rattle.mix_main.specs.PlanFaults.{is_read, RefusedBy, Says, IsMeant, IsJob};
 
+use crate::declaration::Declaration;
+use crate::manifest::{dependency_version, root_declarations};
 use crate::plan_fault::PlanFault;
-use compile_model::Plan;
-use mx_base::AppName;
-use std::alloc::Global;
+use crate::refusal::Refusal;
+use crate::sources::sources;
+use compile_model::{Job, Jobs, Places, Plan};
+use elixir_terms::{Term, TermCause, read};
+use mx_base::{AppName, Bytes, File, RelPath, Text};
+use std::alloc::{AllocError, Global};
 use tree_store::Store;
 
-/// Reads what the project declares, and a job for each dependency.
+const MANIFEST: &str = "project.exs";
+
+/// Reads what the project declares, and makes a job of each dependency.
 pub(crate) fn plan_of<S: Store>(
     alloc: Global,
     env: &AppName,
@@ -25,5 +41,142 @@ pub(crate) fn plan_of<S: Store>(
     ensures returned { S.folder_faults store.new ≡ S.folder_faults store.old }
     ensures cause { Counted (S.faults store.old) (S.faults store.new) (is_read result) }
 {
-    Err(PlanFault::OutOfMemory)
+    let declarations = declarations(alloc, store)?;
+    let jobs = jobs(alloc, store, declarations)?;
+    Ok(Plan {
+        env: env.clone()?,
+        jobs: Jobs::from_vec(jobs),
+    })
 }
+
+// What the project declares.
+fn declarations<S: Store>(alloc: Global, store: &mut S) -> Result<Vec<Declaration>, PlanFault>
+    ensures meant { IfSome (S.sources store.old) (λ files. Says (IsMeant (bytes_at project_path files) declared_by) (result_map (λ ds. ds.items) result)) }
+    ensures outside { IfOk result (λ ds. All (λ d. IsFalse (is_in_build d.dir)) ds.items) }
+    ensures differ { IfOk result (λ ds. IsTrue (apps_differ ds.items)) }
+    ensures sources { S.sources store.new ≡ S.sources store.old }
+    ensures same { S.slot store.new ≡ S.slot store.old }
+    ensures returned { S.folder_faults store.new ≡ S.folder_faults store.old }
+    ensures cause { Counted (S.faults store.old) (S.faults store.new) (is_read result) }
+{
+    let path = RelPath::root(alloc).child(alloc, MANIFEST)?;
+    let text = store.get(alloc, &path)?;
+    declared(alloc, path, text)
+}
+
+// What the manifest that was found at the project's path declares.
+fn declared(
+    alloc: Global,
+    path: RelPath,
+    text: Option<Bytes>,
+) -> Result<Vec<Declaration>, PlanFault>
+    requires { path ≡ project_path }
+    ensures meant { Says (IsMeant text declared_by) (result_map (λ ds. ds.items) result) }
+    ensures outside { IfOk result (λ ds. All (λ d. IsFalse (is_in_build d.dir)) ds.items) }
+    ensures differ { IfOk result (λ ds. IsTrue (apps_differ ds.items)) }
+    ensures own { IsFalse (is_read result) }
+{
+    let Some(text) = text else {
+        return Err(PlanFault::Refused(Refusal::NoProject));
+    };
+    let Some(term) = term(alloc, text.as_slice())? else {
+        return Err(PlanFault::Refused(Refusal::NotRead { path }));
+    };
+    match root_declarations(alloc, &term)? {
+        Some(declarations) => Ok(declarations),
+        None => Err(PlanFault::Refused(Refusal::Shape { path })),
+    }
+}
+
+// The jobs of the declarations, in their order.
+fn jobs<S: Store>(
+    alloc: Global,
+    store: &mut S,
+    declarations: Vec<Declaration>,
+) -> Result<Vec<Job>, PlanFault>
+    requires { All (λ d. IsFalse (is_in_build d.dir)) declarations.items }
+    ensures planned { IfSome (S.sources store.old) (λ files. Says (ArePlanned files declarations.items) (result_map (λ jobs. jobs.items) result)) }
+    ensures apps { IfOk result (λ jobs. map (λ job. job.app) jobs.items ≡ map (λ d. d.app) declarations.items) }
+    ensures sources { S.sources store.new ≡ S.sources store.old }
+    ensures same { S.slot store.new ≡ S.slot store.old }
+    ensures returned { S.folder_faults store.new ≡ S.folder_faults store.old }
+    ensures cause { Counted (S.faults store.old) (S.faults store.new) (is_read result) }
+{
+    let mut jobs = Vec::new(alloc);
+    for declaration in declarations {
+        jobs.push(job(alloc, store, declaration)?)?;
+    }
+    Ok(jobs)
+}
+
+// The job of a declaration.
+fn job<S: Store>(alloc: Global, store: &mut S, declaration: Declaration) -> Result<Job, PlanFault>
+    requires { IsFalse (is_in_build declaration.dir) }
+    ensures job { IfSome (S.sources store.old) (λ files. Says (IsJob files declaration) result) }
+    ensures app { IfOk result (λ job. job.app ≡ declaration.app) }
+    ensures sources { S.sources store.new ≡ S.sources store.old }
+    ensures same { S.slot store.new ≡ S.slot store.old }
+    ensures returned { S.folder_faults store.new ≡ S.folder_faults store.old }
+    ensures cause { Counted (S.faults store.old) (S.faults store.new) (is_read result) }
+{
+    let Declaration { app, dir } = declaration;
+    let paths = store.list(alloc, &dir)?;
+    if paths.is_empty() {
+        return Err(PlanFault::Refused(Refusal::PathMissing { app, dir }));
+    }
+    let sources = sources(alloc, store, &dir, &paths)?;
+    let version = version(alloc, &dir, sources.as_slice())?;
+    Ok(Job {
+        app,
+        version,
+        sources,
+        needs: Places::new(alloc),
+    })
+}
+
+// The version that the manifest among a dependency's sources gives, 0.0.0 without one.
+fn version(alloc: Global, dir: &RelPath, sources: &[File]) -> Result<Text, PlanFault>
+    ensures meant { Says (IsMeant (bytes_at project_path sources.now) (version_by (manifest_path dir.now))) result }
+    ensures own { IsFalse (is_read result) }
+{
+    let Some(text) = manifest_in(sources) else {
+        return Ok(Text::from_slice(alloc, b"0.0.0")?);
+    };
+    let path = dir.child(alloc, MANIFEST)?;
+    let Some(term) = term(alloc, text.as_slice())? else {
+        return Err(PlanFault::Refused(Refusal::NotRead { path }));
+    };
+    match dependency_version(alloc, &term)? {
+        Some(version) => Ok(Text::from_slice(alloc, version.as_slice())?),
+        None => Err(PlanFault::Refused(Refusal::Shape { path })),
+    }
+}
+
+fn manifest_in(files: &[File]) -> Option<&Bytes>
+    ensures { option_copied result ≡ bytes_at project_path files.now }
+{
+    for file in files {
+        if file.path.as_str() == MANIFEST {
+            return Some(&file.bytes);
+        }
+    }
+    None
+}
+
+// The term that the text spells, if one does.
+fn term(alloc: Global, text: &[u8]) -> Result<Option<Term>, AllocError>
+    ensures { IfOk result (λ found. MatchOption found ((t : Term) → Spells text.now t → ⊥) (Spells text.now)) }
+{
+    match read(alloc, text) {
+        Ok(term) => Ok(Some(term)),
+        Err(error) => match error.cause {
+            TermCause::NotRead => Ok(None),
+            TermCause::OutOfMemory => Err(AllocError),
+        },
+    }
+}
+
+/// The files of a project have one plan, or one first refusal.
+pub fn plan_is_the_only_one()
+    ensures { (files : List File) (p q : Result (List Job) Refusal) → IsPlan files p → IsPlan files q → p ≡ q }
+{}

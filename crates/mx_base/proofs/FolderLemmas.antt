@@ -71,7 +71,8 @@ rest_is_path (b ∷ bs) rest p =
     ∙ ap (λ (t : List ℕ). list_all is_segment (segments_of t)) (sym (append_assoc (b ∷ bs) (47 ∷ []) rest))
     ∙ p)).1
 
-after_is : (beginning text rest : List ℕ) → text_after beginning text ≡ Some rest → text ≡ beginning ++ rest
+-- what follows a beginning in a text
+pub after_is : (beginning text rest : List ℕ) → text_after beginning text ≡ Some rest → text ≡ beginning ++ rest
 after_is [] text rest e = cc
 after_is (b ∷ bs) [] rest e = cc
 after_is (b ∷ bs) (c ∷ cs) rest e = at (b == c) refl e (after_is bs cs rest)
