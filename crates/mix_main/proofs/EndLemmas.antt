@@ -1,17 +1,23 @@
 -- What a status tells of a stop.
-use Rattle.std.proofs.Common.{◌≡◌, ◌∙◌, ◌⊎◌, inl, inr, ℕ, List, take, Option, Some, Err, None, IfSome, subst, refl, sym}
+use Rattle.std.proofs.Common.{◌≡◌, ◌∙◌, ◌⊎◌, inl, inr, ℕ, Bool, List, [], ◌∷◌, take, codes, Option, Some, None, IfSome, Result, Ok, Err, IfErr, ap, subst, refl, sym}
 use Rattle.mx_base.specs.Sink.{with_bytes}
 use Rattle.mx_base.specs.declared.file.File.{File}
 use Rattle.compile_model.specs.declared.outcome.Outcome.{Outcome}
+use Rattle.compile_model.specs.declared.job.Job.{Job}
 use Rattle.compile_model.specs.Content.{Content}
+use Rattle.tree_store.specs.declared.key.BuildKey.{BuildKey}
+use Rattle.tree_store.specs.Slot.{Slot}
+use Rattle.mix_main.specs.Plan.{IsPlan}
+use Rattle.mix_main.specs.Words.{bad_word, IsCommand}
+use Rattle.mix_main.proofs.OneLemmas.{plan_one}
 use Rattle.mix_main.specs.declared.refusal.Refusal.{Refusal}
 use Rattle.mix_main.specs.declared.stop.Stop.{Stop}
 use Rattle.mix_main.specs.declared.stop.Stop.TheVariants as stop
 use Rattle.mix_main.specs.declared.status.Status.{Status}
 use Rattle.mix_main.specs.declared.status.Status.TheVariants.{Built, SomeFailed, BadWords, Refused, ReadFault, TreeFault, Died, OutOfMemory, Missing, WriteFault}
-use Rattle.mix_main.specs.Ends.{Says, Tells, TakesLine, TakesPrefix, RefusesInput, CompileWrites, IfWrite, FaultLine, stop_line}
-use Rattle.mix_main.specs.Status.{EndsWords, IsRefusal, IsBuilt}
-use Rattle.mix_main.specs.Stop.{IfRefused, RefusedFirst, UnlessWrite}
+use Rattle.mix_main.specs.Ends.{Says, Tells, TakesLine, TakesPrefix, RefusesInput, CompileWrites, FaultLine, Finished, HasPlan, AfterPlan, EndsRefused, EndsPlanned, stop_line}
+use Rattle.mix_main.specs.Status.{EndsWords, IsRefusal, IsBuilt, status_of}
+use Rattle.mix_main.specs.Stop.{IfRefused, RefusedFirst}
 use Rattle.mix_main.specs.Texts.{memory_line, bad_words_line}
 
 -- the answer tells what the status that went with the text tells
@@ -139,3 +145,86 @@ not_built result s tells (inr e) = subst (λ (r : Status). Tells r s) e tells
 pub if_some_all : {X : Type 0} (o : Option X) (P : X → Type 0) → ((x : X) → P x) → IfSome o P
 if_some_all None P holds = tt
 if_some_all (Some x) P holds = holds x
+
+-- files with a plan are not refused
+no_both : (files : List File) (jobs : List Job) (refusal : Refusal) → IsPlan files (Ok jobs) → IsPlan files (Err refusal) → ⊥
+no_both files jobs refusal a b = let e = plan_one files (Ok jobs) (Err refusal) a b in cc
+
+one_refusal : (files : List File) (a b : Refusal) → IsPlan files (Err a) → IsPlan files (Err b) → a ≡ b
+one_refusal files a b x y = let e = plan_one files (Err a) (Err b) x y in cc
+
+-- what holds anyway holds after the plan
+pub after_plan : {T : Type 0} (r : Result T Stop) (P : Type 0) → P → IfErr r (λ s. AfterPlan s P)
+after_plan (Ok x) P holds = tt
+after_plan (Err (stop.Refused refusal)) P holds = tt
+after_plan (Err stop.Read) P holds = tt
+after_plan (Err stop.Tree) P holds = holds
+after_plan (Err stop.Died) P holds = holds
+after_plan (Err stop.Memory) P holds = tt
+after_plan (Err stop.Write) P holds = holds
+
+refusal_status : (files : List File) (refusal : Refusal) (s : Stop) (status : Status) → (r : Refusal) × (s ≡ stop.Refused r) × (status_of r ≡ status) → RefusedFirst files s → IsPlan files (Err refusal) → status_of refusal ≡ status
+refusal_status files refusal s status tells first plan =
+    ap status_of (one_refusal files refusal tells.0 plan (subst (RefusedFirst files) tells.1 first)) ∙ tells.2
+
+not_after : (files : List File) (refusal : Refusal) → HasPlan files → IsPlan files (Err refusal) → ⊥
+not_after files refusal has plan = no_both files has.0 refusal has.1 plan
+
+exactly_told : (files : List File) (refusal : Refusal) (result : Status) (s : Stop) → Tells result s → RefusedFirst files s → AfterPlan s (HasPlan files) → IsPlan files (Err refusal) → EndsRefused (status_of refusal) result
+exactly_told files refusal Built s tells first after plan = tells
+exactly_told files refusal SomeFailed s tells first after plan = tells
+exactly_told files refusal BadWords s tells first after plan = tells
+exactly_told files refusal Refused s tells first after plan = refusal_status files refusal s Refused tells first plan
+exactly_told files refusal ReadFault s tells first after plan = tt
+exactly_told files refusal TreeFault s tells first after plan = not_after files refusal (subst (λ (x : Stop). AfterPlan x (HasPlan files)) tells after) plan
+exactly_told files refusal Died s tells first after plan = not_after files refusal (subst (λ (x : Stop). AfterPlan x (HasPlan files)) tells after) plan
+exactly_told files refusal OutOfMemory s tells first after plan = tt
+exactly_told files refusal Missing s tells first after plan = refusal_status files refusal s Missing tells first plan
+exactly_told files refusal WriteFault s tells first after plan = tt
+
+-- a stop where the files are refused
+pub exactly_stopped : (o : Option (List File)) (refusal : Refusal) (result : Status) (s : Stop) → Tells result s → IfSome o (λ files. RefusedFirst files s) → AfterPlan s (IfSome o HasPlan) → IfSome o (λ files. IsPlan files (Err refusal) → EndsRefused (status_of refusal) result)
+exactly_stopped None refusal result s tells first after = tt
+exactly_stopped (Some files) refusal result s tells first after = λ plan. exactly_told files refusal result s tells first after plan
+
+planned_refusal : (files : List File) (s : Stop) (status : Status) → (r : Refusal) × (s ≡ stop.Refused r) × (status_of r ≡ status) → RefusedFirst files s → HasPlan files → ⊥
+planned_refusal files s status tells first has = no_both files has.0 tells.0 has.1 (subst (RefusedFirst files) tells.1 first)
+
+completes_told : (files : List File) (result : Status) (s : Stop) → Tells result s → RefusedFirst files s → HasPlan files → EndsPlanned result
+completes_told files Built s tells first has = tt
+completes_told files SomeFailed s tells first has = tt
+completes_told files BadWords s tells first has = tells
+completes_told files Refused s tells first has = planned_refusal files s Refused tells first has
+completes_told files ReadFault s tells first has = tt
+completes_told files TreeFault s tells first has = tt
+completes_told files Died s tells first has = tt
+completes_told files OutOfMemory s tells first has = tt
+completes_told files Missing s tells first has = planned_refusal files s Missing tells first has
+completes_told files WriteFault s tells first has = tt
+
+-- a stop where the files have a plan
+pub completes_stopped : (o : Option (List File)) (result : Status) (s : Stop) → Tells result s → IfSome o (λ files. RefusedFirst files s) → IfSome o (λ files. HasPlan files → EndsPlanned result)
+completes_stopped None result s tells first = tt
+completes_stopped (Some files) result s tells first = λ has. completes_told files result s tells first has
+
+-- what was finished was not refused
+pub finished_not_refused : (compile : Content → Outcome) (env : List ℕ) (o : Option (List File)) (failed : Bool) (old new : BuildKey → Slot) (took takes : Option (List ℕ)) (refusal : Refusal) (P : Type 0) → IfSome o (λ files. Finished compile env files failed old new took takes) → IfSome o (λ files. IsPlan files (Err refusal) → P)
+finished_not_refused compile env None failed old new took takes refusal P done = tt
+finished_not_refused compile env (Some files) failed old new took takes refusal P done = λ plan. absurd (no_both files done.jobs refusal done.planned plan)
+
+-- want of memory may end any command
+pub memory_ends : (status result : Status) (old new : Option (List ℕ)) → Says memory_line OutOfMemory result old new → EndsRefused status result × EndsPlanned result
+memory_ends status Built old new says = cc
+memory_ends status SomeFailed old new says = cc
+memory_ends status BadWords old new says = cc
+memory_ends status Refused old new says = cc
+memory_ends status ReadFault old new says = cc
+memory_ends status TreeFault old new says = cc
+memory_ends status Died old new says = cc
+memory_ends status OutOfMemory old new says = (tt, tt)
+memory_ends status Missing old new says = cc
+memory_ends status WriteFault old new says = (tt, tt)
+
+-- the words of the command have no bad one
+pub command_is_good : (words : List (List ℕ)) (at : ℕ) → bad_word words ≡ Some at → IsCommand words → ⊥
+command_is_good words at bad is = let e : bad_word (codes "deps.compile" ∷ []) ≡ Some at = subst (λ (w : List (List ℕ)). bad_word w ≡ Some at) is bad in cc

@@ -1,5 +1,5 @@
 -- A compile that was finished.
-use Rattle.std.proofs.Common.{◌≡◌, ◌⊎◌, inl, inr, ℕ, Bool, true, List, take, Option, Some, None, IfSome, Result, Ok, Err, IfErr, sym, ◌∙◌, ap, subst}
+use Rattle.std.proofs.Common.{◌≡◌, inl, inr, ℕ, Bool, true, List, take, Option, Some, None, IfSome, Result, Ok, Err, IfErr, ◌∙◌, ap, subst}
 use Rattle.std.specs.List.{list_any}
 use Rattle.mx_base.specs.Sink.{with_bytes}
 use Rattle.mx_base.specs.Order.{AreInOrder}

@@ -1,9 +1,9 @@
 -- What stands in a build after an error.
-use Rattle.std.proofs.Common.{◌≡◌, ◌⊎◌, inl, inr, ℕ, zero, suc, ◌+◌, ◌<◌, Bool, true, false, not, ◌&&◌, cond, Option, Some, None, option_map, List, [], ◌∷◌, ◌++◌, length, get_or, take, drop, filter, map, bytes_eq, refl, sym, ◌∙◌, ap, subst, arith, drop-cons, Result, Ok, Err, OnErr}
+use Rattle.std.proofs.Common.{◌≡◌, ◌⊎◌, inl, inr, ℕ, suc, ◌+◌, ◌<◌, Bool, true, false, not, ◌&&◌, cond, Option, Some, None, option_map, List, [], ◌∷◌, ◌++◌, length, get_or, take, drop, filter, map, bytes_eq, refl, sym, ◌∙◌, ap, subst, drop-cons, Result, Ok, Err, OnErr}
 use Rattle.std.proofs.lemmas.List.{append-nil, take-append-drop, take_more}
 use Rattle.std.proofs.Math.Seq.{take-length}
 use Rattle.std.specs.declared.cmp.Ordering.{Ordering}
-use Rattle.std.specs.declared.cmp.Ordering.TheVariants.{Less, Equal, Greater}
+use Rattle.std.specs.declared.cmp.Ordering.TheVariants.{Less}
 use Rattle.std.specs.Ordering.{match_ordering, is_eq}
 use Rattle.std.specs.List.{AllByRecursion, list_any}
 use Rattle.mx_base.specs.declared.file.File.{File}
@@ -15,7 +15,7 @@ use Rattle.compile_model.specs.Seq.{HoldsInOrder}
 use Rattle.tree_store.specs.declared.key.BuildKey.{BuildKey}
 use Rattle.tree_store.specs.Key.{is_same_build}
 use Rattle.tree_store.specs.Files.{put_file, put_all, with_file, without_file, emptied, HoldsPart, PutsPartly}
-use Rattle.tree_store.specs.Slot.{Slot, SetsSlot, ChangesSlot, emptied_slot, slot_with}
+use Rattle.tree_store.specs.Slot.{Slot, SetsSlot, emptied_slot, slot_with}
 use Rattle.tree_store.specs.Slot.Slot.{Here, Out}
 use Rattle.tree_store.proofs.FilesLemmas.{part_of_itself, put_all_in_order}
 use Rattle.tree_store.proofs.OrderLemmas.{less_back, same_name}

@@ -3,18 +3,17 @@ use Rattle.std.proofs.Common.{◌≡◌, ℕ, zero, suc, ◌<◌, Bool, true, fa
 use Rattle.std.specs.declared.cmp.Ordering.{Ordering}
 use Rattle.std.specs.declared.cmp.Ordering.TheVariants.{Less, Equal, Greater}
 use Rattle.std.specs.Ordering.{is_eq, ordering_then, nat_cmp}
-use Rattle.std.specs.Cmp.Lexicographic.{slice_cmp, texts_ties, nat_list_eq_equiv}
+use Rattle.std.specs.Cmp.Lexicographic.{slice_cmp, nat_list_eq_equiv}
 use Rattle.mx_base.specs.declared.file.File.{File}
 use Rattle.compile_model.specs.declared.job.Job.{Job}
 use Rattle.compile_model.specs.declared.outcome.Fate.{Fate}
 use Rattle.compile_model.specs.declared.outcome.Fate.TheVariants.{Built, Failed, Skipped}
 use Rattle.tree_store.specs.declared.key.BuildKey.{BuildKey}
 use Rattle.tree_store.specs.Key.{is_same_build}
-use Rattle.mx_base.specs.Order.{text_cmp, AreInOrder}
+use Rattle.mx_base.specs.Order.{text_cmp}
 use Rattle.std.specs.List.{AllByRecursion, list_any}
 use Rattle.compile_model.specs.Seq.{HoldsInOrder}
-use Rattle.tree_store.specs.Files.{put_all}
-use Rattle.tree_store.specs.Slot.{Slot, emptied_slot, filled_slot, slot_with, Lists, AllHere}
+use Rattle.tree_store.specs.Slot.{Slot, emptied_slot, slot_with, Lists}
 use Rattle.tree_store.proofs.FilesLemmas.{put_all_in_order}
 use Rattle.tree_store.specs.Slot.Slot.{Here, Out}
 use Rattle.tree_store.proofs.OrderLemmas.{same_name}

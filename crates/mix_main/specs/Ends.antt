@@ -139,3 +139,42 @@ dev = codes "dev"
 abbrev pub MayStand : (Content → Outcome) → List ℕ → List File → (BuildKey → Slot) → (BuildKey → Slot) → Type 0
 MayStand compile env files old new =
     EachLeavesPart old new ⊎ ((jobs : List Job) × IsPlan files (Ok jobs) × FillsPartly env jobs (seq compile jobs) old new)
+
+-- the files have a plan
+abbrev pub HasPlan : List File → Type 0
+HasPlan files = (jobs : List Job) × IsPlan files (Ok jobs)
+
+-- what holds at a stop to which a compile comes only by way of the plan
+abbrev pub AfterPlan : Stop → Type 0 → Type 0
+AfterPlan (stop.Refused refusal) P = Unit {0}
+AfterPlan stop.Read P = Unit {0}
+AfterPlan stop.Tree P = P
+AfterPlan stop.Died P = P
+AfterPlan stop.Memory P = Unit {0}
+AfterPlan stop.Write P = P
+
+-- how a compile ends whose files are refused with this status: with it, or the store, memory or the sink failed
+abbrev pub EndsRefused : Status → Status → Type 0
+EndsRefused status Built = ⊥
+EndsRefused status SomeFailed = ⊥
+EndsRefused status BadWords = ⊥
+EndsRefused status Refused = status ≡ Refused
+EndsRefused status ReadFault = Unit {0}
+EndsRefused status TreeFault = ⊥
+EndsRefused status Died = ⊥
+EndsRefused status OutOfMemory = Unit {0}
+EndsRefused status Missing = status ≡ Missing
+EndsRefused status WriteFault = Unit {0}
+
+-- how a compile ends whose files have a plan: with the report, or something failed
+abbrev pub EndsPlanned : Status → Type 0
+EndsPlanned Built = Unit {0}
+EndsPlanned SomeFailed = Unit {0}
+EndsPlanned BadWords = ⊥
+EndsPlanned Refused = ⊥
+EndsPlanned ReadFault = Unit {0}
+EndsPlanned TreeFault = Unit {0}
+EndsPlanned Died = Unit {0}
+EndsPlanned OutOfMemory = Unit {0}
+EndsPlanned Missing = ⊥
+EndsPlanned WriteFault = Unit {0}

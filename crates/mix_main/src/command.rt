@@ -1,9 +1,11 @@
 // The top call.
-ghost use Rattle.std.specs.Prelude.{◌≡◌, ◌≢◌, map, IfSome, string_bytes};
+ghost use Rattle.std.specs.Prelude.{◌≡◌, ◌≢◌, map, Err, IfSome, string_bytes};
 ghost use Rattle.mx_base.specs.Causes.{Counted, Rose};
 ghost use Rattle.tree_store.specs.Slot.{AllHere};
-ghost use Rattle.mix_main.specs.Ends.{CommandWrites, Compiled, FaultLine, MayStand, NothingFailed, RefusesInput, RefusesWords, TakesPrefix, dev};
-ghost use Rattle.mix_main.specs.Status.{IsBuilt, IsRefusal, is_write_fault};
+ghost use Rattle.mix_main.specs.declared.refusal.Refusal.{Refusal};
+ghost use Rattle.mix_main.specs.Plan.{IsPlan};
+ghost use Rattle.mix_main.specs.Ends.{CommandWrites, Compiled, EndsPlanned, EndsRefused, FaultLine, HasPlan, MayStand, NothingFailed, RefusesInput, RefusesWords, TakesPrefix, dev};
+ghost use Rattle.mix_main.specs.Status.{IsBuilt, IsRefusal, is_write_fault, status_of};
 ghost use Rattle.mix_main.specs.Tree.{StaysElsewhere};
 ghost use Rattle.mix_main.specs.Words.{IsCommand};
 
@@ -52,6 +54,10 @@ pub fn run<S: Store, C: Compiler, K: Sink>(
     ensures sink { Counted (K.faults out.old) (K.faults out.new) (is_write_fault result) }
     ensures line { FaultLine result (K.taken out.old) (K.taken out.new) }
     ensures cut { result ≡ Status.WriteFault → IfSome (S.sources store.old) (λ files. TakesPrefix (CommandWrites (map (λ word. string_bytes word) words.now) C.compile_of files) (K.taken out.old) (K.taken out.new)) }
+
+    // Which statuses the files allow where the words are the command.
+    ensures exactly { (refusal : Refusal) → IfSome (S.sources store.old) (λ files. IsPlan files (Err refusal) → IsCommand (map (λ word. string_bytes word) words.now) → EndsRefused (status_of refusal) result) }
+    ensures completes { IfSome (S.sources store.old) (λ files. HasPlan files → IsCommand (map (λ word. string_bytes word) words.now) → EndsPlanned result) }
 
     // After any status.
     ensures stands { IfSome (S.sources store.old) (λ files. MayStand C.compile_of dev files (S.slot store.old) (S.slot store.new)) }

@@ -1,9 +1,11 @@
 // Compiling one dependency after another.
-ghost use Rattle.std.specs.Prelude.{◌≡◌, ◌≢◌, IfOk, IfErr, IfSome, OnOk};
+ghost use Rattle.std.specs.Prelude.{◌≡◌, ◌≢◌, IfOk, IfErr, IfSome, OnOk, Err};
 ghost use Rattle.mx_base.specs.Causes.{Counted, Rose};
 ghost use Rattle.tree_store.specs.Slot.{AllHere};
-ghost use Rattle.mix_main.specs.Ends.{Compiled, CompileWrites, Finished, FaultLine, IfWrite, IsReport, MayStand, NothingFailed, RefusesInput, TakesPrefix};
-ghost use Rattle.mix_main.specs.Status.{IsBuilt, IsRefusal, is_write_fault};
+ghost use Rattle.mix_main.specs.declared.refusal.Refusal.{Refusal};
+ghost use Rattle.mix_main.specs.Plan.{IsPlan};
+ghost use Rattle.mix_main.specs.Ends.{AfterPlan, Compiled, CompileWrites, EndsPlanned, EndsRefused, Finished, FaultLine, HasPlan, IfWrite, IsReport, MayStand, NothingFailed, RefusesInput, TakesPrefix};
+ghost use Rattle.mix_main.specs.Status.{IsBuilt, IsRefusal, is_write_fault, status_of};
 ghost use Rattle.mix_main.specs.Stop.{StopCause, RefusedFirst, IfRefused, UnlessWrite, is_write};
 ghost use Rattle.mix_main.specs.Tree.{StaysElsewhere};
 
@@ -47,6 +49,10 @@ pub fn plain_compile<S: Store, C: Compiler, K: Sink>(
     ensures line { FaultLine result (K.taken out.old) (K.taken out.new) }
     ensures cut { result ≡ Status.WriteFault → IfSome (S.sources store.old) (λ files. TakesPrefix (CompileWrites C.compile_of files) (K.taken out.old) (K.taken out.new)) }
 
+    // Which answers the files allow.
+    ensures exactly { (refusal : Refusal) → IfSome (S.sources store.old) (λ files. IsPlan files (Err refusal) → EndsRefused (status_of refusal) result) }
+    ensures completes { IfSome (S.sources store.old) (λ files. HasPlan files → EndsPlanned result) }
+
     // What stands after any answer.
     ensures stands { IfSome (S.sources store.old) (λ files. MayStand C.compile_of env.now files (S.slot store.old) (S.slot store.new)) }
     ensures elsewhere { StaysElsewhere env.now (S.slot store.old) (S.slot store.new) }
@@ -74,6 +80,7 @@ fn compile<S: Store, C: Compiler, K: Sink>(
     ensures clean { OnOk result (NothingFailed (S.faults store.old) (S.faults store.new) (S.folder_faults store.old) (S.folder_faults store.new) (C.deaths compiler.old) (C.deaths compiler.new)) }
     ensures stopped { IfErr result (StopCause (S.faults store.old) (S.faults store.new) (S.folder_faults store.old) (S.folder_faults store.new) (C.deaths compiler.old) (C.deaths compiler.new)) }
     ensures refused { IfErr result (λ stop. IfSome (S.sources store.old) (λ files. RefusedFirst files stop)) }
+    ensures after_plan { IfErr result (λ stop. AfterPlan stop (IfSome (S.sources store.old) HasPlan)) }
     ensures same { IfErr result (λ stop. IfRefused stop (S.slot store.new ≡ S.slot store.old)) }
     ensures clean_refusal { IfErr result (λ stop. IfRefused stop (NothingFailed (S.faults store.old) (S.faults store.new) (S.folder_faults store.old) (S.folder_faults store.new) (C.deaths compiler.old) (C.deaths compiler.new))) }
     ensures unsaid { IfErr result (λ stop. UnlessWrite stop (K.taken out.new ≡ K.taken out.old)) }

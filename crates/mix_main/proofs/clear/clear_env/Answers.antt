@@ -1,4 +1,4 @@
-use Rattle.std.proofs.Common.{List, ℕ, sym, ap, subst, ◌∙◌, ◌+◌, drop, arith, rules}
+use Rattle.std.proofs.Common.{List, ℕ, sym, ap, subst, ◌∙◌, arith, rules}
 use Rattle.std.proofs.lemmas.List.{drop_all}
 use Rattle.mix_main.proofs.TreeLemmas.{clears_env, cleared_by, elsewhere_more}
 use Rattle.std.proofs.lemmas.Grind.{common_steps}

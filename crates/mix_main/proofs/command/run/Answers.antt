@@ -1,8 +1,9 @@
-use Rattle.std.proofs.Common.{inr, refl}
-use Rattle.mix_main.specs.declared.status.Status.TheVariants.{OutOfMemory}
+use Rattle.std.proofs.Common.{map, string_bytes, inr, refl, sym}
+use Rattle.mix_main.specs.declared.status.Status.TheVariants.{OutOfMemory, Built}
 use Rattle.mix_main.specs.Ends.{dev}
+use Rattle.mix_main.specs.Status.{status_of}
 use Rattle.mix_main.specs.Texts.{memory_line}
-use Rattle.mix_main.proofs.EndLemmas.{says_cut, if_some_all}
+use Rattle.mix_main.proofs.EndLemmas.{says_cut, if_some_all, memory_ends, command_is_good}
 use Rattle.mix_main.proofs.PlainLemmas.{if_some_map, part_stands}
 use Rattle.mix_main.proofs.StandLemmas.{each_part_itself}
 use Rattle.mix_main.proofs.command.run.Goals as goal
@@ -23,3 +24,27 @@ returns-in-Err-clause-cut g c =
 pub returns-in-Err-clause-stands : goal.returns-in-Err-clause-stands
 returns-in-Err-clause-stands g c =
     part_stands g.C.Meaning.compile_of dev (g.S.Store.sources c.args.store.now) (g.S.Store.slot c.args.store.now) (g.S.Store.slot c.args.store.now) (each_part_itself (g.S.Store.slot c.args.store.now))
+
+pub returns-in-Some-clause-exactly : goal.returns-in-Some-clause-exactly
+returns-in-Some-clause-exactly g c =
+    λ refusal. if_some_all (g.S.Store.sources c.args.store.now) _ (λ files plan is. absurd (command_is_good (map (λ word. string_bytes word) c.args.words.now) c.in-Some.at (sym c.in-Some.ensures) is))
+
+pub returns-in-Some-clause-completes : goal.returns-in-Some-clause-completes
+returns-in-Some-clause-completes g c =
+    if_some_all (g.S.Store.sources c.args.store.now) _ (λ files plan is. absurd (command_is_good (map (λ word. string_bytes word) c.args.words.now) c.in-Some.at (sym c.in-Some.ensures) is))
+
+pub returns-in-Ok-clause-exactly : goal.returns-in-Ok-clause-exactly
+returns-in-Ok-clause-exactly g c =
+    λ refusal. if_some_map (g.S.Store.sources c.args.store.now) _ _ (λ files ends plan is. ends plan) (c.plain_compile.ensures.exactly refusal)
+
+pub returns-in-Ok-clause-completes : goal.returns-in-Ok-clause-completes
+returns-in-Ok-clause-completes g c =
+    if_some_map (g.S.Store.sources c.args.store.now) _ _ (λ files ends plan is. ends plan) c.plain_compile.ensures.completes
+
+pub returns-in-Err-clause-exactly : goal.returns-in-Err-clause-exactly
+returns-in-Err-clause-exactly g c =
+    λ refusal. if_some_all (g.S.Store.sources c.args.store.now) _ (λ files plan is. (memory_ends (status_of refusal) c.say_memory.result (g.K.Sink.taken c.args.out.now) (g.K.Sink.taken c.say_memory.new.out) c.say_memory.ensures.says).0)
+
+pub returns-in-Err-clause-completes : goal.returns-in-Err-clause-completes
+returns-in-Err-clause-completes g c =
+    if_some_all (g.S.Store.sources c.args.store.now) _ (λ files plan is. (memory_ends Built c.say_memory.result (g.K.Sink.taken c.args.out.now) (g.K.Sink.taken c.say_memory.new.out) c.say_memory.ensures.says).1)

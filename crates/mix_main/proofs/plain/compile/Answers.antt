@@ -1,4 +1,4 @@
-use Rattle.std.proofs.Common.{List, ℕ, ap, subst, ◌∙◌}
+use Rattle.std.proofs.Common.{List, IfSome, ap, subst, ◌∙◌}
 use Rattle.std.specs.List.{list_any}
 use Rattle.mx_base.specs.Sink.{with_bytes}
 use Rattle.compile_model.specs.declared.job.Job.{Job}
@@ -8,8 +8,10 @@ use Rattle.tree_store.specs.Slot.{Slot}
 use Rattle.mix_main.specs.Tree.{ClearsEnv, EachLeavesPart}
 use Rattle.mix_main.specs.Filling.{filled_by}
 use Rattle.mix_main.specs.Report.{report, is_failed}
-use Rattle.mix_main.proofs.PlainLemmas.{if_some_map, finished, if_write, report_cut, part_stands, files_stand, filled_partly, filled_wholly}
+use Rattle.mix_main.proofs.PlainLemmas.{if_some_map, finished, part_stands, files_stand, filled_partly, filled_wholly}
 use Rattle.mix_main.proofs.StandLemmas.{same_part}
+use Rattle.mix_main.specs.Ends.{HasPlan}
+use Rattle.mix_main.proofs.EndLemmas.{after_plan}
 use Rattle.mix_main.proofs.plain.compile.Goals as goal
 
 pub returns-clause-compiled : goal.returns-clause-compiled
@@ -78,3 +80,23 @@ returns-clause-stands g c =
     (filled_wholly g.C.Meaning.compile_of g.C.Meaning.files_in_order env c.in_ok-plan.plan.jobs c.as_slice.result.now c.in_ok-fates.fates.items c.deref.result.now (g.S.Store.slot c.args.store.now) mid (g.S.Store.slot c.fill_env.new.store)
     c.as_slice.ensures c.deref.ensures.value c.in_ok-fates.ensures.fates c.in_ok-plan.ensures.apps
     (subst (λ (slots : BuildKey → Slot). ClearsEnv env slots mid) c.in_ok-plan.ensures.same c.in_ok-clear_env.ensures.cleared) c.in_ok-fill_env.ensures.filled)
+
+pub returns-in_err-clear_env-clause-after_plan : goal.returns-in_err-clear_env-clause-after_plan
+returns-in_err-clear_env-clause-after_plan g c =
+    after_plan _ (IfSome (g.S.Store.sources c.args.store.now) HasPlan) (if_some_map (g.S.Store.sources c.args.store.now) _ _ (λ files plan. (c.in_ok-plan.plan.jobs, plan)) c.in_ok-plan.ensures.plan)
+
+pub returns-in_err-fates-clause-after_plan : goal.returns-in_err-fates-clause-after_plan
+returns-in_err-fates-clause-after_plan g c =
+    after_plan _ (IfSome (g.S.Store.sources c.args.store.now) HasPlan) (if_some_map (g.S.Store.sources c.args.store.now) _ _ (λ files plan. (c.in_ok-plan.plan.jobs, plan)) c.in_ok-plan.ensures.plan)
+
+pub returns-in_err-fill_env-clause-after_plan : goal.returns-in_err-fill_env-clause-after_plan
+returns-in_err-fill_env-clause-after_plan g c =
+    after_plan _ (IfSome (g.S.Store.sources c.args.store.now) HasPlan) (if_some_map (g.S.Store.sources c.args.store.now) _ _ (λ files plan. (c.in_ok-plan.plan.jobs, plan)) c.in_ok-plan.ensures.plan)
+
+pub returns-in_err-text-clause-after_plan : goal.returns-in_err-text-clause-after_plan
+returns-in_err-text-clause-after_plan g c =
+    after_plan _ (IfSome (g.S.Store.sources c.args.store.now) HasPlan) (if_some_map (g.S.Store.sources c.args.store.now) _ _ (λ files plan. (c.in_ok-plan.plan.jobs, plan)) c.in_ok-plan.ensures.plan)
+
+pub returns-in_err-write-clause-after_plan : goal.returns-in_err-write-clause-after_plan
+returns-in_err-write-clause-after_plan g c =
+    after_plan _ (IfSome (g.S.Store.sources c.args.store.now) HasPlan) (if_some_map (g.S.Store.sources c.args.store.now) _ _ (λ files plan. (c.in_ok-plan.plan.jobs, plan)) c.in_ok-plan.ensures.plan)

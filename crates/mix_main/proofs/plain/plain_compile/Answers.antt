@@ -1,7 +1,7 @@
 use Rattle.std.proofs.Common.{rules, arith, ◌≡◌, Option, List, ℕ, subst}
 use Rattle.std.proofs.lemmas.Grind.{common_steps}
 use Rattle.mix_main.specs.Ends.{TakesLine}
-use Rattle.mix_main.proofs.EndLemmas.{not_built, refuses_input, if_refused, stop_cut, fault_line}
+use Rattle.mix_main.proofs.EndLemmas.{exactly_stopped, finished_not_refused, completes_stopped, not_built, refuses_input, if_refused, stop_cut, fault_line}
 use Rattle.mix_main.proofs.PlainLemmas.{if_some_map}
 use Rattle.mix_main.proofs.plain.plain_compile.Goals as goal
 
@@ -25,8 +25,18 @@ returns-in-Err g c =
       sink = first_of (search rules, grind (arith, common_steps));
       line = fault_line result stop (g.K.Sink.taken c.args.out.now) (g.K.Sink.taken c.say_stop.new.out) c.say_stop.ensures.tells takes;
       cut = λ e. if_some_map (g.S.Store.sources c.args.store.now) _ _ (λ files first. stop_cut g.C.Meaning.compile_of files result stop (g.K.Sink.taken c.args.out.now) (g.K.Sink.taken c.say_stop.new.out) first takes e) c.in-Err.ensures.refused;
+      exactly = λ refusal. exactly_stopped (g.S.Store.sources c.args.store.now) refusal result stop c.say_stop.ensures.tells c.in-Err.ensures.refused c.in-Err.ensures.after_plan;
+      completes = completes_stopped (g.S.Store.sources c.args.store.now) result stop c.say_stop.ensures.tells c.in-Err.ensures.refused;
       stands = c.compile.ensures.stands;
       elsewhere = c.compile.ensures.elsewhere;
       here = c.compile.ensures.here;
       sources = c.compile.ensures.sources;
     }
+
+pub returns-in-Ok-true-clause-exactly : goal.returns-in-Ok-true-clause-exactly
+returns-in-Ok-true-clause-exactly g c =
+    λ refusal. finished_not_refused g.C.Meaning.compile_of c.args.env.now (g.S.Store.sources c.args.store.now) c.in-Ok-true.field-0 (g.S.Store.slot c.args.store.now) (g.S.Store.slot c.compile.new.store) (g.K.Sink.taken c.args.out.now) (g.K.Sink.taken c.compile.new.out) refusal ⊥ c.in-Ok-true.ensures.compiled
+
+pub returns-in-Ok-false-clause-exactly : goal.returns-in-Ok-false-clause-exactly
+returns-in-Ok-false-clause-exactly g c =
+    λ refusal. finished_not_refused g.C.Meaning.compile_of c.args.env.now (g.S.Store.sources c.args.store.now) c.in-Ok-false.field-0 (g.S.Store.slot c.args.store.now) (g.S.Store.slot c.compile.new.store) (g.K.Sink.taken c.args.out.now) (g.K.Sink.taken c.compile.new.out) refusal ⊥ c.in-Ok-false.ensures.compiled
