@@ -32,3 +32,6 @@ fn main(rt: HostRuntime) -> ExitCode {
         Err(_) => ExitCode::from(Status::OutOfMemory.code()),
     }
 }
+
+#[cfg(test)]
+mod tests;

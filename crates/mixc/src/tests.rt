@@ -1,0 +1,43 @@
+use compile_model::EchoCompiler;
+use mix_main::run;
+use mx_base::MemSink;
+use std::fs;
+use std::test::Fail;
+use tree_host::HostStore;
+
+const PROJECT: [(&str, &str); 4] = [
+    (
+        "project.exs",
+        "[app: :demo, version: \"0.1.0\", deps: [{:a, path: \"a\"}, {:b, path: \"b\"}]]",
+    ),
+    ("a/project.exs", "[app: :a, version: \"1.0.0\"]"),
+    ("a/x", "A"),
+    ("b/x", "B"),
+];
+
+#[test]
+fn the_built_files_are_read_back(rt: HostRuntime) -> Result<(), Fail> {
+    let alloc = rt.alloc();
+    fs::create_dir(&rt, "a")?;
+    fs::create_dir(&rt, "b")?;
+    for (path, text) in &PROJECT {
+        fs::write(&rt, *path, *text)?;
+    }
+    let mut words = Vec::new(alloc);
+    words.push(String::from_str(alloc, "deps.compile")?)?;
+    let mut store = HostStore::new(rt.clone()?, alloc, ".")?;
+    let mut out = MemSink::new(alloc, Vec::new(alloc));
+    let status = run(alloc, &words, &mut store, &mut EchoCompiler, &mut out);
+    assert_eq!(rt; status.code(), 0);
+    assert_eq!(rt;
+        out.as_slice(),
+        b"==> a 1.0.0 built\n==> b 0.0.0 built\n2 dependencies: 2 built, 0 failed, 0 skipped\n".as_slice()
+    );
+    for (path, text) in &[
+        ("_build/dev/lib/a/a.out", "A"),
+        ("_build/dev/lib/b/b.out", "B"),
+    ] {
+        assert_eq!(rt; fs::read_to_string(&rt, *path)?.as_str(), *text);
+    }
+    Ok(())
+}
