@@ -15,7 +15,7 @@ use Rattle.mix_main.specs.declared.stop.Stop.{Stop}
 use Rattle.mix_main.specs.declared.stop.Stop.TheVariants as stop
 use Rattle.mix_main.specs.declared.status.Status.{Status}
 use Rattle.mix_main.specs.declared.status.Status.TheVariants.{Built, SomeFailed, BadWords, Refused, ReadFault, TreeFault, Died, OutOfMemory, Missing, WriteFault}
-use Rattle.mix_main.specs.Ends.{Says, Tells, TakesLine, TakesPrefix, RefusesInput, CompileWrites, FaultLine, Finished, HasPlan, AfterPlan, EndsRefused, EndsPlanned, stop_line}
+use Rattle.mix_main.specs.Ends.{Says, Tells, TakesLine, TakesPrefix, RefusesInput, CompileWrites, FaultLine, Finished, HasPlan, AfterPlan, IfDied, EndsRefused, EndsPlanned, stop_line}
 use Rattle.mix_main.specs.Status.{EndsWords, IsRefusal, IsBuilt, status_of}
 use Rattle.mix_main.specs.Stop.{IfRefused, RefusedFirst}
 use Rattle.mix_main.specs.Texts.{memory_line, bad_words_line}
@@ -228,3 +228,19 @@ memory_ends status WriteFault old new says = (tt, tt)
 -- the words of the command have no bad one
 pub command_is_good : (words : List (List ℕ)) (at : ℕ) → bad_word words ≡ Some at → IsCommand words → ⊥
 command_is_good words at bad is = let e : bad_word (codes "deps.compile" ∷ []) ≡ Some at = subst (λ (w : List (List ℕ)). bad_word w ≡ Some at) is bad in cc
+
+-- what holds anyway holds where the compiler died
+pub if_died : {T : Type 0} (r : Result T Stop) (P : Type 0) → P → IfErr r (λ s. IfDied s P)
+if_died (Ok x) P holds = tt
+if_died (Err (stop.Refused refusal)) P holds = tt
+if_died (Err stop.Read) P holds = tt
+if_died (Err stop.Tree) P holds = tt
+if_died (Err stop.Died) P holds = holds
+if_died (Err stop.Memory) P holds = tt
+if_died (Err stop.Write) P holds = tt
+
+-- what holds where the compiler died, where the status tells so
+pub died_holds : (result : Status) (s : Stop) (P : Type 0) → Tells result s → result ≡ Died → IfDied s P → P
+died_holds result s P tells e holds =
+    let t : Tells Died s = subst (λ (r : Status). Tells r s) e tells in
+    subst (λ (x : Stop). IfDied x P) t holds

@@ -99,6 +99,15 @@ IfWrite stop.Died P = Unit {0}
 IfWrite stop.Memory P = Unit {0}
 IfWrite stop.Write P = P
 
+-- what holds where the compiler died
+abbrev pub IfDied : Stop → Type 0 → Type 0
+IfDied (stop.Refused refusal) P = Unit {0}
+IfDied stop.Read P = Unit {0}
+IfDied stop.Tree P = Unit {0}
+IfDied stop.Died P = P
+IfDied stop.Memory P = Unit {0}
+IfDied stop.Write P = Unit {0}
+
 -- the report of the plan
 abbrev pub IsReport : (Content → Outcome) → List File → List ℕ → Type 0
 IsReport compile files text = (jobs : List Job) × IsPlan files (Ok jobs) × (text ≡ report jobs (seq compile jobs))

@@ -6,7 +6,7 @@ ghost use Rattle.mix_main.specs.declared.refusal.Refusal.{Refusal};
 ghost use Rattle.mix_main.specs.Plan.{IsPlan};
 ghost use Rattle.mix_main.specs.Ends.{CommandWrites, Compiled, EndsPlanned, EndsRefused, FaultLine, HasPlan, MayStand, NothingFailed, RefusesInput, RefusesWords, TakesPrefix, dev};
 ghost use Rattle.mix_main.specs.Status.{IsBuilt, IsRefusal, is_write_fault, status_of};
-ghost use Rattle.mix_main.specs.Tree.{StaysElsewhere};
+ghost use Rattle.mix_main.specs.Tree.{ClearsEnv, StaysElsewhere};
 ghost use Rattle.mix_main.specs.Words.{IsCommand};
 
 use crate::plain::plain_compile;
@@ -23,6 +23,10 @@ use tree_store::Store;
 /// The answer is the status of the program. Where the store and the sink tell what they hold, statuses 0 and 1
 /// come with the files of the plan in the build tree and with its report; 2, 3 and 9 say what is refused; 5, 6, 7
 /// and 10 say what failed outside; 8 says that memory ran out, which alone has no cause here.
+///
+/// After any status, where the store tells its files, the builds of the environment hold some of the files that they
+/// held, each whole, or each the first output files of its app, of which the last may be cut off. Nothing changed in
+/// other environments.
 pub fn run<S: Store, C: Compiler, K: Sink>(
     alloc: Global,
     words: &[String],
@@ -51,6 +55,7 @@ pub fn run<S: Store, C: Compiler, K: Sink>(
     ensures read_fault { result ≡ Status.ReadFault → Rose (S.faults store.old) (S.faults store.new) }
     ensures tree_fault { result ≡ Status.TreeFault → Rose (S.folder_faults store.old) (S.folder_faults store.new) }
     ensures died { result ≡ Status.Died → Rose (C.deaths compiler.old) (C.deaths compiler.new) }
+    ensures emptied { result ≡ Status.Died → ClearsEnv dev (S.slot store.old) (S.slot store.new) }
     ensures sink { Counted (K.faults out.old) (K.faults out.new) (is_write_fault result) }
     ensures line { FaultLine result (K.taken out.old) (K.taken out.new) }
     ensures cut { result ≡ Status.WriteFault → IfSome (S.sources store.old) (λ files. TakesPrefix (CommandWrites (map (λ word. string_bytes word) words.now) C.compile_of files) (K.taken out.old) (K.taken out.new)) }

@@ -4,10 +4,10 @@ ghost use Rattle.mx_base.specs.Causes.{Counted, Rose};
 ghost use Rattle.tree_store.specs.Slot.{AllHere};
 ghost use Rattle.mix_main.specs.declared.refusal.Refusal.{Refusal};
 ghost use Rattle.mix_main.specs.Plan.{IsPlan};
-ghost use Rattle.mix_main.specs.Ends.{AfterPlan, Compiled, CompileWrites, EndsPlanned, EndsRefused, Finished, FaultLine, HasPlan, IfWrite, IsReport, MayStand, NothingFailed, RefusesInput, TakesPrefix};
+ghost use Rattle.mix_main.specs.Ends.{AfterPlan, Compiled, CompileWrites, EndsPlanned, EndsRefused, Finished, FaultLine, HasPlan, IfDied, IfWrite, IsReport, MayStand, NothingFailed, RefusesInput, TakesPrefix};
 ghost use Rattle.mix_main.specs.Status.{IsBuilt, IsRefusal, is_write_fault, status_of};
 ghost use Rattle.mix_main.specs.Stop.{StopCause, RefusedFirst, IfRefused, UnlessWrite, is_write};
-ghost use Rattle.mix_main.specs.Tree.{StaysElsewhere};
+ghost use Rattle.mix_main.specs.Tree.{ClearsEnv, StaysElsewhere};
 
 use crate::clear::clear_env;
 use crate::fill::fill_env;
@@ -45,6 +45,7 @@ pub fn plain_compile<S: Store, C: Compiler, K: Sink>(
     ensures read_fault { result ≡ Status.ReadFault → Rose (S.faults store.old) (S.faults store.new) }
     ensures tree_fault { result ≡ Status.TreeFault → Rose (S.folder_faults store.old) (S.folder_faults store.new) }
     ensures died { result ≡ Status.Died → Rose (C.deaths compiler.old) (C.deaths compiler.new) }
+    ensures emptied { result ≡ Status.Died → ClearsEnv env.now (S.slot store.old) (S.slot store.new) }
     ensures sink { Counted (K.faults out.old) (K.faults out.new) (is_write_fault result) }
     ensures line { FaultLine result (K.taken out.old) (K.taken out.new) }
     ensures cut { result ≡ Status.WriteFault → IfSome (S.sources store.old) (λ files. TakesPrefix (CompileWrites C.compile_of files) (K.taken out.old) (K.taken out.new)) }
@@ -83,6 +84,7 @@ fn compile<S: Store, C: Compiler, K: Sink>(
     ensures after_plan { IfErr result (λ stop. AfterPlan stop (IfSome (S.sources store.old) HasPlan)) }
     ensures same { IfErr result (λ stop. IfRefused stop (S.slot store.new ≡ S.slot store.old)) }
     ensures clean_refusal { IfErr result (λ stop. IfRefused stop (NothingFailed (S.faults store.old) (S.faults store.new) (S.folder_faults store.old) (S.folder_faults store.new) (C.deaths compiler.old) (C.deaths compiler.new))) }
+    ensures emptied { IfErr result (λ stop. IfDied stop (ClearsEnv env.now (S.slot store.old) (S.slot store.new))) }
     ensures unsaid { IfErr result (λ stop. UnlessWrite stop (K.taken out.new ≡ K.taken out.old)) }
     ensures sink { Counted (K.faults out.old) (K.faults out.new) (is_write result) }
     ensures cut { IfErr result (λ stop. IfWrite stop (IfSome (S.sources store.old) (λ files. TakesPrefix (IsReport C.compile_of files) (K.taken out.old) (K.taken out.new)))) }

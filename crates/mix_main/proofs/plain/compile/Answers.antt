@@ -11,7 +11,7 @@ use Rattle.mix_main.specs.Report.{report, is_failed}
 use Rattle.mix_main.proofs.PlainLemmas.{if_some_map, finished, part_stands, files_stand, filled_partly, filled_wholly}
 use Rattle.mix_main.proofs.StandLemmas.{same_part}
 use Rattle.mix_main.specs.Ends.{HasPlan}
-use Rattle.mix_main.proofs.EndLemmas.{after_plan}
+use Rattle.mix_main.proofs.EndLemmas.{after_plan, if_died}
 use Rattle.mix_main.proofs.plain.compile.Goals as goal
 
 pub returns-clause-compiled : goal.returns-clause-compiled
@@ -100,3 +100,8 @@ returns-in_err-text-clause-after_plan g c =
 pub returns-in_err-write-clause-after_plan : goal.returns-in_err-write-clause-after_plan
 returns-in_err-write-clause-after_plan g c =
     after_plan _ (IfSome (g.S.Store.sources c.args.store.now) HasPlan) (if_some_map (g.S.Store.sources c.args.store.now) _ _ (λ files plan. (c.in_ok-plan.plan.jobs, plan)) c.in_ok-plan.ensures.plan)
+
+pub returns-in_err-fates-clause-emptied : goal.returns-in_err-fates-clause-emptied
+returns-in_err-fates-clause-emptied g c =
+    if_died _ (ClearsEnv c.args.env.now (g.S.Store.slot c.args.store.now) (g.S.Store.slot c.clear_env.new.store))
+    (subst (λ (slots : BuildKey → Slot). ClearsEnv c.args.env.now slots (g.S.Store.slot c.clear_env.new.store)) c.in_ok-plan.ensures.same c.in_ok-clear_env.ensures.cleared)

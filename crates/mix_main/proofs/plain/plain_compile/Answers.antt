@@ -1,7 +1,7 @@
 use Rattle.std.proofs.Common.{rules, arith, ◌≡◌, Option, List, ℕ, subst}
 use Rattle.std.proofs.lemmas.Grind.{common_steps}
 use Rattle.mix_main.specs.Ends.{TakesLine}
-use Rattle.mix_main.proofs.EndLemmas.{exactly_stopped, finished_not_refused, completes_stopped, not_built, refuses_input, if_refused, stop_cut, fault_line}
+use Rattle.mix_main.proofs.EndLemmas.{exactly_stopped, died_holds, finished_not_refused, completes_stopped, not_built, refuses_input, if_refused, stop_cut, fault_line}
 use Rattle.mix_main.proofs.PlainLemmas.{if_some_map}
 use Rattle.mix_main.proofs.plain.plain_compile.Goals as goal
 
@@ -22,6 +22,7 @@ returns-in-Err g c =
       read_fault = first_of (search rules, grind (arith, common_steps));
       tree_fault = first_of (search rules, grind (arith, common_steps));
       died = first_of (search rules, grind (arith, common_steps));
+      emptied = λ e. died_holds result stop _ c.say_stop.ensures.tells e c.in-Err.ensures.emptied;
       sink = first_of (search rules, grind (arith, common_steps));
       line = fault_line result stop (g.K.Sink.taken c.args.out.now) (g.K.Sink.taken c.say_stop.new.out) c.say_stop.ensures.tells takes;
       cut = λ e. if_some_map (g.S.Store.sources c.args.store.now) _ _ (λ files first. stop_cut g.C.Meaning.compile_of files result stop (g.K.Sink.taken c.args.out.now) (g.K.Sink.taken c.say_stop.new.out) first takes e) c.in-Err.ensures.refused;
