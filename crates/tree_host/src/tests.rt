@@ -200,7 +200,6 @@ fn a_folder_is_cleared_but_for_what_links_lead_to(rt: HostRuntime) -> Result<(),
 }
 
 #[test]
-#[tactic(auto, using(crate::proofs::SlotLemmas::is_out))]
 fn a_folder_comes_back_with_its_faults(rt: HostRuntime) -> Result<(), Fail> {
     let alloc = rt.alloc();
     write_files(rt, "returned/_build/dev/lib", &["a"])?;
