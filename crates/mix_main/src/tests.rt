@@ -102,10 +102,7 @@ fn output(alloc: Global, files: &[(&str, &str)], app: &str) -> Result<Vec<u8>, F
     let _status = run(alloc, &words, &mut store, &mut EchoCompiler, &mut out);
     let env = AppName::of(alloc, b"dev")?;
     let app = AppName::of(alloc, app.as_bytes())?;
-    let mut folder = store.folder(alloc, &env, &app)?;
-    let files = folder.files(alloc);
-    store.give_back(folder);
-    match files?.as_slice() {
+    match store.folder(alloc, &env, &app)?.files(alloc)?.as_slice() {
         [file] => Ok(file.bytes.as_slice().to_vec(alloc)?),
         _ => Err(Fail::new("one file")),
     }
