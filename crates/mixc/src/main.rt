@@ -26,11 +26,20 @@ fn status(rt: &HostRuntime) -> Result<Status, AllocError> {
     Ok(run(rt.alloc(), &words, &mut store, &mut EchoCompiler, &mut out))
 }
 
-fn main(rt: HostRuntime) -> ExitCode {
-    match status(&rt) {
-        Ok(status) => ExitCode::from(status.code()),
-        Err(_) => ExitCode::from(Status::OutOfMemory.code()),
+// Memory ran out before the top call was made.
+fn say_memory(rt: &HostRuntime) -> Status {
+    match rt.println("mixc: out of memory") {
+        Ok(()) => Status::OutOfMemory,
+        Err(_) => Status::WriteFault,
     }
+}
+
+fn main(rt: HostRuntime) -> ExitCode {
+    let status = match status(&rt) {
+        Ok(status) => status,
+        Err(_) => say_memory(&rt),
+    };
+    ExitCode::from(status.code())
 }
 
 #[cfg(test)]
