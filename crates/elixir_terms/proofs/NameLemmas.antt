@@ -1,9 +1,9 @@
 -- The longest name at the front of a text.
+use Rattle.std.specs.Prelude.{IsTrue, not}
 use Rattle.std.proofs.Common.{◌≡◌, ℕ, suc, Bool, true, false, ◌&&◌, List, [], ◌∷◌, ◌++◌, length, take, drop, cond, eqb, refl, sym, ap, ◌∙◌, subst, ⊎_elim}
-use Rattle.std.proofs.lemmas.Bool.{and_parts, or_parts, or_from, or_left, or_right, or_cases, eqb-true, and_from, false_from_ne_true, true≢false, false≢true, and_right}
+use Rattle.std.proofs.lemmas.Bool.{not-true, and_parts, or_parts, or_from, or_left, or_right, or_cases, eqb-true, and_from, false_from_ne_true, true≢false, false≢true, and_right}
 use Rattle.elixir_terms.specs.Names.{is_name_start, is_name_byte, is_name_mark, is_name_rest, is_name}
-use Rattle.elixir_terms.specs.declared.token.Token.TheVariants.{Atom}
-use Rattle.elixir_terms.specs.Tokens.{EndsBefore}
+use Rattle.elixir_terms.specs.Tokens.{ends_name as ends_name_test}
 use Rattle.elixir_terms.specs.Lexing.{name_rest_len, name_len}
 
 -- a name byte doesn't end a name
@@ -86,7 +86,16 @@ rest_complete (byte ∷ name) rest h ends = complete_at byte name rest (name_res
 
 -- a name with the text after it: it is as long as it can be
 abbrev pub EndsName : List ℕ → List ℕ → Type 0
-EndsName name rest = EndsBefore (Atom name) rest
+EndsName name [] = Unit {0}
+EndsName name (byte ∷ rest) = is_name (name ++ byte ∷ []) ≡ false
+
+pub ends_from_test : (name rest : List ℕ) → IsTrue (ends_name_test name rest) → EndsName name rest
+ends_from_test name [] h = tt
+ends_from_test name (byte ∷ rest) h = not-true (is_name (name ++ byte ∷ [])) h
+
+pub test_from_ends : (name rest : List ℕ) → EndsName name rest → IsTrue (ends_name_test name rest)
+test_from_ends name [] h = refl
+test_from_ends name (byte ∷ rest) h = ap not h
 
 pub record NameCut (text : List ℕ) (len : ℕ) : Type 0 where
   pub name : is_name (take len text) ≡ true

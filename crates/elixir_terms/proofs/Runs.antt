@@ -3,11 +3,11 @@ use Rattle.std.proofs.Common.{◌≡◌, List, [], ◌∷◌, ◌++◌, Option, 
 use Rattle.std.specs.Prelude.{option_and_then}
 use Rattle.std.proofs.lemmas.List.{append-nil}
 use Rattle.elixir_terms.specs.declared.state.State.{State}
-use Rattle.elixir_terms.specs.declared.state.State.TheVariants.{Value, Element, Separator, Done}
+use Rattle.elixir_terms.specs.declared.state.State.TheVariants.{Value, Element, Separator, Arrow, Done}
 use Rattle.elixir_terms.specs.declared.term.Term.{Term}
 use Rattle.elixir_terms.specs.declared.token.Token.{Token}
 use Rattle.elixir_terms.specs.declared.token.Token.TheVariants.{Close}
-use Rattle.elixir_terms.specs.Grammar.{IsTerm, atom, string, brackets}
+use Rattle.elixir_terms.specs.Grammar.{IsTerm, atom, integer, string, words, brackets, closing_of}
 use Rattle.elixir_terms.specs.Machine.{step}
 use Rattle.elixir_terms.proofs.Meaning.{Wants, WantsNext}
 use Rattle.elixir_terms.proofs.StepForth.{step_forth}
@@ -18,20 +18,24 @@ not_end (t ∷ part) rest tok e = cc
 
 not_nothing : {word : List Token} {t : Term} (rest : List Token) → IsTerm word t → [] ≡ word ++ rest → ⊥
 not_nothing rest atom e = cc
+not_nothing rest integer e = cc
 not_nothing rest string e = cc
+not_nothing rest words e = cc
 not_nothing rest (brackets reads encloses) e = cc
 
 -- at the end of the tokens the term has to be whole
 pub wants_end : (u : Term) (s : State) → Wants u s [] → s ≡ Done u
 wants_end u (Value holes) w = absurd (not_nothing w.rest w.reads w.split)
-wants_end u (Element frame holes) w = absurd (not_end w.part w.rest (Close frame.bracket) w.split)
-wants_end u (Separator frame holes) w = absurd (not_end w.part w.rest (Close frame.bracket) w.split)
+wants_end u (Element frame holes) w = absurd (not_end w.part w.rest (Close (closing_of frame.bracket)) w.split)
+wants_end u (Separator frame holes) w = absurd (not_end w.part w.rest (Close (closing_of frame.bracket)) w.split)
+wants_end u (Arrow key frame holes) w = let e = w.begins in absurd (cc)
 wants_end u (Done t) w = ap Done w.1
 
 abbrev finished : State → Option Term
 finished (Value holes) = None
 finished (Element frame holes) = None
 finished (Separator frame holes) = None
+finished (Arrow key frame holes) = None
 finished (Done t) = Some t
 
 abbrev run : List Token → State → Option Term

@@ -1,5 +1,6 @@
--- The bytes of names, blanks and strings.
-use Rattle.std.specs.Prelude.{ℕ, Bool, true, false, ◌&&◌, ◌||◌, ◌==◌, nat_le, List, [], ◌∷◌}
+-- The bytes of names and blanks.
+use Rattle.std.specs.Prelude.{ℕ, Bool, true, false, ◌&&◌, ◌||◌, ◌==◌, nat_le, List, [], ◌∷◌, codes}
+use Rattle.std.specs.Str.{bytes_eq}
 
 -- from low to high
 abbrev pub is_from : ℕ → ℕ → ℕ → Bool
@@ -32,10 +33,10 @@ abbrev pub is_name : List ℕ → Bool
 is_name [] = false
 is_name (byte ∷ bytes) = is_name_start byte && is_name_rest bytes
 
+-- the names that are atoms without a colon
+abbrev pub is_bare_atom : List ℕ → Bool
+is_bare_atom name = bytes_eq name (codes "true") || bytes_eq name (codes "false") || bytes_eq name (codes "nil")
+
 -- a space, a tab, a carriage return or a line feed
 abbrev pub is_blank : ℕ → Bool
 is_blank byte = byte == 32 || byte == 9 || byte == 13 || byte == 10
-
--- what a string may hold: a printing byte that is no `"`, no `\` and no `#`
-abbrev pub is_plain : ℕ → Bool
-is_plain byte = is_from 32 33 byte || is_from 36 91 byte || is_from 93 126 byte

@@ -1,6 +1,8 @@
 -- What a refusal says.
-use Rattle.std.specs.Prelude.{◌≡◌, Bool, true, false, IsFalse, Result, Ok, Err, Option, Some, None}
+use Rattle.std.specs.Prelude.{◌≡◌, ℕ, List, Bool, true, false, IsFalse, Result, Ok, Err, Option, Some, None}
 use Rattle.elixir_terms.specs.declared.term.Term.{Term}
+use Rattle.elixir_terms.specs.Spells.{Spells}
+use Rattle.elixir_terms.specs.Within.{Within}
 use Rattle.elixir_terms.specs.declared.error.TermError.{TermError}
 use Rattle.elixir_terms.specs.declared.error.TermCause.{TermCause}
 use Rattle.elixir_terms.specs.declared.error.TermCause.TheVariants.{NotRead, OutOfMemory}
@@ -14,9 +16,9 @@ is_memory NotRead = false
 abbrev pub not_read : TermError
 not_read = record { at = 0; cause = NotRead }
 
--- a refusal that isn't for want of memory is at 0, and nothing is spelled
-abbrev pub Refuses : (Term → Type 0) → TermError → Type 0
-Refuses Spelled error = IsFalse (is_memory error.cause) → (error ≡ not_read) × ((t : Term) → Spelled t → ⊥)
+-- a refusal that isn't for want of memory is at 0, and no term within the limits is spelled
+abbrev pub Refuses : List ℕ → TermError → Type 0
+Refuses text error = IsFalse (is_memory error.cause) → (error ≡ not_read) × ((t : Term) → Spells text t → Within text t → ⊥)
 
 -- the value, or a refusal where there is none, unless memory ran out
 abbrev pub Gives : {X : Type 0} → Result X TermError → Option X → Type 0

@@ -1,39 +1,93 @@
 // Open brackets, with what was read in them.
-ghost use Rattle.std.specs.Prelude.{◌≡◌, [], IfOk};
-ghost use Rattle.elixir_terms.specs.Grammar.{pair, enclosed};
-ghost use Rattle.elixir_terms.specs.Machine.{filled, takes_key, takes_element};
-ghost use Rattle.elixir_terms.specs.Refused.{Gives};
+ghost use Rattle.std.specs.Prelude.{◌≡◌, ◌≤◌, []};
+ghost use Rattle.elixir_terms.specs.Grammar.{enclosed};
+ghost use Rattle.elixir_terms.specs.Levels.{cost, keyword_cost};
+ghost use Rattle.elixir_terms.specs.Machine.{empty, is_closed_by, part_slot, takes_key, takes_part, KeysDiffer};
+ghost use Rattle.elixir_terms.specs.Limits.{GivesWhere};
 
 use crate::bracket::Bracket;
-use crate::error::{NOT_READ, TermError};
-use crate::term::{Term, Terms};
+use crate::enclosed::{list, mapping, tuple};
+use crate::error::TermError;
+use crate::term::{Pairs, Term, Terms};
+use crate::token::Closing;
 use mx_base::Text;
 use sqlite_items::Items;
-use std::alloc::{AllocError, Global};
+use std::alloc::Global;
 
-/// An open bracket, and what was read in it: plain elements, and then keywords.
+/// An open bracket, and what was read in it: elements or entries, and then keywords.
 #[derive(Debug, Drop)]
 pub struct Frame {
     pub bracket: Bracket,
     pub items: Terms,
-    pub pairs: Terms,
+    pub entries: Pairs,
+    pub keywords: Pairs,
 }
 
-/// A place in an open bracket where a term is wanted: the value of the key, or a plain element.
+/// What a term in a bracket is.
+#[derive(Debug, Drop)]
+pub enum Slot {
+    /// An element of a list or a tuple.
+    Element,
+    /// The value of a keyword's key.
+    Keyword(Text),
+    /// What stands before the `=>` of a map.
+    EntryKey,
+    /// What stands after the `=>`, with the key before it.
+    EntryValue(Term),
+}
+
+/// A place in an open bracket where a term is wanted.
 #[derive(Debug, Drop)]
 pub struct Hole {
     pub frame: Frame,
-    pub key: Option<Text>,
+    pub slot: Slot,
+}
+
+impl Bracket {
+    /// Whether it is closed so.
+    pub fn is_closed_by(self, closing: Closing) -> bool
+        ensures { result ≡ is_closed_by self closing }
+    {
+        match (self, closing) {
+            (Bracket::List, Closing::Square) => true,
+            (Bracket::Tuple, Closing::Curly) => true,
+            (Bracket::Map, Closing::Curly) => true,
+            _ => false,
+        }
+    }
+
+    /// What a term without a keyword's key is in it.
+    pub fn part_slot(self) -> Slot
+        ensures { result ≡ part_slot self }
+    {
+        match self {
+            Bracket::List | Bracket::Tuple => Slot::Element,
+            Bracket::Map => Slot::EntryKey,
+        }
+    }
+
+    /// How many levels a keyword in it is made of, from the term that the bracket makes down to the pair.
+    fn keyword_cost(self) -> u8
+        ensures value { result ≡ keyword_cost self }
+        ensures few { result ≤ 3 }
+    {
+        match self {
+            Bracket::List => 2,
+            Bracket::Tuple => 3,
+            Bracket::Map => 1,
+        }
+    }
 }
 
 impl Frame {
     pub fn new(alloc: Global, bracket: Bracket) -> Frame
-        ensures { result ≡ record { bracket = bracket; items = []; pairs = [] } }
+        ensures { result ≡ empty bracket }
     {
         Frame {
             bracket,
             items: Items::new(alloc),
-            pairs: Items::new(alloc),
+            entries: Items::new(alloc),
+            keywords: Items::new(alloc),
         }
     }
 
@@ -42,66 +96,45 @@ impl Frame {
         ensures { result ≡ takes_key self.now }
     {
         match self.bracket {
-            Bracket::List => true,
+            Bracket::List | Bracket::Map => true,
             Bracket::Tuple => !self.items.as_slice().is_empty(),
         }
     }
 
-    /// Whether a plain element may stand here: not after a keyword.
-    pub fn takes_element(&self) -> bool
-        ensures { result ≡ takes_element self.now }
+    /// Whether an element or an entry may stand here: not after a keyword.
+    pub fn takes_part(&self) -> bool
+        ensures { result ≡ takes_part self.now }
     {
-        self.pairs.as_slice().is_empty()
+        self.keywords.as_slice().is_empty()
     }
 
     /// The term that the bracket encloses, closed here.
-    pub fn enclosed(self) -> Result<Term, TermError>
-        ensures { Gives result (enclosed self.bracket self.items self.pairs) }
+    pub fn enclosed(self, alloc: Global) -> Result<Term, TermError>
+        ensures { GivesWhere (KeysDiffer self.bracket self.entries self.keywords) result (enclosed self.bracket self.items self.entries self.keywords) }
     {
         let Frame {
             bracket,
-            mut items,
-            pairs,
+            items,
+            entries,
+            keywords,
         } = self;
         match bracket {
-            Bracket::List => {
-                items.append(pairs)?;
-                Ok(Term::List(items))
-            }
-            Bracket::Tuple => {
-                if pairs.as_slice().is_empty() {
-                    return Ok(Term::Tuple(items));
-                }
-                if items.as_slice().is_empty() {
-                    return Err(NOT_READ);
-                }
-                items.push(Term::List(pairs))?;
-                Ok(Term::Tuple(items))
-            }
+            Bracket::List => list(alloc, items, &entries, keywords),
+            Bracket::Tuple => tuple(alloc, items, &entries, keywords),
+            Bracket::Map => mapping(alloc, &items, entries, keywords),
         }
     }
 }
 
 impl Hole {
-    /// The bracket with the term in the hole.
-    pub fn filled(self, alloc: Global, term: Term) -> Result<Frame, AllocError>
-        ensures { IfOk result (λ frame. frame ≡ filled self term) }
+    /// How many levels lie between the bracket's term and the term in the hole.
+    pub fn cost(&self) -> u8
+        ensures value { result ≡ cost self.now }
+        ensures few { result ≤ 3 }
     {
-        let Hole { mut frame, key } = self;
-        match key {
-            None => frame.items.push(term)?,
-            Some(key) => frame.pairs.push(pair(alloc, key, term)?)?,
+        match self.slot {
+            Slot::Keyword(_) => self.frame.bracket.keyword_cost(),
+            Slot::Element | Slot::EntryKey | Slot::EntryValue(_) => 1,
         }
-        Ok(frame)
     }
-}
-
-/// A keyword: the tuple of its key and its value.
-fn pair(alloc: Global, key: Text, value: Term) -> Result<Term, AllocError>
-    ensures { IfOk result (λ term. term ≡ pair key value) }
-{
-    let mut both = Items::new(alloc);
-    both.push(Term::Atom(key))?;
-    both.push(value)?;
-    Ok(Term::Tuple(both))
 }

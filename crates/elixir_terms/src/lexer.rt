@@ -1,120 +1,73 @@
 // The first token of a text.
-ghost use Rattle.std.specs.Prelude.{◌≡◌, ◌≤◌, length};
-ghost use Rattle.elixir_terms.specs.Lexing.{name_len, name_rest_len, plain_len, sign, atom_at, string_at, key_at, first_token};
-ghost use Rattle.elixir_terms.specs.Refused.{GivesBy};
+ghost use Rattle.std.specs.Prelude.{◌≡◌, ◌<◌, ℕ, List, IsFalse, IfOk, IfErr, length, option_map};
+ghost use Rattle.elixir_terms.specs.declared.token.Token.{Token};
+ghost use Rattle.elixir_terms.specs.Lexing.{LexesBy, IsNarrow, IsWide, atom_at, sign_at, first_token};
+ghost use Rattle.elixir_terms.specs.Refused.{is_memory, not_read};
+ghost use Rattle.elixir_terms.specs.Tokens.{Begins};
 
 use crate::bracket::Bracket;
-use crate::bytes::{is_blank, is_name_byte, is_name_mark, is_name_start, is_plain};
+use crate::bytes::is_digit;
 use crate::error::{NOT_READ, TermError};
-use crate::token::Token;
-use mx_base::{Bytes, Text};
+use crate::names::{key_or_atom, name_atom};
+use crate::numbers::integer;
+use crate::strings::{quoted_atom, string};
+use crate::token::{Closing, Token};
+use crate::words::words;
 use std::alloc::Global;
 
 /// The token that a text begins with, and the text after it.
+///
+/// The error is `NOT_READ` where there is none, or only an integer that 128 bits don't hold, and
+/// `TermError::MEMORY` where memory ran out.
 pub fn first_token(alloc: Global, text: &[u8]) -> Result<(Token, &[u8]), TermError>
-    ensures { GivesBy (λ found. (found.0, found.1.now)) result (first_token text.now) }
+    ensures begins { IfOk result (λ found. Begins text.now found.0 found.1.now) }
+    ensures narrow { IfOk result (λ found. IsNarrow found.0) }
+    ensures shorter { IfOk result (λ found. length found.1.now < length text.now) }
+    ensures refused { IfErr result (λ error. IsFalse (is_memory error.cause) → error ≡ not_read) }
+    ensures none { IfErr result (λ error. IsFalse (is_memory error.cause) → (token : Token) (rest : List ℕ) → Begins text.now token rest → IsWide token) }
+{
+    token(alloc, text)
+}
+
+/// The first token, by its first byte.
+fn token(alloc: Global, text: &[u8]) -> Result<(Token, &[u8]), TermError>
+    ensures { LexesBy (λ found. (found.0, found.1.now)) result (first_token text.now) }
 {
     match text {
         [] => Err(NOT_READ),
         [b':', rest @ ..] => atom(alloc, rest),
         [b'"', rest @ ..] => string(alloc, rest),
-        [byte, rest @ ..] => match sign(*byte) {
-            Some(token) => Ok((token, rest)),
-            None => key(alloc, text),
+        [b'~', rest @ ..] => words(alloc, rest),
+        [byte, ..] if *byte == b'-' || is_digit(*byte, 10) => integer(alloc, text),
+        _ => match sign(text) {
+            Some(found) => Ok(found),
+            None => key_or_atom(alloc, text),
         },
-    }
-}
-
-/// The tokens of one byte.
-fn sign(byte: u8) -> Option<Token>
-    ensures { result ≡ sign byte }
-{
-    match byte {
-        b'[' => Some(Token::Open(Bracket::List)),
-        b']' => Some(Token::Close(Bracket::List)),
-        b'{' => Some(Token::Open(Bracket::Tuple)),
-        b'}' => Some(Token::Close(Bracket::Tuple)),
-        b',' => Some(Token::Comma),
-        _ => None,
     }
 }
 
 /// An atom, after its colon.
 fn atom(alloc: Global, text: &[u8]) -> Result<(Token, &[u8]), TermError>
-    ensures { GivesBy (λ found. (found.0, found.1.now)) result (atom_at text.now) }
-{
-    let len = name_len(text);
-    if len == 0 {
-        return Err(NOT_READ);
-    }
-    let (name, rest) = text.split_at(len);
-    Ok((Token::Atom(Text::from_slice(alloc, name)?), rest))
-}
-
-/// A string, after its opening quote.
-fn string(alloc: Global, text: &[u8]) -> Result<(Token, &[u8]), TermError>
-    ensures { GivesBy (λ found. (found.0, found.1.now)) result (string_at text.now) }
-{
-    let (bytes, rest) = text.split_at(plain_len(text));
-    match rest {
-        [b'"', after @ ..] => Ok((Token::Str(Bytes::from_slice(alloc, bytes)?), after)),
-        _ => Err(NOT_READ),
-    }
-}
-
-/// A keyword's key, its colon and a blank byte.
-fn key(alloc: Global, text: &[u8]) -> Result<(Token, &[u8]), TermError>
-    ensures { GivesBy (λ found. (found.0, found.1.now)) result (key_at text.now) }
-{
-    let len = name_len(text);
-    if len == 0 {
-        return Err(NOT_READ);
-    }
-    let (name, rest) = text.split_at(len);
-    match rest {
-        [b':', blank, after @ ..] if is_blank(*blank) => {
-            Ok((Token::Key(Text::from_slice(alloc, name)?), after))
-        }
-        _ => Err(NOT_READ),
-    }
-}
-
-/// How many bytes the longest name has that the text begins with: 0 where it begins with none.
-fn name_len(text: &[u8]) -> usize
-    ensures value { result ≡ name_len text.now }
-    ensures within { result ≤ length text.now }
+    ensures { LexesBy (λ found. (found.0, found.1.now)) result (atom_at text.now) }
 {
     match text {
-        [first, rest @ ..] if is_name_start(*first) => 1 + name_rest_len(rest),
-        _ => 0,
+        [b'"', rest @ ..] => quoted_atom(alloc, rest),
+        _ => name_atom(alloc, text),
     }
 }
 
-/// How many bytes at the front may go on a name.
-fn name_rest_len(text: &[u8]) -> usize
-    ensures value { result ≡ name_rest_len text.now }
-    ensures within { result ≤ length text.now }
+/// A bracket, a comma or an arrow, and the text after it.
+fn sign(text: &[u8]) -> Option<(Token, &[u8])>
+    ensures { option_map (λ found. (found.0, found.1.now)) result ≡ sign_at text.now }
 {
-    for (len, byte) in text.iter().enumerate() {
-        if is_name_mark(*byte) {
-            return len + 1;
-        }
-        if !is_name_byte(*byte) {
-            return len;
-        }
+    match text {
+        [b'[', rest @ ..] => Some((Token::Open(Bracket::List), rest)),
+        [b']', rest @ ..] => Some((Token::Close(Closing::Square), rest)),
+        [b'{', rest @ ..] => Some((Token::Open(Bracket::Tuple), rest)),
+        [b'}', rest @ ..] => Some((Token::Close(Closing::Curly), rest)),
+        [b'%', b'{', rest @ ..] => Some((Token::Open(Bracket::Map), rest)),
+        [b',', rest @ ..] => Some((Token::Comma, rest)),
+        [b'=', b'>', rest @ ..] => Some((Token::Arrow, rest)),
+        _ => None,
     }
-    text.len()
-}
-
-/// How many bytes at the front a string may hold as they stand.
-fn plain_len(text: &[u8]) -> usize
-    ensures value { result ≡ plain_len text.now }
-    ensures within { result ≤ length text.now }
-{
-    for (len, byte) in text.iter().enumerate() {
-        if !is_plain(*byte) {
-            return len;
-        }
-    }
-    text.len()
 }

@@ -1,29 +1,44 @@
-//! Literal Elixir terms: the values, and the reader of their text.
+//! Literal Elixir terms: the values, the reader of their text, and their printing.
 //!
-//! A text is cut into tokens with blanks and comments between them, and the tokens are a term by a grammar:
-//! atoms `:name`, strings of printing bytes without `"`, `\` and `#`, lists and tuples, and keywords whose key
-//! is a name. `specs/` says both without the reader: `Tokens.antt` the tokens, `Grammar.antt` the terms, and
-//! `Spells.antt` joins them. `read` answers the term that the whole text spells, exactly where there is one.
+//! A text is cut into tokens with blanks and comments between them, and the tokens are a term by a grammar.
+//! `specs/` says both without the reader: `Tokens.antt` the tokens, `Grammar.antt` the terms, `Spells.antt`
+//! joins them, and `Within.antt` has the limits. `read` answers the term that the whole text spells within the
+//! limits, exactly where there is one, and `one_reading` says that there is one at most.
 //!
 //! The reader goes once from left to right and keeps the open brackets on a stack of its own: `blanks` and
-//! `lexer` find the next token, `state` and `frame` take it in.
+//! `lexer` find the next token, `state` takes it in, `holes` counts the levels, `enclosed` makes the term of a
+//! bracket that closes, and `keys` tells whether a map repeats a key.
 #![tactic(auto)]
 
 mod blanks;
 mod bracket;
 mod bytes;
+mod enclosed;
 mod error;
 mod frame;
+mod holes;
+mod keys;
 mod lexer;
+mod names;
+mod numbers;
+mod printer;
 mod reading;
+mod scalars;
 mod stack;
 mod state;
+mod strings;
 mod term;
 mod token;
+mod words;
 
 pub use error::{TermCause, TermError};
+pub use printer::print;
 pub use reading::{one_reading, read};
-pub use term::{Term, Terms};
+pub use term::{Pairs, Term, Terms};
 
+#[cfg(test)]
+mod lexer_tests;
+#[cfg(test)]
+mod print_tests;
 #[cfg(test)]
 mod tests;

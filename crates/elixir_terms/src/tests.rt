@@ -1,180 +1,217 @@
 // Texts that are read, and texts that are refused.
 
-use crate::{Term, TermCause, TermError, one_reading, read};
-use std::alloc::{AllocError, Global};
+use crate::{Term, TermCause, TermError, one_reading, print, read};
+use mx_base::Bytes;
+use std::alloc::Global;
 use std::test::Fail;
 
-/// The term on one line, each keyword as the tuple that it is.
-fn show(out: &mut Vec<u8>, term: &Term) -> Result<(), AllocError> {
-    match term {
-        Term::Atom(name) => {
-            out.push(b':')?;
-            out.extend_from_slice(name.as_slice())?;
-        }
-        Term::Str(bytes) => {
-            out.push(b'"')?;
-            out.extend_from_slice(bytes.as_slice())?;
-            out.push(b'"')?;
-        }
-        Term::List(items) => {
-            out.push(b'[')?;
-            for item in items.as_slice() {
-                show(out, item)?;
-                out.push(b' ')?;
-            }
-            out.push(b']')?;
-        }
-        Term::Tuple(items) => {
-            out.push(b'{')?;
-            for item in items.as_slice() {
-                show(out, item)?;
-                out.push(b' ')?;
-            }
-            out.push(b'}')?;
-        }
-    }
-    Ok(())
+fn printed(alloc: Global, text: &[u8]) -> Result<Bytes, Fail> {
+    let term = read(alloc, text)?;
+    Ok(print(alloc, &term)?)
 }
 
-fn shown(alloc: Global, text: &[u8]) -> Result<Vec<u8>, Fail> {
-    let term = read(alloc, text)?;
-    let mut out = Vec::new(alloc);
-    show(&mut out, &term)?;
-    Ok(out)
+fn is_refused(alloc: Global, text: &[u8]) -> bool {
+    match read(alloc, text) {
+        Ok(_) => false,
+        Err(error) => error
+            == TermError {
+                at: 0,
+                cause: TermCause::NotRead,
+            },
+    }
 }
 
 #[test]
 fn texts_are_read(rt: HostRuntime) -> Result<(), Fail> {
     let alloc = rt.alloc();
+    one_reading();
     for (text, want) in [
-        (":a", ":a"),
         (" \t\r\n:a # a comment", ":a"),
         ("# one\n# two\n:ok?", ":ok?"),
-        (":Aa_9@b!", ":Aa_9@b!"),
-        (":_", ":_"),
-        ("\"\"", "\"\""),
-        ("\"a {b} c, [d]\"", "\"a {b} c, [d]\""),
-        ("[]", "[]"),
         ("[ # nothing\n]", "[]"),
         ("{}", "{}"),
-        ("[:a]", "[:a ]"),
-        ("[:a,]", "[:a ]"),
-        ("[:a , \"b\" , ]", "[:a \"b\" ]"),
-        ("{:a,{:b},[]}", "{:a {:b } [] }"),
-        ("[a: :b]", "[{:a :b } ]"),
-        ("[a:\n:b, c?: :d,]", "[{:a :b } {:c? :d } ]"),
-        ("[:x, a: :b]", "[:x {:a :b } ]"),
-        ("{:x, a: :b, c: \"d\"}", "{:x [{:a :b } {:c \"d\" } ] }"),
-        ("{:x, a: :b,}", "{:x [{:a :b } ] }"),
+        ("%{}", "%{}"),
+        ("[:a , \"b\" , ]", "[:a, \"b\"]"),
+        ("{:a,{:b},[]}", "{:a, {:b}, []}"),
+        ("[a:\n:b, c?: :d,]", "[a: :b, c?: :d]"),
+        ("[{:a, 1}]", "[a: 1]"),
+        ("[:x, a: :b]", "[:x, {:a, :b}]"),
+        ("{:x, a: :b, c: \"d\",}", "{:x, [a: :b, c: \"d\"]}"),
+        ("[\"a b\": 1]", "[\"a b\": 1]"),
         (
-            "[a: [b: {:c, d: :e}]]",
-            "[{:a [{:b {:c [{:d :e } ] } } ] } ]",
+            "%{:a => 1, \"b\" => [2,], c: 3,}",
+            "%{:a => 1, \"b\" => [2], :c => 3}",
         ),
-        ("[a: # of a\n :b]", "[{:a :b } ]"),
+        ("%{a: 1, b: %{1 => {}}}", "%{a: 1, b: %{1 => {}}}"),
+        ("%{:a => 1, b: 2}", "%{a: 1, b: 2}"),
+        ("%{[a: 1] => %{2 => 3}}", "%{[a: 1] => %{2 => 3}}"),
         (
-            "[app: :demo, version: \"0.1.0\", deps: [{:c, path: \"c\"}, {:b, path: \"b\"}, {:a, path: \"a\"}]]",
-            "[{:app :demo } {:version \"0.1.0\" } {:deps [{:c [{:path \"c\" } ] } {:b [{:path \"b\" } ] } {:a [{:path \"a\" } ] } ] } ]",
+            "%{1 => 1, \"1\" => 1, :\"1\" => 1}",
+            "%{1 => 1, \"1\" => 1, :\"1\" => 1}",
         ),
+        ("[a: 1, a: 2]", "[a: 1, a: 2]"),
+        ("~w(dev test)a", "[:dev, :test]"),
+        (
+            "[only: ~w(a  b), x: ~w()s]",
+            "[only: [\"a\", \"b\"], x: []]",
+        ),
+        ("{-0x1F, 1_000, 0b11, 0o17}", "{-31, 1000, 3, 15}"),
+        ("[true, nil, false: true]", "[true, nil, {false, true}]"),
     ] {
-        let out = shown(alloc, text.as_bytes())?;
+        let out = printed(alloc, text.as_bytes())?;
         assert_eq!(rt; out.as_slice(), want.as_bytes(), "at {text:?}");
     }
-    one_reading();
     Ok(())
 }
 
 #[test]
-fn other_texts_are_refused(rt: HostRuntime) {
-    let refusal = TermError {
-        at: 0,
-        cause: TermCause::NotRead,
-    };
+fn other_texts_are_refused(rt: HostRuntime) -> Result<(), Fail> {
+    let alloc = rt.alloc();
     for text in [
         "",
         " ",
-        "# a",
-        ":",
-        ": a",
-        ":9",
-        ":a b",
-        ":a?b",
-        ":a:b",
-        ":a,",
-        "a",
-        "a: :b",
-        "1",
-        "true",
-        "\"a",
-        "\"#\"",
-        "\"\\n\"",
-        "\"a\nb\"",
+        "#",
+        ":a :b",
         "[",
         "]",
         "[:a",
         "[:a}",
         "{:a]",
+        "%{]",
         "[,]",
-        "{,}",
         "[:a,,]",
-        "[:a,,:b]",
         "[:a :b]",
-        "[:a] [:b]",
-        "[a: :b, :c]",
-        "[a: b: :c]",
-        "[a: ]",
+        "{a: 1}",
+        "[a: 1, :b]",
+        "{1, a: 1, 2}",
+        "[1 => 2]",
+        "{1 => 2}",
+        "%{1}",
+        "%{1, 2}",
+        "%{1 =>}",
+        "%{=> 1}",
+        "%{1 => 2 => 3}",
+        "%{a: 1, :b => 2}",
+        "%{:a => 1, :a => 2}",
+        "%{:a => 1, a: 2}",
+        "%{a: 1, a: 1}",
+        "%{[1] => 1, [0x1] => 2}",
         "[a:]",
-        "[a::b]",
-        "[a :b]",
-        "[a : :b]",
-        "[a:#\n:b]",
-        "{a: :b}",
-        "{:x, a: :b, :c}",
-        "{:x, a:, b: :c}",
-        "[:a, # ]",
-        "%{}",
-        "[app: 1]",
-        "~w(a)",
-        ":\"a\"",
-        "'a'",
+        "[a: , 1]",
+        "a: 1",
+        "=>",
+        ",",
+        "%",
+        "%{1 => a: 2}",
+        "170141183460469231731687303715884105728",
+        "[{\"x\", -170141183460469231731687303715884105729}]",
     ] {
-        let answer = read(rt.alloc(), text.as_bytes()).err();
-        assert_eq!(rt; answer, Some(refusal), "at {text:?}");
+        assert!(rt; is_refused(alloc, text.as_bytes()), "at {text:?}");
     }
+    assert!(rt; is_refused(alloc, &[b'"', 255, b'"']));
+    assert!(rt; is_refused(alloc, &[b':', b'a', b' ', b'#', 255]));
+    Ok(())
 }
 
-fn is_read(alloc: Global, text: &[u8]) -> bool {
-    read(alloc, text).is_ok()
-}
-
-fn nested(alloc: Global, opening: usize, closing: usize) -> Result<Vec<u8>, AllocError> {
+/// The opening so many times, then the inside, then the closing as often.
+fn nested(
+    alloc: Global,
+    count: usize,
+    opening: &str,
+    inside: &str,
+    closing: &str,
+) -> Result<Vec<u8>, Fail> {
     let mut text = Vec::new(alloc);
-    for _ in 0..opening {
-        text.push(b'[')?;
+    for _ in 0..count {
+        text.extend_from_slice(opening.as_bytes())?;
     }
-    for _ in 0..closing {
-        text.push(b']')?;
+    text.extend_from_slice(inside.as_bytes())?;
+    for _ in 0..count {
+        text.extend_from_slice(closing.as_bytes())?;
     }
-    Ok(text)
-}
-
-fn long_list(alloc: Global) -> Result<Vec<u8>, AllocError> {
-    let mut text = Vec::new(alloc);
-    text.push(b'[')?;
-    for _ in 0..250_000 {
-        text.extend_from_slice(b":a, ".as_slice())?;
-    }
-    text.push(b']')?;
     Ok(text)
 }
 
 #[test]
-fn deep_and_long_texts_are_read(rt: HostRuntime) -> Result<(), Fail> {
+fn terms_of_64_levels_are_read(rt: HostRuntime) -> Result<(), Fail> {
     let alloc = rt.alloc();
-    let deep = nested(alloc, 5000, 5000)?;
-    assert!(rt; is_read(alloc, deep.as_slice()));
-    let open = nested(alloc, 5000, 4999)?;
-    assert!(rt; !is_read(alloc, open.as_slice()));
-    let long = long_list(alloc)?;
-    assert!(rt; is_read(alloc, long.as_slice()));
+    for (count, opening, inside, closing) in [
+        (64, "[", "1", "]"),
+        (64, "{", "", "}"),
+        (64, "%{1 => ", "2", "}"),
+        (64, "%{a: ", "2", "}"),
+        (64, "%{", "%{}", " => 1}"),
+        (32, "[a: ", "1", "]"),
+        (21, "{1, a: ", "{}", "}"),
+        (63, "[", "~w(a b)", "]"),
+        (63, "[", "[], 1", "]"),
+    ] {
+        let count = if inside == "%{}" { count - 1 } else { count };
+        let text = nested(alloc, count, opening, inside, closing)?;
+        assert!(rt; read(alloc, &text).is_ok(), "at {opening:?} {inside:?}");
+    }
+    Ok(())
+}
+
+#[test]
+fn deeper_terms_are_refused(rt: HostRuntime) -> Result<(), Fail> {
+    let alloc = rt.alloc();
+    for (count, opening, inside, closing) in [
+        (65, "[", "", "]"),
+        (65, "{", "1", "}"),
+        (65, "%{1 => ", "2", "}"),
+        (65, "%{a: ", "2", "}"),
+        (64, "%{", "%{}", " => 1}"),
+        (33, "[a: ", "1", "]"),
+        (22, "{1, a: ", "1", "}"),
+        (32, "[a: ", "[]", "]"),
+        (64, "[", "~w(a b)", "]"),
+        (64, "[", "a: 1", "]"),
+        (62, "[", "{1, a: 1}", "]"),
+        (100000, "[", "", "]"),
+    ] {
+        let text = nested(alloc, count, opening, inside, closing)?;
+        assert!(rt; is_refused(alloc, &text), "at {opening:?} {inside:?}");
+    }
+    Ok(())
+}
+
+#[test]
+fn the_longest_text_has_4_194_304_bytes(rt: HostRuntime) -> Result<(), Fail> {
+    let alloc = rt.alloc();
+    let mut text = nested(alloc, 4_194_302, " ", ":a", "")?;
+    assert!(rt; read(alloc, &text).is_ok());
+    text.push(b' ')?;
+    assert!(rt; is_refused(alloc, &text));
+    Ok(())
+}
+
+#[test]
+fn a_map_of_100_000_pairs_is_read(rt: HostRuntime) -> Result<(), Fail> {
+    let alloc = rt.alloc();
+    let mut text = Vec::from_slice(alloc, b"%{")?;
+    for key in 0..100_000 {
+        let pair = format!(in alloc; "{key} => 1,")?;
+        text.extend_from_slice(pair.as_bytes())?;
+    }
+    text.extend_from_slice(b"}")?;
+    match read(alloc, &text)? {
+        Term::Map(pairs) => assert_eq!(rt; pairs.len(), 100_000),
+        _ => assert!(rt; false),
+    }
+    Ok(())
+}
+
+#[test]
+fn a_string_of_a_million_escapes_is_read(rt: HostRuntime) -> Result<(), Fail> {
+    let alloc = rt.alloc();
+    let text = nested(alloc, 1_000_000, "\\x41", "", "")?;
+    let mut quoted = Vec::from_slice(alloc, b"\"")?;
+    quoted.extend_from_slice(&text)?;
+    quoted.push(b'"')?;
+    match read(alloc, &quoted)? {
+        Term::Str(bytes) => assert_eq!(rt; bytes.as_slice().len(), 1_000_000),
+        _ => assert!(rt; false),
+    }
     Ok(())
 }

@@ -1,21 +1,37 @@
 // The pieces that a text is made of.
 
 use crate::bracket::Bracket;
+use crate::term::Terms;
 use mx_base::{Bytes, Text};
 
 /// A token: what stands between the blanks of a text.
 #[derive(Debug, Drop)]
 pub enum Token {
-    /// `:` and a name.
+    /// `true`, `false`, `nil`; `:` and a name; `:` and a string.
     Atom(Text),
-    /// `"`, the bytes, `"`.
+    /// An integer within 128 bits.
+    Int(i128),
+    /// `"`, what stands for the bytes, `"`.
     Str(Bytes),
-    /// A keyword's key: a name, `:` and the blank byte after it.
+    /// `~w(`, words, `)`, and perhaps a modifier: the strings or atoms of the words.
+    Words(Terms),
+    /// A keyword's key: a name or a string, `:` and the blank byte after it.
     Key(Text),
     /// An opening bracket.
     Open(Bracket),
-    /// A closing bracket.
-    Close(Bracket),
+    /// A closing bracket: the one of a tuple closes a map too.
+    Close(Closing),
     /// `,`.
     Comma,
+    /// `=>`.
+    Arrow,
+}
+
+/// The closing brackets.
+#[derive(Clone, Copy, Debug, Drop)]
+pub enum Closing {
+    /// `]`.
+    Square,
+    /// `}`.
+    Curly,
 }

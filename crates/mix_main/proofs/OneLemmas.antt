@@ -3,12 +3,11 @@ use Rattle.std.proofs.Common.{◌≡◌, ℕ, List, [], ◌∷◌, Option, Some,
 use Rattle.mx_base.specs.declared.file.File.{File}
 use Rattle.mx_base.specs.Order.{bytes_at}
 use Rattle.elixir_terms.specs.declared.term.Term.{Term}
-use Rattle.elixir_terms.specs.Spells.{Spells}
 use Rattle.elixir_terms.proofs.ReadLemmas.{spells_one}
 use Rattle.compile_model.specs.declared.job.Job.{Job}
 use Rattle.mix_main.specs.declared.declaration.Declaration.{Declaration}
 use Rattle.mix_main.specs.declared.refusal.Refusal.{Refusal}
-use Rattle.mix_main.specs.Plan.{Manifest, IsManifest, project_path, manifest_path, declared_by, job_of, result_map, ArePlanned, IsPlan}
+use Rattle.mix_main.specs.Plan.{Manifest, IsReadAs, IsManifest, project_path, manifest_path, declared_by, job_of, result_map, ArePlanned, IsPlan}
 use Rattle.mix_main.specs.Plan.Manifest.{Absent, Unread, Reads}
 
 abbrev Planned : Type 0
@@ -27,11 +26,11 @@ manifest_one found Absent Unread a b = absurd (no_text found b.0 a b.1)
 manifest_one found Absent (Reads u) a b = absurd (no_text found b.0 a b.1)
 manifest_one found Unread Absent a b = absurd (no_text found a.0 b a.1)
 manifest_one found Unread Unread a b = refl
-manifest_one found Unread (Reads u) a b = absurd (a.2 u (subst (λ (text : List ℕ). Spells text u) (one_text found b.0 a.0 b.1 a.1) b.2))
+manifest_one found Unread (Reads u) a b = absurd (a.2 u (subst (λ (text : List ℕ). IsReadAs text u) (one_text found b.0 a.0 b.1 a.1) b.2))
 manifest_one found (Reads t) Absent a b = absurd (no_text found a.0 b a.1)
-manifest_one found (Reads t) Unread a b = absurd (b.2 t (subst (λ (text : List ℕ). Spells text t) (one_text found a.0 b.0 a.1 b.1) a.2))
+manifest_one found (Reads t) Unread a b = absurd (b.2 t (subst (λ (text : List ℕ). IsReadAs text t) (one_text found a.0 b.0 a.1 b.1) a.2))
 manifest_one found (Reads t) (Reads u) a b =
-    ap (λ (x : Term). Reads x) (spells_one b.0 t u (subst (λ (text : List ℕ). Spells text t) (one_text found a.0 b.0 a.1 b.1) a.2) b.2)
+    ap (λ (x : Term). Reads x) (spells_one b.0 t u (subst (λ (text : List ℕ). IsReadAs text t) (one_text found a.0 b.0 a.1 b.1) a.2).0 b.2.0)
 
 -- what is planned once the first job is known
 abbrev AfterJob : List File → List Declaration → Planned → Result Job Refusal → Type 0

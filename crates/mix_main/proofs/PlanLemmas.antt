@@ -6,7 +6,6 @@ use Rattle.std.proofs.lemmas.List.{nil_from_length, map-append}
 use Rattle.mx_base.specs.declared.file.File.{File}
 use Rattle.mx_base.specs.Order.{bytes_at}
 use Rattle.elixir_terms.specs.declared.term.Term.{Term}
-use Rattle.elixir_terms.specs.Spells.{Spells}
 use Rattle.compile_model.specs.declared.job.Job.{Job}
 use Rattle.tree_store.specs.Files.{paths_below, is_in_build}
 use Rattle.mix_main.specs.declared.declaration.Declaration.{Declaration}
@@ -14,7 +13,7 @@ use Rattle.mix_main.specs.declared.refusal.Refusal.{Refusal}
 use Rattle.mix_main.specs.declared.refusal.Refusal.TheVariants.{PathMissing}
 use Rattle.mix_main.specs.declared.plan_fault.PlanFault.{PlanFault}
 use Rattle.mix_main.specs.declared.plan_fault.PlanFault.TheVariants.{Refused, Read, OutOfMemory}
-use Rattle.mix_main.specs.Plan.{Manifest, IsManifest, project_path, manifest_path, version_by, source_at, result_map, unless_missing, job_with, ArePlanned, IsPlan, declared_by}
+use Rattle.mix_main.specs.Plan.{Manifest, IsReadAs, IsManifest, project_path, manifest_path, version_by, source_at, result_map, unless_missing, job_with, ArePlanned, IsPlan, declared_by}
 use Rattle.mix_main.specs.Plan.Manifest.{Absent, Unread, Reads}
 use Rattle.mix_main.specs.PlanFaults.{Says, IsMeant, IsJob, RefusedBy}
 use Rattle.mix_main.proofs.AmongLemmas.{manifest_among}
@@ -22,13 +21,13 @@ use Rattle.mix_main.proofs.AmongLemmas.{manifest_among}
 pub meant_absent : {X : Type 0} (found : Option (List ℕ)) (meaning : Manifest → Result X Refusal) (meant : Result X Refusal) → found ≡ None → meaning Absent ≡ meant → IsMeant found meaning meant
 meant_absent found meaning meant e is = (Absent, e, is)
 
-pub meant_unread : {X : Type 0} (found : Option (List ℕ)) (meaning : Manifest → Result X Refusal) (meant : Result X Refusal) (text slice : List ℕ) (read : Option Term) → found ≡ Some text → slice ≡ text → MatchOption read ((t : Term) → Spells slice t → ⊥) (Spells slice) → read ≡ None → meaning Unread ≡ meant → IsMeant found meaning meant
+pub meant_unread : {X : Type 0} (found : Option (List ℕ)) (meaning : Manifest → Result X Refusal) (meant : Result X Refusal) (text slice : List ℕ) (read : Option Term) → found ≡ Some text → slice ≡ text → MatchOption read ((t : Term) → IsReadAs slice t → ⊥) (IsReadAs slice) → read ≡ None → meaning Unread ≡ meant → IsMeant found meaning meant
 meant_unread found meaning meant text slice read e same matched none is =
-    (Unread, (text, e, subst (λ (bytes : List ℕ). (t : Term) → Spells bytes t → ⊥) same (subst (λ (o : Option Term). MatchOption o ((t : Term) → Spells slice t → ⊥) (Spells slice)) none matched)), is)
+    (Unread, (text, e, subst (λ (bytes : List ℕ). (t : Term) → IsReadAs bytes t → ⊥) same (subst (λ (o : Option Term). MatchOption o ((t : Term) → IsReadAs slice t → ⊥) (IsReadAs slice)) none matched)), is)
 
-pub meant_reads : {X : Type 0} (found : Option (List ℕ)) (meaning : Manifest → Result X Refusal) (meant : Result X Refusal) (text slice : List ℕ) (read : Option Term) (t : Term) → found ≡ Some text → slice ≡ text → MatchOption read ((t : Term) → Spells slice t → ⊥) (Spells slice) → read ≡ Some t → meaning (Reads t) ≡ meant → IsMeant found meaning meant
+pub meant_reads : {X : Type 0} (found : Option (List ℕ)) (meaning : Manifest → Result X Refusal) (meant : Result X Refusal) (text slice : List ℕ) (read : Option Term) (t : Term) → found ≡ Some text → slice ≡ text → MatchOption read ((t : Term) → IsReadAs slice t → ⊥) (IsReadAs slice) → read ≡ Some t → meaning (Reads t) ≡ meant → IsMeant found meaning meant
 meant_reads found meaning meant text slice read t e same matched some is =
-    (Reads t, (text, e, subst (λ (bytes : List ℕ). Spells bytes t) same (subst (λ (o : Option Term). MatchOption o ((u : Term) → Spells slice u → ⊥) (Spells slice)) some matched)), is)
+    (Reads t, (text, e, subst (λ (bytes : List ℕ). IsReadAs bytes t) same (subst (λ (o : Option Term). MatchOption o ((u : Term) → IsReadAs slice u → ⊥) (IsReadAs slice)) some matched)), is)
 
 -- what is meant by the text that was found is meant by the files
 pub meant_by_files : {X : Type 0} (told : Option (List File)) (path : List ℕ) (found : Option (List ℕ)) (meaning : Manifest → Result X Refusal) (meant : Result X PlanFault) → IfSome told (λ files. found ≡ bytes_at path files) → Says (IsMeant found meaning) meant → IfSome told (λ files. Says (IsMeant (bytes_at path files) meaning) meant)

@@ -3,12 +3,15 @@ use Rattle.std.specs.Prelude.{ℕ, Bool, true, false, not, ◌&&◌, ◌||◌, L
 use Rattle.std.specs.List.{list_any}
 use Rattle.elixir_terms.specs.declared.term.Term.{Term, out-Term}
 use Rattle.elixir_terms.specs.declared.term.Term.TheOpen.{Term-F}
-use Rattle.elixir_terms.specs.Layer.{Layer}
 use Rattle.mx_base.specs.AppName.{is_app_name}
 use Rattle.mx_base.specs.Path.{first_segment}
 use Rattle.mx_base.specs.Join.{joined}
 use Rattle.mx_base.specs.declared.path_join.PathError.{PathError}
 use Rattle.mix_main.specs.declared.declaration.Declaration.{Declaration}
+
+-- one level of a term
+abbrev pub Layer : Type 0
+Layer = Term-F Term
 
 abbrev pub atom_at : Layer → Option (List ℕ)
 atom_at (Term-F.Atom name) = Some name

@@ -5,6 +5,7 @@ use Rattle.mx_base.specs.Order.{bytes_at}
 use Rattle.mx_base.specs.Path.{child_of, path_from, first_segment}
 use Rattle.elixir_terms.specs.declared.term.Term.{Term}
 use Rattle.elixir_terms.specs.Spells.{Spells}
+use Rattle.elixir_terms.specs.Within.{Within}
 use Rattle.compile_model.specs.declared.job.Job.{Job}
 use Rattle.tree_store.specs.Files.{paths_below}
 use Rattle.mix_main.specs.declared.declaration.Declaration.{Declaration}
@@ -12,7 +13,11 @@ use Rattle.mix_main.specs.declared.refusal.Refusal.{Refusal}
 use Rattle.mix_main.specs.declared.refusal.Refusal.TheVariants.{NoProject, NotRead, Shape, PathMissing}
 use Rattle.mix_main.specs.Manifest.{root_declarations, dependency_version, is_kept_apart, differ}
 
--- what stands at the place of a manifest: no file, a text that no term spells, or the text of a term
+-- the term is read from the text: the text spells it, within the limits of texts and terms
+abbrev pub IsReadAs : List ℕ → Term → Type 0
+IsReadAs text t = Spells text t × Within text t
+
+-- what stands at the place of a manifest: no file, a text that no term is read from, or the text of a term
 pub data Manifest : Type 0 where
   Absent : Manifest
   Unread : Manifest
@@ -21,8 +26,8 @@ pub data Manifest : Type 0 where
 -- the manifest that these bytes are
 abbrev pub IsManifest : Option (List ℕ) → Manifest → Type 0
 IsManifest found Absent = found ≡ None
-IsManifest found Unread = (text : List ℕ) × (found ≡ Some text) × ((t : Term) → Spells text t → ⊥)
-IsManifest found (Reads t) = (text : List ℕ) × (found ≡ Some text) × Spells text t
+IsManifest found Unread = (text : List ℕ) × (found ≡ Some text) × ((t : Term) → IsReadAs text t → ⊥)
+IsManifest found (Reads t) = (text : List ℕ) × (found ≡ Some text) × IsReadAs text t
 
 abbrev pub project_path : List ℕ
 project_path = codes "project.exs"

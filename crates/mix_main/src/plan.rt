@@ -2,7 +2,6 @@
 ghost use Rattle.std.specs.Prelude.{◌≡◌, Ok, List, Result, All, IfOk, IfErr, IfSome, IsTrue, IsFalse, map, MatchOption};
 ghost use Rattle.std.specs.Option.{option_copied};
 ghost use Rattle.elixir_terms.specs.declared.term.Term.{Term};
-ghost use Rattle.elixir_terms.specs.Spells.{Spells};
 ghost use Rattle.mx_base.specs.declared.file.File.{File};
 ghost use Rattle.mx_base.specs.Causes.{Counted};
 ghost use Rattle.mx_base.specs.Order.{bytes_at};
@@ -10,7 +9,7 @@ ghost use Rattle.compile_model.specs.declared.job.Job.{Job};
 ghost use Rattle.tree_store.specs.Files.{is_in_build};
 ghost use Rattle.mix_main.specs.declared.refusal.Refusal.{Refusal};
 ghost use Rattle.mix_main.specs.Manifest.{apps_differ};
-ghost use Rattle.mix_main.specs.Plan.{project_path, manifest_path, declared_by, version_by, result_map, ArePlanned, IsPlan, jobs_differ};
+ghost use Rattle.mix_main.specs.Plan.{IsReadAs, project_path, manifest_path, declared_by, version_by, result_map, ArePlanned, IsPlan, jobs_differ};
 ghost use Rattle.mix_main.specs.PlanFaults.{is_read, RefusedBy, Says, IsMeant, IsJob};
 
 use crate::declaration::Declaration;
@@ -163,9 +162,9 @@ fn manifest_in(files: &[File]) -> Option<&Bytes>
     None
 }
 
-// The term that the text spells, if one does.
+// The term that is read from the text, if one is.
 fn term(alloc: Global, text: &[u8]) -> Result<Option<Term>, AllocError>
-    ensures { IfOk result (λ found. MatchOption found ((t : Term) → Spells text.now t → ⊥) (Spells text.now)) }
+    ensures { IfOk result (λ found. MatchOption found ((t : Term) → IsReadAs text.now t → ⊥) (IsReadAs text.now)) }
 {
     match read(alloc, text) {
         Ok(term) => Ok(Some(term)),

@@ -181,8 +181,13 @@ fn a_failed_dependency_and_a_warning_are_reported(rt: HostRuntime) -> Result<(),
 }
 
 // A root manifest, and the line that refuses it where the folder `b` holds one file.
-const REFUSED_ROOTS: [(&str, u8, &str); 12] = [
-    ("[app: 1]", 3, "mixc: project.exs: refused at 0: NotRead\n"),
+const REFUSED_ROOTS: [(&str, u8, &str); 13] = [
+    (
+        "[app: 1.5]",
+        3,
+        "mixc: project.exs: refused at 0: NotRead\n",
+    ),
+    ("[app: 1]", 3, "mixc: project.exs: shape\n"),
     ("[app: :demo]", 3, "mixc: project.exs: shape\n"),
     (
         "[version: \"1\", app: :demo]",

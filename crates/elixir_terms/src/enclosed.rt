@@ -1,0 +1,85 @@
+// The terms that brackets enclose.
+ghost use Rattle.std.specs.Prelude.{◌≡◌, [], ◌++◌, map, IfOk};
+ghost use Rattle.elixir_terms.specs.declared.bracket.Bracket.TheVariants as bracket;
+ghost use Rattle.elixir_terms.specs.Grammar.{enclosed, pair_tuple};
+ghost use Rattle.elixir_terms.specs.Machine.{KeysDiffer};
+ghost use Rattle.elixir_terms.specs.Limits.{GivesWhere};
+ghost use Rattle.elixir_terms.specs.Refused.{Gives};
+
+use crate::error::{NOT_READ, TermError};
+use crate::keys::repeats_key;
+use crate::term::{Pairs, Term, Terms};
+use sqlite_items::Items;
+use std::alloc::{AllocError, Global};
+
+/// A list of elements and then keywords. It takes no entries.
+pub fn list(
+    alloc: Global,
+    mut items: Terms,
+    entries: &Pairs,
+    keywords: Pairs,
+) -> Result<Term, TermError>
+    ensures { Gives result (enclosed bracket.List items entries.now keywords) }
+{
+    if !entries.as_slice().is_empty() {
+        return Err(NOT_READ);
+    }
+    items.append(tuples(alloc, keywords)?)?;
+    Ok(Term::List(items))
+}
+
+/// A tuple of elements. Keywords are its last element. It takes no entries, and no keywords alone.
+pub fn tuple(
+    alloc: Global,
+    mut items: Terms,
+    entries: &Pairs,
+    keywords: Pairs,
+) -> Result<Term, TermError>
+    ensures { Gives result (enclosed bracket.Tuple items entries.now keywords) }
+{
+    if !entries.as_slice().is_empty() {
+        return Err(NOT_READ);
+    }
+    if keywords.as_slice().is_empty() {
+        return Ok(Term::Tuple(items));
+    }
+    if items.as_slice().is_empty() {
+        return Err(NOT_READ);
+    }
+    items.push(Term::List(tuples(alloc, keywords)?))?;
+    Ok(Term::Tuple(items))
+}
+
+/// A map of entries and then keywords, whose keys differ. It takes no elements.
+pub fn mapping(
+    alloc: Global,
+    items: &Terms,
+    mut entries: Pairs,
+    keywords: Pairs,
+) -> Result<Term, TermError>
+    ensures { GivesWhere (KeysDiffer bracket.Map entries keywords) result (enclosed bracket.Map items.now entries keywords) }
+{
+    if !items.as_slice().is_empty() {
+        return Err(NOT_READ);
+    }
+    entries.append(keywords)?;
+    if repeats_key(alloc, &entries)? {
+        return Err(NOT_READ);
+    }
+    Ok(Term::Map(entries))
+}
+
+/// The pairs as elements of a list: tuples of two.
+fn tuples(alloc: Global, mut pairs: Pairs) -> Result<Terms, AllocError>
+    ensures { IfOk result (λ terms. terms ≡ map pair_tuple pairs) }
+{
+    let mut terms = Vec::new(alloc);
+    while let Some((key, value)) = pairs.pop() {
+        let mut both = Items::new(alloc);
+        both.push(key)?;
+        both.push(value)?;
+        terms.push(Term::Tuple(both))?;
+    }
+    terms.reverse();
+    Ok(Items::from_vec(terms))
+}

@@ -1,0 +1,78 @@
+// Where terms are wanted, from the innermost open bracket out.
+ghost use Rattle.std.specs.Prelude.{◌≡◌, [], ◌∷◌, Some, IsTrue, ◌↔◌, MatchOption};
+ghost use Rattle.elixir_terms.specs.Levels.{Enters, HasRoom};
+ghost use Rattle.elixir_terms.specs.Limits.{GivesWhere};
+
+use crate::error::{NOT_READ, TermError};
+use crate::frame::Hole;
+use crate::stack::Stack;
+use std::alloc::Global;
+use std::marker::Model;
+
+/// The deepest term that is read, in levels of lists, tuples and maps.
+const DEEPEST: u8 = 64;
+
+/// The holes in the open brackets, the innermost first, which are at most 64 levels deep.
+#[derive(Debug, Drop)]
+pub struct Holes {
+    open: Stack<Hole>,
+    depth: u8,
+}
+
+impl Model for Holes {
+    ghost use Rattle.std.specs.Prelude.{◌≡◌, ◌≤◌, List};
+    ghost use Rattle.elixir_terms.specs.declared.frame.Hole.{Hole};
+    ghost use Rattle.elixir_terms.specs.Levels.{levels};
+    ghost use Rattle.elixir_terms.specs.Within.{deepest};
+    ghost use Rattle.elixir_terms.specs.contracts.term.Term as term;
+    ghost use Rattle.std.specs.Coded.{codes};
+
+    ghost Value = { List Hole };
+
+    ghost coded = { Prim.hlevel (codes, term.the_row.coded) };
+
+    ghost view = { λ holes. holes.open };
+
+    ghost invariant = { λ holes. (holes.depth ≡ levels holes.open) × (holes.depth ≤ deepest) };
+}
+
+impl Holes {
+    /// No bracket is open.
+    pub fn new(alloc: Global) -> Holes
+        ensures { result ≡ [] }
+    {
+        Holes {
+            open: Stack::new(alloc),
+            depth: 0,
+        }
+    }
+
+    /// Whether a list, a tuple or a map may stand in the innermost hole.
+    pub fn has_room(&self) -> bool
+        ensures { IsTrue result ↔ HasRoom self.now }
+    {
+        self.depth < DEEPEST
+    }
+
+    /// One more hole, inside of the others, where its levels allow it.
+    pub fn entered(self, hole: Hole) -> Result<Holes, TermError>
+        ensures { GivesWhere (Enters hole self) result (Some (hole ∷ self)) }
+    {
+        let Holes { mut open, depth } = self;
+        let depth = hole.cost() + depth;
+        if depth > DEEPEST {
+            return Err(NOT_READ);
+        }
+        open.push(hole)?;
+        Ok(Holes { open, depth })
+    }
+
+    /// Takes the innermost hole.
+    pub fn pop(&mut self) -> Option<Hole>
+        ensures { MatchOption result ((self.old ≡ []) × (self.new ≡ [])) (λ hole. self.old ≡ hole ∷ self.new) }
+    {
+        let hole = self.open.pop()?;
+        self.depth -= hole.cost();
+        Some(hole)
+    }
+}

@@ -1,0 +1,141 @@
+// Whether a map repeats a key.
+ghost use Rattle.std.specs.Prelude.{◌≡◌, [], ◌∷◌, ◌++◌, ◌↔◌, map, IfOk, OnOk, IsFalse};
+ghost use Rattle.std.specs.Int.Digits.{digits_of};
+ghost use Rattle.elixir_terms.specs.KeyCode.{term_code, integer_code, bytes_code, parts_code, pairs_code, pair_codes, marked};
+ghost use Rattle.elixir_terms.specs.Within.{Differ};
+
+use crate::term::{Pairs, Term};
+use mx_base::Bytes;
+use std::alloc::{AllocError, Global};
+use std::collections::BTreeSet;
+
+// What a code begins with.
+const ATOM: u8 = 0;
+
+const INT: u8 = 1;
+
+const STR: u8 = 2;
+
+const LIST: u8 = 3;
+
+const TUPLE: u8 = 4;
+
+const MAP: u8 = 5;
+
+// What stands before a byte or a part in a code, and what stands after the last.
+const MORE: u8 = 1;
+
+const END: u8 = 0;
+
+/// Whether two of the keys are equal.
+///
+/// # Errors
+///
+/// `AllocError` where there is not enough memory.
+pub fn repeats_key(alloc: Global, pairs: &Pairs) -> Result<bool, AllocError>
+    ensures { IfOk result (λ repeats. IsFalse repeats ↔ Differ (map (λ p. p.0) pairs.now)) }
+{
+    let mut codes = BTreeSet::new(alloc);
+    for (key, _) in pairs.as_slice() {
+        let mut code = Vec::new(alloc);
+        push_term(&mut code, key)?;
+        if !codes.insert(Bytes::from_vec(code))? {
+            return Ok(true);
+        }
+    }
+    Ok(false)
+}
+
+// Adds the code of a term: what kind it is, and what is in it.
+#[cycle(push_term)]
+fn push_term(code: &mut Vec<u8>, term: &Term) -> Result<(), AllocError>
+    ensures { OnOk result (code.new.items ≡ code.old.items ++ term_code term.now) }
+{
+    match term {
+        Term::Atom(name) => {
+            code.push(ATOM)?;
+            push_bytes(code, name.as_slice())
+        }
+        Term::Int(n) => {
+            code.push(INT)?;
+            push_integer(code, *n)
+        }
+        Term::Str(bytes) => {
+            code.push(STR)?;
+            push_bytes(code, bytes.as_slice())
+        }
+        Term::List(parts) => {
+            code.push(LIST)?;
+            push_parts(code, parts.as_slice())
+        }
+        Term::Tuple(parts) => {
+            code.push(TUPLE)?;
+            push_parts(code, parts.as_slice())
+        }
+        Term::Map(pairs) => {
+            code.push(MAP)?;
+            push_pairs(code, pairs.as_slice())
+        }
+    }
+}
+
+// Adds the codes of terms.
+#[cycle(push_term)]
+fn push_parts(code: &mut Vec<u8>, parts: &[Term]) -> Result<(), AllocError>
+    ensures { OnOk result (code.new.items ≡ code.old.items ++ parts_code (map term_code parts.now)) }
+{
+    for part in parts {
+        code.push(MORE)?;
+        push_term(code, part)?;
+    }
+    code.push(END)?;
+    Ok(())
+}
+
+// Adds the codes of keys and their values.
+#[cycle(push_term)]
+fn push_pairs(code: &mut Vec<u8>, pairs: &[(Term, Term)]) -> Result<(), AllocError>
+    ensures { OnOk result (code.new.items ≡ code.old.items ++ pairs_code (map pair_codes pairs.now)) }
+{
+    for (key, value) in pairs {
+        code.push(MORE)?;
+        push_term(code, key)?;
+        push_term(code, value)?;
+    }
+    code.push(END)?;
+    Ok(())
+}
+
+// Adds the code of an integer.
+fn push_integer(code: &mut Vec<u8>, n: i128) -> Result<(), AllocError>
+    ensures { OnOk result (code.new.items ≡ code.old.items ++ integer_code n) }
+{
+    code.push(u8::from(n < 0))?;
+    push_digits(code, n.unsigned_abs())?;
+    code.push(END)?;
+    Ok(())
+}
+
+// Adds the digits of a number to the base 256, the first one first.
+fn push_digits(code: &mut Vec<u8>, n: u128) -> Result<(), AllocError>
+    ensures { OnOk result (code.new.items ≡ code.old.items ++ marked (digits_of 256 n)) }
+{
+    if n > 0 {
+        push_digits(code, n / 256)?;
+        code.push(MORE)?;
+        code.push((n % 256) as u8)?;
+    }
+    Ok(())
+}
+
+// Adds the code of bytes.
+fn push_bytes(code: &mut Vec<u8>, bytes: &[u8]) -> Result<(), AllocError>
+    ensures { OnOk result (code.new.items ≡ code.old.items ++ bytes_code bytes.now) }
+{
+    for byte in bytes {
+        code.push(MORE)?;
+        code.push(*byte)?;
+    }
+    code.push(END)?;
+    Ok(())
+}

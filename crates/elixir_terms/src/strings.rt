@@ -1,0 +1,201 @@
+// Strings between quotes, and their escapes.
+ghost use Rattle.std.specs.Prelude.{◌≡◌, ◌+◌, ◌++◌, ◌<◌, ◌≤◌, IsTrue, IfSome, OnOk, length, option_map};
+ghost use Rattle.std.specs.Str.Parse.{digits_value};
+ghost use Rattle.elixir_terms.specs.Lexing.{LexesBy, escape_at, byte_escape_at, scalar_of, scalar_only, spelled, hex_len, after_quote, after_escape, next_at, quoted_at, quoted_atom_at, string_at, utf8_only};
+ghost use Rattle.elixir_terms.specs.Refused.{GivesBy};
+ghost use Rattle.elixir_terms.specs.Strings.{are_hex, letter_escape};
+
+use crate::bytes::{is_digit, opens_interpolation};
+use crate::error::{NOT_READ, TermError};
+use crate::names::after_colon;
+use crate::token::Token;
+use mx_base::{Bytes, Text};
+use std::alloc::{AllocError, Global};
+
+/// What an escape spells.
+#[derive(Clone, Copy)]
+enum Spelled {
+    Byte(u8),
+    Scalar(char),
+}
+
+/// A quoted atom, after its colon and opening quote.
+pub fn quoted_atom(alloc: Global, text: &[u8]) -> Result<(Token, &[u8]), TermError>
+    ensures { LexesBy (λ found. (found.0, found.1.now)) result (quoted_atom_at text.now) }
+{
+    let (bytes, rest) = quoted(alloc, text)?;
+    Ok((Token::Atom(utf8_text(bytes)?), rest))
+}
+
+/// A string or a keyword's quoted key, after its opening quote.
+pub fn string(alloc: Global, text: &[u8]) -> Result<(Token, &[u8]), TermError>
+    ensures { LexesBy (λ found. (found.0, found.1.now)) result (string_at text.now) }
+{
+    let (bytes, rest) = quoted(alloc, text)?;
+    match after_colon(rest) {
+        Some(after) => Ok((Token::Key(utf8_text(bytes)?), after)),
+        None => Ok((Token::Str(bytes), rest)),
+    }
+}
+
+/// The bytes as a text, where they are UTF-8.
+#[tactic(auto, using(crate::proofs::StringLemmas::utf8_kept, crate::proofs::StringLemmas::utf8_refused))]
+fn utf8_text(bytes: Bytes) -> Result<Text, TermError>
+    ensures { GivesBy (λ text. text) result (utf8_only bytes) }
+{
+    match str::from_utf8(bytes.as_slice()) {
+        Ok(_) => Ok(Text::from_vec(bytes.into_vec())),
+        Err(_) => Err(NOT_READ),
+    }
+}
+
+/// The bytes that a string spells, after its opening quote, and the text after its closing quote.
+#[tactic(auto, using(crate::proofs::StringLemmas::quoted_more, crate::proofs::StringLemmas::quoted_stop))]
+fn quoted(alloc: Global, text: &[u8]) -> Result<(Bytes, &[u8]), TermError>
+    ensures { GivesBy (λ found. (found.0, found.1.now)) result (quoted_at text.now) }
+{
+    let mut bytes = Vec::new(alloc);
+    let mut rest = text;
+    while let Some((value, after)) = next(rest) {
+        push(&mut bytes, value)?;
+        rest = after;
+    }
+    match after_quote(rest) {
+        Some(after) => Ok((Bytes::from_vec(bytes), after)),
+        None => Err(NOT_READ),
+    }
+}
+
+/// The text after the closing quote that it begins with.
+fn after_quote(text: &[u8]) -> Option<&[u8]>
+    ensures { option_map (λ rest. rest.now) result ≡ after_quote text.now }
+{
+    match text {
+        [b'"', rest @ ..] => Some(rest),
+        _ => None,
+    }
+}
+
+/// What the first byte or escape of a string's inside spells, and the text after it.
+fn next(text: &[u8]) -> Option<(Spelled, &[u8])>
+    ensures value { option_map (λ found. (spelled found.0, found.1.now)) result ≡ next_at text.now }
+    ensures shorter { IfSome result (λ found. length found.1.now < length text.now) }
+{
+    match text {
+        [] | [b'"', ..] => None,
+        [b'\\', word @ ..] => after_escape(word),
+        [byte, after @ ..] if opens_interpolation(*byte, after) => None,
+        [byte, after @ ..] => Some((Spelled::Byte(*byte), after)),
+    }
+}
+
+/// What the escape after a backslash spells, and the text after it.
+fn after_escape(text: &[u8]) -> Option<(Spelled, &[u8])>
+    ensures value { option_map (λ found. (spelled found.0, found.1.now)) result ≡ after_escape (escape_at text.now) text.now }
+    ensures shorter { IfSome result (λ found. length found.1.now ≤ length text.now) }
+{
+    let (value, len) = escape(text)?;
+    Some((value, text.split_at(len).1))
+}
+
+fn push(bytes: &mut Vec<u8>, value: Spelled) -> Result<(), AllocError>
+    ensures { OnOk result (bytes.new.items ≡ bytes.old.items ++ spelled value) }
+{
+    match value {
+        Spelled::Byte(byte) => Ok(bytes.push(byte)?),
+        Spelled::Scalar(scalar) => {
+            bytes.extend_from_slice(scalar.encode_utf8(&mut [0; 4]).as_bytes())
+        }
+    }
+}
+
+/// What the escape after a backslash spells, and how many bytes it has.
+fn escape(text: &[u8]) -> Option<(Spelled, usize)>
+    ensures value { option_map (λ found. (spelled found.0, found.1)) result ≡ escape_at text.now }
+    ensures within { IfSome result (λ found. found.1 ≤ length text.now) }
+{
+    match text {
+        [b'x', digits @ ..] => byte_escape(digits),
+        [b'u', b'{', digits @ ..] => scalar_escape(digits),
+        [letter, ..] => Some((Spelled::Byte(letter_escape(*letter)?), 1)),
+        [] => None,
+    }
+}
+
+/// The byte that a letter after a backslash stands for.
+fn letter_escape(letter: u8) -> Option<u8>
+    ensures { result ≡ letter_escape letter }
+{
+    match letter {
+        b'n' => Some(b'\n'),
+        b'r' => Some(b'\r'),
+        b't' => Some(b'\t'),
+        b's' => Some(b' '),
+        b'0' => Some(0),
+        b'e' => Some(0x1B),
+        b'"' | b'\\' | b'#' => Some(letter),
+        _ => None,
+    }
+}
+
+/// The byte of two hexadecimal digits after `x`.
+fn byte_escape(text: &[u8]) -> Option<(Spelled, usize)>
+    ensures value { option_map (λ found. (spelled found.0, found.1)) result ≡ byte_escape_at text.now }
+    ensures within { IfSome result (λ found. found.1 ≤ 1 + length text.now) }
+{
+    match text {
+        [high, low, ..] => {
+            let high = char::from(*high).to_digit(16)?;
+            let low = char::from(*low).to_digit(16)?;
+            Some((Spelled::Byte((high * 16 + low) as u8), 3))
+        }
+        _ => None,
+    }
+}
+
+/// The scalar value of one to six hexadecimal digits before `}`, after `u{`.
+#[tactic(auto, using(crate::proofs::StringLemmas::hex_digits))]
+fn scalar_escape(text: &[u8]) -> Option<(Spelled, usize)>
+    ensures value { option_map (λ found. (spelled found.0, found.1)) result ≡ scalar_of (hex_len text.now) text.now }
+    ensures within { IfSome result (λ found. found.1 ≤ 2 + length text.now) }
+{
+    let len = hex_len(text);
+    if len == 0 || 6 < len {
+        return None;
+    }
+    let (digits, rest) = text.split_at(len);
+    match rest {
+        [b'}', ..] => Some((Spelled::Scalar(scalar(digits)?), len + 3)),
+        _ => None,
+    }
+}
+
+/// The scalar value that the digits write.
+#[tactic(auto, using(crate::proofs::NumberLemmas::hex_utf8))]
+fn scalar(digits: &[u8]) -> Option<char>
+    requires hex { IsTrue (are_hex digits.now) }
+    requires some { 0 < length digits.now }
+    ensures { result ≡ scalar_only (digits_value 16 digits.now) }
+{
+    let value = match str::from_utf8(digits) {
+        Ok(text) => u32::from_str_radix(text, 16),
+        Err(_) => unreachable!(),
+    };
+    match value {
+        Ok(value) => char::from_u32(value),
+        Err(_) => None,
+    }
+}
+
+/// How many hexadecimal digits stand at the front.
+fn hex_len(text: &[u8]) -> usize
+    ensures value { result ≡ hex_len text.now }
+    ensures within { result ≤ length text.now }
+{
+    for (len, byte) in text.iter().enumerate() {
+        if !is_digit(*byte, 16) {
+            return len;
+        }
+    }
+    text.len()
+}

@@ -1,0 +1,103 @@
+// Lists of words, as `~w(dev test)a`.
+ghost use Rattle.std.specs.Prelude.{◌≡◌, ◌++◌, ◌≤◌, IfOk, OnOk, length, map, option_map, []};
+ghost use Rattle.elixir_terms.specs.Lexing.{LexesBy, words_at, words_in, inside_len, kind_of, word_term, words_from, flushed};
+
+use crate::bytes::{is_blank, opens_interpolation};
+use crate::error::{NOT_READ, TermError};
+use crate::term::{Term, Terms};
+use crate::token::Token;
+use mx_base::{Bytes, Text};
+use std::alloc::{AllocError, Global};
+
+/// What the words of a list are.
+#[derive(Clone, Copy)]
+enum WordKind {
+    Strings,
+    Atoms,
+}
+
+/// A list of words, after its `~`.
+pub fn words(alloc: Global, text: &[u8]) -> Result<(Token, &[u8]), TermError>
+    ensures { LexesBy (λ found. (found.0, found.1.now)) result (words_at text.now) }
+{
+    match text {
+        [b'w', b'(', inside @ ..] => words_in(alloc, inside),
+        _ => Err(NOT_READ),
+    }
+}
+
+/// A list of words, after its opening parenthesis.
+fn words_in(alloc: Global, text: &[u8]) -> Result<(Token, &[u8]), TermError>
+    ensures { LexesBy (λ found. (found.0, found.1.now)) result (words_in text.now) }
+{
+    let (inside, rest) = text.split_at(inside_len(text));
+    match rest {
+        [b')', after @ ..] => {
+            let (kind, rest) = kind_of(after);
+            Ok((Token::Words(cut(alloc, kind, inside)?), rest))
+        }
+        _ => Err(NOT_READ),
+    }
+}
+
+/// How many bytes at the front may stand between the parentheses.
+fn inside_len(text: &[u8]) -> usize
+    ensures value { result ≡ inside_len text.now }
+    ensures within { result ≤ length text.now }
+{
+    let mut len = 0;
+    let mut rest = text;
+    while let [byte, after @ ..] = rest {
+        if *byte == b')' || *byte == b'\\' || opens_interpolation(*byte, after) {
+            break;
+        }
+        len += 1;
+        rest = after;
+    }
+    len
+}
+
+/// What the modifier at the front says of the words, and the text after it.
+fn kind_of(text: &[u8]) -> (WordKind, &[u8])
+    ensures { (result.0, result.1.now) ≡ kind_of text.now }
+{
+    match text {
+        [b's', rest @ ..] => (WordKind::Strings, rest),
+        [b'a', rest @ ..] => (WordKind::Atoms, rest),
+        _ => (WordKind::Strings, text),
+    }
+}
+
+/// The text, cut into words at runs of blanks.
+fn cut(alloc: Global, kind: WordKind, text: &[u8]) -> Result<Terms, AllocError>
+    ensures { IfOk result (λ terms. terms ≡ map (word_term kind) (words_from [] text.now)) }
+{
+    let mut terms = Terms::new(alloc);
+    let mut start = 0;
+    for end in 0..text.len() {
+        if is_blank(text[end]) {
+            push_word(alloc, kind, &text[start..end], &mut terms)?;
+            start = end + 1;
+        }
+    }
+    push_word(alloc, kind, &text[start..], &mut terms)?;
+    Ok(terms)
+}
+
+/// Adds a word, unless it is empty.
+fn push_word(
+    alloc: Global,
+    kind: WordKind,
+    word: &[u8],
+    terms: &mut Terms,
+) -> Result<(), AllocError>
+    ensures { OnOk result (terms.new ≡ terms.old ++ map (word_term kind) (flushed word.now [])) }
+{
+    if word.is_empty() {
+        return Ok(());
+    }
+    terms.push(match kind {
+        WordKind::Strings => Term::Str(Bytes::from_slice(alloc, word)?),
+        WordKind::Atoms => Term::Atom(Text::from_slice(alloc, word)?),
+    })
+}
