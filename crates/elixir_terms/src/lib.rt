@@ -37,6 +37,8 @@ pub use reading::{one_reading, read};
 pub use term::{Pairs, Term, Terms};
 
 #[cfg(test)]
+mod keys_tests;
+#[cfg(test)]
 mod lexer_tests;
 #[cfg(test)]
 mod print_tests;

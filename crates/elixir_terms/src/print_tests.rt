@@ -1,6 +1,6 @@
 // Terms and their texts.
 
-use crate::{Term, print};
+use crate::{Pairs, Term, print};
 use mx_base::{Bytes, Text};
 use sqlite_items::Items;
 use std::alloc::{AllocError, Global};
@@ -14,16 +14,39 @@ fn string(alloc: Global, bytes: &[u8]) -> Result<Term, AllocError> {
     Ok(Term::Str(Bytes::from_slice(alloc, bytes)?))
 }
 
-fn list(parts: Vec<Term>) -> Term {
-    Term::List(Items::from_vec(parts))
+fn one(alloc: Global, part: Term) -> Result<Items<Term>, AllocError> {
+    let mut parts = Items::new(alloc);
+    parts.push(part)?;
+    Ok(parts)
 }
 
-fn tuple(parts: Vec<Term>) -> Term {
-    Term::Tuple(Items::from_vec(parts))
+fn two(alloc: Global, first: Term, second: Term) -> Result<Items<Term>, AllocError> {
+    let mut parts = one(alloc, first)?;
+    parts.push(second)?;
+    Ok(parts)
 }
 
-fn map(pairs: Vec<(Term, Term)>) -> Term {
-    Term::Map(Items::from_vec(pairs))
+fn list(alloc: Global, first: Term, second: Term) -> Result<Term, AllocError> {
+    Ok(Term::List(two(alloc, first, second)?))
+}
+
+fn tuple(alloc: Global, first: Term, second: Term) -> Result<Term, AllocError> {
+    Ok(Term::Tuple(two(alloc, first, second)?))
+}
+
+// The atom of the key, and the integer.
+fn keyword(alloc: Global, key: &[u8], n: i128) -> Result<Term, AllocError> {
+    tuple(alloc, atom(alloc, key)?, Term::Int(n))
+}
+
+fn map(alloc: Global, key: Term, value: Term) -> Result<Pairs, AllocError> {
+    let mut pairs = Items::new(alloc);
+    pairs.push((key, value))?;
+    Ok(pairs)
+}
+
+fn prints(alloc: Global, term: &Term, want: &str) -> Result<bool, AllocError> {
+    Ok(print(alloc, term)?.as_slice() == want.as_bytes())
 }
 
 #[test]
@@ -94,94 +117,95 @@ fn integers_are_printed(rt: HostRuntime) -> Result<(), Fail> {
 }
 
 #[test]
-fn lists_and_tuples_are_printed(rt: HostRuntime) -> Result<(), Fail> {
+fn lists_are_printed(rt: HostRuntime) -> Result<(), Fail> {
     let alloc = rt.alloc();
-    let rows = [
-        (list(Vec::new(alloc)), "[]"),
-        (tuple(Vec::new(alloc)), "{}"),
-        (list(vec![in alloc; Term::Int(1)]?), "[1]"),
-        (
-            list(vec![in alloc; Term::Int(1), atom(alloc, b"a")?, string(alloc, b"b")?]?),
-            "[1, :a, \"b\"]",
-        ),
-        (tuple(vec![in alloc; atom(alloc, b"a")?]?), "{:a}"),
-        (
-            tuple(vec![in alloc; atom(alloc, b"a")?, Term::Int(1)]?),
-            "{:a, 1}",
-        ),
-        (list(vec![in alloc; tuple(Vec::new(alloc))]?), "[{}]"),
-        (
-            list(vec![in alloc; tuple(vec![in alloc; Term::Int(1), atom(alloc, b"a")?]?)]?),
-            "[{1, :a}]",
-        ),
-    ];
-    for (term, want) in &rows {
-        let text = print(alloc, term)?;
-        assert_eq!(rt; text.as_slice(), want.as_bytes(), "at {want}");
-    }
+    assert!(rt; prints(alloc, &Term::List(Items::new(alloc)), "[]")?);
+    assert!(rt; prints(alloc, &Term::List(one(alloc, Term::Int(1))?), "[1]")?);
+    assert!(rt;
+        prints(
+            alloc,
+            &list(alloc, atom(alloc, b"a")?, string(alloc, b"b")?)?,
+            "[:a, \"b\"]"
+        )?
+    );
+    assert!(rt;
+        prints(
+            alloc,
+            &list(
+                alloc,
+                Term::List(Items::new(alloc)),
+                Term::Map(Items::new(alloc))
+            )?,
+            "[[], %{}]"
+        )?
+    );
+    Ok(())
+}
+
+#[test]
+fn tuples_are_printed(rt: HostRuntime) -> Result<(), Fail> {
+    let alloc = rt.alloc();
+    assert!(rt; prints(alloc, &Term::Tuple(Items::new(alloc)), "{}")?);
+    assert!(rt; prints(alloc, &Term::Tuple(one(alloc, atom(alloc, b"a")?)?), "{:a}")?);
+    assert!(rt; prints(alloc, &keyword(alloc, b"a", 1)?, "{:a, 1}")?);
     Ok(())
 }
 
 #[test]
 fn keywords_are_printed(rt: HostRuntime) -> Result<(), Fail> {
     let alloc = rt.alloc();
-    let one = tuple(vec![in alloc; atom(alloc, b"a")?, Term::Int(1)]?);
-    let two = tuple(vec![in alloc; atom(alloc, b"b c")?, Term::Int(2)]?);
-    let three = tuple(vec![in alloc; atom(alloc, b"nil")?, atom(alloc, b"nil")?]?);
-    let inner = tuple(vec![in alloc; atom(alloc, b"d")?, list(vec![in alloc; one, two]?)]?);
-    let text = print(alloc, &list(vec![in alloc; three, inner]?))?;
-    assert_eq!(rt;
-        text.as_slice(),
-        b"[nil: nil, d: [a: 1, \"b c\": 2]]".as_slice()
-    );
+    let inner = list(alloc, keyword(alloc, b"a", 1)?, keyword(alloc, b"b c", 2)?)?;
+    assert!(rt; prints(alloc, &inner, "[a: 1, \"b c\": 2]")?);
+    let outer = Term::List(one(alloc, tuple(alloc, atom(alloc, b"nil")?, inner)?)?);
+    assert!(rt; prints(alloc, &outer, "[nil: [a: 1, \"b c\": 2]]")?);
     Ok(())
 }
 
 #[test]
 fn a_list_of_which_not_all_parts_are_keywords_has_none(rt: HostRuntime) -> Result<(), Fail> {
     let alloc = rt.alloc();
-    let one = tuple(vec![in alloc; atom(alloc, b"a")?, Term::Int(1)]?);
-    let three = tuple(vec![in alloc; atom(alloc, b"a")?, Term::Int(1), Term::Int(2)]?);
-    let text = print(alloc, &list(vec![in alloc; one, three]?))?;
-    assert_eq!(rt; text.as_slice(), b"[{:a, 1}, {:a, 1, 2}]".as_slice());
+    let pair = tuple(alloc, Term::Int(1), atom(alloc, b"a")?)?;
+    assert!(rt;
+        prints(
+            alloc,
+            &list(alloc, keyword(alloc, b"a", 1)?, pair)?,
+            "[{:a, 1}, {1, :a}]"
+        )?
+    );
+    let single = Term::Tuple(one(alloc, atom(alloc, b"a")?)?);
+    assert!(rt;
+        prints(
+            alloc,
+            &list(alloc, keyword(alloc, b"a", 1)?, single)?,
+            "[{:a, 1}, {:a}]"
+        )?
+    );
     Ok(())
 }
 
 #[test]
 fn maps_are_printed(rt: HostRuntime) -> Result<(), Fail> {
     let alloc = rt.alloc();
-    let rows = [
-        (map(Vec::new(alloc)), "%{}"),
-        (
-            map(vec![in alloc; (atom(alloc, b"a")?, Term::Int(1))]?),
-            "%{a: 1}",
-        ),
-        (
-            map(vec![in alloc;
-                (atom(alloc, b"a b")?, Term::Int(1)),
-                (atom(alloc, b"true")?, Term::Int(2)),
-            ]?),
-            "%{\"a b\": 1, true: 2}",
-        ),
-        (
-            map(vec![in alloc; (string(alloc, b"a")?, Term::Int(1))]?),
-            "%{\"a\" => 1}",
-        ),
-        (
-            map(vec![in alloc;
-                (atom(alloc, b"a")?, Term::Int(1)),
-                (Term::Int(2), atom(alloc, b"b")?),
-            ]?),
-            "%{:a => 1, 2 => :b}",
-        ),
-        (
-            map(vec![in alloc; (list(Vec::new(alloc)), map(Vec::new(alloc)))]?),
-            "%{[] => %{}}",
-        ),
-    ];
-    for (term, want) in &rows {
-        let text = print(alloc, term)?;
-        assert_eq!(rt; text.as_slice(), want.as_bytes(), "at {want}");
-    }
+    assert!(rt; prints(alloc, &Term::Map(Items::new(alloc)), "%{}")?);
+    let mut pairs = map(alloc, atom(alloc, b"a b")?, Term::Int(1))?;
+    assert!(rt;
+        prints(
+            alloc,
+            &Term::Map(map(alloc, atom(alloc, b"a")?, Term::Int(1))?),
+            "%{a: 1}"
+        )?
+    );
+    assert!(rt;
+        prints(
+            alloc,
+            &Term::Map(map(alloc, string(alloc, b"a")?, Term::Int(1))?),
+            "%{\"a\" => 1}"
+        )?
+    );
+    pairs.push((atom(alloc, b"true")?, Term::Int(2)))?;
+    assert!(rt; prints(alloc, &Term::Map(pairs), "%{\"a b\": 1, true: 2}")?);
+    let mut mixed = map(alloc, atom(alloc, b"a")?, Term::Int(1))?;
+    mixed.push((Term::Int(2), atom(alloc, b"b")?))?;
+    assert!(rt; prints(alloc, &Term::Map(mixed), "%{:a => 1, 2 => :b}")?);
     Ok(())
 }

@@ -57,9 +57,16 @@ fn texts_are_read(rt: HostRuntime) -> Result<(), Fail> {
         ),
         ("{-0x1F, 1_000, 0b11, 0o17}", "{-31, 1000, 3, 15}"),
         ("[true, nil, false: true]", "[true, nil, {false, true}]"),
+        (
+            "{:a, \"~> 1.0\", only: :test}",
+            "{:a, \"~> 1.0\", [only: :test]}",
+        ),
+        ("%{\"k\": 1}", "%{k: 1}"),
     ] {
         let out = printed(alloc, text.as_bytes())?;
         assert_eq!(rt; out.as_slice(), want.as_bytes(), "at {text:?}");
+        let again = printed(alloc, out.as_slice())?;
+        assert_eq!(rt; again.as_slice(), want.as_bytes(), "at {text:?}");
     }
     Ok(())
 }
@@ -97,6 +104,9 @@ fn other_texts_are_refused(rt: HostRuntime) -> Result<(), Fail> {
         "%{a: 1, a: 1}",
         "%{[1] => 1, [0x1] => 2}",
         "[a:]",
+        "[a]",
+        "[1,",
+        "1.5",
         "[a: , 1]",
         "a: 1",
         "=>",

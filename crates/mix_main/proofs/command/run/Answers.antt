@@ -1,6 +1,6 @@
-use Rattle.std.proofs.Common.{map, string_bytes, inr, refl, sym}
+use Rattle.std.proofs.Common.{ℕ, List, IfSome, map, string_bytes, inr, refl, sym, subst}
 use Rattle.mix_main.specs.declared.status.Status.TheVariants.{OutOfMemory, Built}
-use Rattle.mix_main.specs.Ends.{dev}
+use Rattle.mix_main.specs.Ends.{MayStand, dev}
 use Rattle.mix_main.specs.Status.{status_of}
 use Rattle.mix_main.specs.Texts.{memory_line}
 use Rattle.mix_main.proofs.EndLemmas.{says_cut, if_some_all, memory_ends, command_is_good}
@@ -11,6 +11,11 @@ use Rattle.mix_main.proofs.command.run.Goals as goal
 pub returns-in-Some-clause-stands : goal.returns-in-Some-clause-stands
 returns-in-Some-clause-stands g c =
     part_stands g.C.Meaning.compile_of dev (g.S.Store.sources c.args.store.now) (g.S.Store.slot c.args.store.now) (g.S.Store.slot c.args.store.now) (each_part_itself (g.S.Store.slot c.args.store.now))
+
+pub returns-in-Ok-clause-stands : goal.returns-in-Ok-clause-stands
+returns-in-Ok-clause-stands g c =
+    subst (λ (env : List ℕ). IfSome (g.S.Store.sources c.args.store.now) (λ files. MayStand g.C.Meaning.compile_of env files (g.S.Store.slot c.args.store.now) (g.S.Store.slot c.plain_compile.new.store)))
+    c.in-Ok.ensures.ok c.plain_compile.ensures.stands
 
 pub returns-in-Ok-clause-cut : goal.returns-in-Ok-clause-cut
 returns-in-Ok-clause-cut g c =
