@@ -1,0 +1,12 @@
+pub mod VarintLemmas
+pub mod WireLemmas
+pub mod FieldsLemmas
+pub mod PartLemmas
+pub mod FinishLemmas
+pub mod OneReading
+pub mod WriteLemmas
+pub mod Apart
+pub mod OnePackage
+pub mod WrittenReads
+pub mod OneSpelling
+pub mod OneFault

@@ -1,0 +1,11 @@
+pub mod Varint
+pub mod Fields
+pub mod Schema
+pub mod Good
+pub mod Stands
+pub mod Faults
+pub mod Canonical
+pub mod Reading
+pub mod Taking
+pub mod Holding
+pub mod Writing
