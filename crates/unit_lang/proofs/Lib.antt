@@ -1,0 +1,15 @@
+pub mod WordLemmas
+pub mod Chain
+pub mod Meaning
+pub mod StepForth
+pub mod StepBack
+pub mod Ends
+pub mod Steps
+pub mod TokenLemmas
+pub mod LineLemmas
+pub mod WarnLemmas
+pub mod FileLemmas
+pub mod OneLemmas
+pub mod HeadLemmas
+pub mod Outcomes
+pub mod FileOutcomes

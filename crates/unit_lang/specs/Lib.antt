@@ -1,0 +1,11 @@
+pub mod Names
+pub mod Tokens
+pub mod Grammar
+pub mod Lines
+pub mod Spells
+pub mod Faults
+pub mod Lexing
+pub mod Gives
+pub mod Machine
+pub mod Progress
+pub mod Reading

@@ -1,0 +1,217 @@
+// The reader of a whole unit file.
+ghost use Rattle.std.specs.Prelude.{◌≡◌, ◌+◌, ◌<◌, ◌≤◌, ◌↔◌, [], ◌∷◌, ◌++◌, ℕ, List, length, IsTrue, IfOk, IfErr, IfSome, MatchResult, MatchOption, option_map};
+ghost use Rattle.unit_lang.specs.Faults.{IsFirstFault, AllBlank};
+ghost use Rattle.unit_lang.specs.Gives.{FaultsAs};
+ghost use Rattle.unit_lang.specs.Lexing.{line_len, lines_after, rest_of, rest_size};
+ghost use Rattle.unit_lang.specs.Lines.{IsBlankLine, Says};
+ghost use Rattle.unit_lang.specs.Reading.{LongFault, heading_fault, BodyFaultAs, FileFaultAs, Hears, HearsFault};
+ghost use Rattle.unit_lang.specs.declared.error.UnitCause.TheVariants.{OutOfMemory};
+ghost use Rattle.unit_lang.specs.Spells.{Spells, Makes, Body, lines_of, longest_line};
+ghost use Rattle.unit_lang.specs.declared.unit.Unit.{Unit as UnitFile};
+
+use crate::error::{UnitCause, UnitError};
+use crate::line::{heading, is_blank_line, statement};
+use crate::unit::{Line, Lines, Statement, Unit};
+use std::alloc::Global;
+
+/// The most bytes that a file has.
+const LONGEST_FILE: usize = 1_048_576;
+
+/// The most bytes that a line has.
+const LONGEST_LINE: usize = 4_096;
+
+/// Reads the unit that the whole text spells, or else tells its first fault by line.
+///
+/// Goes once over the text, and takes memory for the unit and for what is open in an expression.
+pub fn parse_unit(alloc: Global, text: &[u8]) -> Result<Unit, UnitError>
+    // What is read is what the text spells.
+    ensures read { IfOk result (λ unit. Spells text.now unit) }
+    // What is refused has the fault, unless memory ran out.
+    ensures refused { IfErr result (λ error. IsFirstFault text.now error) }
+{
+    if text.len() > LONGEST_FILE {
+        return Err(UnitError {
+            line: 1,
+            cause: UnitCause::TooLong,
+        });
+    }
+    let mut number = 1;
+    let mut rest = Some(text);
+    while let Some(lines) = rest {
+        let (line, after) = first_line(lines);
+        if line.len() > LONGEST_LINE {
+            return Err(long_before_heading(number, lines));
+        }
+        if !is_blank_line(line) {
+            return unit_from(alloc, number, line, after);
+        }
+        number += 1;
+        rest = after;
+    }
+    Err(UnitError {
+        line: 1,
+        cause: UnitCause::NoUnit,
+    })
+}
+
+/// The unit whose first line that isn't blank is here.
+fn unit_from(
+    alloc: Global,
+    number: u32,
+    line: &[u8],
+    rest: Option<&[u8]>,
+) -> Result<Unit, UnitError>
+    requires short { length line.now ≤ longest_line }
+    requires solid { IsBlankLine line.now → ⊥ }
+    requires room { number + rest_size (option_map (λ text. text.now) rest) < 4294967295 }
+    ensures { MatchResult result (Makes number (line.now ∷ lines_after (option_map (λ text. text.now) rest.entry))) (FileFaultAs number (line.now ∷ lines_after (option_map (λ text. text.now) rest.entry))) }
+{
+    match heading(alloc, line) {
+        Ok(name) => {
+            let lines = body(alloc, number + 1, rest)?;
+            Ok(Unit {
+                name,
+                line: number,
+                lines,
+            })
+        }
+        Err(cause) => Err(UnitError {
+            line: number,
+            cause: heading_fault(cause),
+        }),
+    }
+}
+
+/// The fault where the first line that isn't blank is refused.
+fn heading_fault(cause: UnitCause) -> UnitCause
+    ensures { result ≡ heading_fault cause }
+{
+    match cause {
+        UnitCause::OutOfMemory => UnitCause::OutOfMemory,
+        _ => UnitCause::NoUnit,
+    }
+}
+
+/// The fault where a line is too long and only blank lines come before it.
+fn long_before_heading(number: u32, lines: &[u8]) -> UnitError
+    ensures { LongFault number (lines_of lines.now) result }
+{
+    if number > 1 && are_blank_lines(lines) {
+        return UnitError {
+            line: 1,
+            cause: UnitCause::NoUnit,
+        };
+    }
+    UnitError {
+        line: number,
+        cause: UnitCause::TooLong,
+    }
+}
+
+/// Whether all lines of a text are blank.
+fn are_blank_lines(text: &[u8]) -> bool
+    ensures { IsTrue result ↔ AllBlank (lines_of text.now) }
+{
+    let mut rest = Some(text);
+    while let Some(lines) = rest {
+        let (line, after) = first_line(lines);
+        if !is_blank_line(line) {
+            return false;
+        }
+        rest = after;
+    }
+    true
+}
+
+/// What the lines from this number on say.
+fn body(alloc: Global, first: u32, text: Option<&[u8]>) -> Result<Lines, UnitError>
+    requires room { first + rest_size (option_map (λ lines. lines.now) text) ≤ 4294967295 }
+    ensures { MatchResult result (Body first (lines_after (option_map (λ lines. lines.now) text.entry))) (BodyFaultAs first (lines_after (option_map (λ lines. lines.now) text.entry))) }
+{
+    let mut said = Lines::new(alloc);
+    let mut number = first;
+    let mut rest = text;
+    while let Some(lines) = rest {
+        let (line, after) = first_line(lines);
+        hear(alloc, &mut said, number, line)?;
+        number += 1;
+        rest = after;
+    }
+    Ok(said)
+}
+
+/// Adds what the line with this number says.
+fn hear(alloc: Global, said: &mut Lines, number: u32, line: &[u8]) -> Result<(), UnitError>
+    ensures { MatchResult result (λ _. Hears number line.now said.old said.new) (HearsFault number line.now) }
+{
+    match line_said(alloc, line) {
+        Ok(None) => Ok(()),
+        Ok(Some(statement)) => push_line(said, Line { number, statement }),
+        Err(cause) => Err(UnitError {
+            line: number,
+            cause,
+        }),
+    }
+}
+
+/// What a line after the `unit` line says.
+fn line_said(alloc: Global, line: &[u8]) -> Result<Option<Statement>, UnitCause>
+    ensures { MatchResult result (λ said. (length line.now ≤ longest_line) × MatchOption said (IsBlankLine line.now) (Says line.now)) (FaultsAs line.now) }
+{
+    if line.len() > LONGEST_LINE {
+        return Err(UnitCause::TooLong);
+    }
+    statement(alloc, line)
+}
+
+/// Adds a line.
+fn push_line(said: &mut Lines, line: Line) -> Result<(), UnitError>
+    ensures { MatchResult result (λ _. said.new ≡ said.old ++ line ∷ []) (λ error. error.cause ≡ OutOfMemory) }
+{
+    let number = line.number;
+    match said.push(line) {
+        Ok(()) => Ok(()),
+        Err(_) => Err(UnitError {
+            line: number,
+            cause: UnitCause::OutOfMemory,
+        }),
+    }
+}
+
+/// The first line of a text, and the text after its line feed, if it has one.
+fn first_line(text: &[u8]) -> (&[u8], Option<&[u8]>)
+    ensures lines { lines_of text.now ≡ result.0.now ∷ lines_after (option_map (λ rest. rest.now) result.1) }
+    ensures shorter { rest_size (option_map (λ rest. rest.now) result.1) ≤ length text.now }
+{
+    let (line, rest) = text.split_at(line_len(text));
+    (line, after_feed(rest))
+}
+
+/// The text after a line feed, if there is one.
+fn after_feed(rest: &[u8]) -> Option<&[u8]>
+    ensures value { option_map (λ after. after.now) result ≡ rest_of rest.now }
+    ensures shorter { rest_size (option_map (λ after. after.now) result) ≤ length rest.now }
+{
+    match rest {
+        [] => None,
+        [_, after @ ..] => Some(after),
+    }
+}
+
+/// How many bytes the first line has.
+fn line_len(text: &[u8]) -> usize
+    ensures value { result ≡ line_len text.now }
+    ensures within { result ≤ length text.now }
+{
+    for (len, byte) in text.iter().enumerate() {
+        if *byte == b'\n' {
+            return len;
+        }
+    }
+    text.len()
+}
+
+/// No text spells two units.
+pub fn one_unit()
+    ensures { (text : List ℕ) (unit other : UnitFile) → Spells text unit → Spells text other → unit ≡ other }
+{}
