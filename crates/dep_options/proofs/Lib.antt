@@ -1,0 +1,3 @@
+pub mod OneLemmas
+pub mod OptionLemmas
+pub mod DeclLemmas
