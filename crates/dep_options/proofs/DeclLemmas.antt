@@ -85,13 +85,13 @@ sourced base w r v is same free =
     ∙ ap (λ (b : Bool). is_some w.requirement || (is_some (first_of (codes "path") w.options) || b)) (hex_some base w.options free)
 
 nothing_in : (text : List ℕ) (at : ℕ) → IsRefusedAt text at → IsBadRequirement (Some text)
-nothing_in text at refused = refused.nothing
+nothing_in text at stuck = stuck.nothing
 
 -- a text that is refused is no requirement
 pub bad_text : (o : Option (Bor (List ℕ))) (text : Bor (List ℕ)) (slice : List ℕ) (e : ReqError) (at : ℕ) → o ≡ Some text → slice ≡ text.now → e ≡ Refused at → HasCause slice e → IsBadRequirement (option_copied o)
-bad_text o text slice e at is lent refused cause =
+bad_text o text slice e at is lent stuck cause =
     subst (λ (x : Option (Bor (List ℕ))). IsBadRequirement (option_copied x)) (sym is)
-    (subst (λ (x : List ℕ). IsBadRequirement (Some x)) lent (nothing_in slice at (subst (λ (x : ReqError). HasCause slice x) refused cause)))
+    (subst (λ (x : List ℕ). IsBadRequirement (Some x)) lent (nothing_in slice at (subst (λ (x : ReqError). HasCause slice x) stuck cause)))
 
 good_by : (base : List ℕ) (t : Term) (w : Written) (r : Option Alternatives) (v : OptionValues) (d : Decl) → Some w ≡ written_of t → IsRequirement w.requirement r → v ≡ values_of base w.options → first_fault base [] w.options ≡ None → (is_some r || (is_some v.path || is_some v.hex)) ≡ true → d ≡ decl_by v w.app r → IsDecl base t (Ok d)
 good_by base t w r v d e is same free has made =
