@@ -6,7 +6,9 @@ ghost use Rattle.dep_options.specs.Values.{is_memory, no_values, with_option, va
 use crate::decl::{CompileBy, Decl, DepSource, Manager, Names, Variables};
 use crate::error::OptionCause;
 use crate::option_name::{OptionName, option_named};
-use crate::values::{app_of, compile_of, environments_of, folder_of, manager_of, package_of, truth_of, variables_of};
+use crate::values::{
+    app_of, compile_of, environments_of, folder_of, manager_of, package_of, truth_of, variables_of,
+};
 use crate::views::{is_word, string};
 use elixir_terms::Term;
 use mx_base::{AppName, ListOf, NameError, RelPath, Text, copy_text};
@@ -115,13 +117,19 @@ impl OptionValues {
 }
 
 // With a path the source is the path, else the registry.
-fn source(path: Option<RelPath>, hex: Option<AppName>, app: &AppName) -> Result<DepSource, AllocError>
+fn source(
+    path: Option<RelPath>,
+    hex: Option<AppName>,
+    app: &AppName,
+) -> Result<DepSource, AllocError>
     ensures { IfOk result (λ source. source ≡ source_by path hex app.now) }
 {
     match (path, hex) {
         (Some(dir), _) => Ok(DepSource::Path { dir }),
         (None, Some(package)) => Ok(DepSource::Hex { package }),
-        (None, None) => Ok(DepSource::Hex { package: app.clone()? }),
+        (None, None) => Ok(DepSource::Hex {
+            package: app.clone()?,
+        }),
     }
 }
 

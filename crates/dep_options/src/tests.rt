@@ -156,7 +156,8 @@ const ENVIRONMENTS_AND_FLAGS: &str = r#"[{:a, "1.0.0", only: :dev}]|a hex a requ
 [{:a, "1.0.0", app: :a}]|0 BadValue app
 "#;
 
-const COMPILERS_AND_VARIABLES: &str = r#"[{:a, path: "x", compile: false}]|a path libs/b/x not compiled;
+const COMPILERS_AND_VARIABLES: &str =
+    r#"[{:a, path: "x", compile: false}]|a path libs/b/x not compiled;
 [{:a, path: "x", compile: "make all"}]|a path libs/b/x by make all;
 [{:a, path: "x", compile: "  "}]|0 BadValue compile
 [{:a, path: "x", compile: ""}]|0 BadValue compile

@@ -16,20 +16,20 @@ loop-name-preserved c =
     let is = c.loop-name-item.is in
     let seen = seen_more xs i o c.as_slice.result.now c.loop-name.seen c.insert.new.self within is c.as_slice.ensures c.in_ok-insert.ensures.updates c.loop-name.invariant.seen in
     elim c.if-branch.branch [
-      then-branch+in_ok-set w ↦
-        let new = added_new c.in_ok-insert.field-0 c.loop-name.seen c.as_slice.result.now o.0.now before c.in_ok-insert.ensures.added w.if-branch.true c.as_slice.ensures c.loop-name.invariant.seen in
-        record {
-          values = w.values-is ∙ values_then base xs i o c.loop-name.values w.set.new.self within is new c.loop-name.invariant.values w.in_ok-set.ensures.ok;
-          faults = faults_then base xs i o _ within is w.in_ok-set.ensures.fits c.loop-name.invariant.faults;
-          seen = seen;
-        }
+      | then-branch+in_ok-set w ↦
+          let new = added_new c.in_ok-insert.field-0 c.loop-name.seen c.as_slice.result.now o.0.now before c.in_ok-insert.ensures.added w.if-branch.true c.as_slice.ensures c.loop-name.invariant.seen in
+          record {
+            values = w.values-is ∙ values_then base xs i o c.loop-name.values w.set.new.self within is new c.loop-name.invariant.values w.in_ok-set.ensures.ok;
+            faults = faults_then base xs i o _ within is w.in_ok-set.ensures.fits c.loop-name.invariant.faults;
+            seen = seen;
+          }
       | else-branch w ↦
-        let old = added_again c.in_ok-insert.field-0 c.loop-name.seen c.as_slice.result.now o.0.now before c.in_ok-insert.ensures.added w.if-branch.false c.as_slice.ensures c.loop-name.invariant.seen in
-        record {
-          values = w.values-is ∙ values_else base xs i o c.loop-name.values within is old c.loop-name.invariant.values;
-          faults = faults_else base xs i o _ within is old c.loop-name.invariant.faults;
-          seen = seen;
-        }
+          let old = added_again c.in_ok-insert.field-0 c.loop-name.seen c.as_slice.result.now o.0.now before c.in_ok-insert.ensures.added w.if-branch.false c.as_slice.ensures c.loop-name.invariant.seen in
+          record {
+            values = w.values-is ∙ values_else base xs i o c.loop-name.values within is old c.loop-name.invariant.values;
+            faults = faults_else base xs i o _ within is old c.loop-name.invariant.faults;
+            seen = seen;
+          }
     ]
 
 pub returns-in_err-set-clause-err : goal.returns-in_err-set-clause-err
