@@ -1,5 +1,5 @@
 -- One declaration, and declarations one after another.
-use Rattle.std.proofs.Common.{◌≡◌, ℕ, suc, ◌+◌, ◌<◌, ◌≤◌, Bool, true, false, ◌||◌, List, [], ◌∷◌, ◌++◌, map, drop, length, get_or, Option, Some, None, is_some, option_map, option_and_then, Result, Ok, Err, codes, refl, sym, ◌∙◌, ap, subst, append_assoc, add-one, IsFalse}
+use Rattle.std.proofs.Common.{◌≡◌, ℕ, ◌+◌, ◌<◌, ◌≤◌, Bool, true, false, ◌||◌, List, [], ◌∷◌, ◌++◌, drop, length, get_or, Option, Some, None, is_some, option_map, option_and_then, Ok, Err, codes, refl, sym, ◌∙◌, ap, subst, append_assoc, add-one}
 use Rattle.std.specs.Option.{option_copied}
 use Rattle.std.proofs.lemmas.List.{at_drop_more, at_drop_all, append-nil}
 use Rattle.elixir_terms.specs.declared.term.Term.{Term}
@@ -16,7 +16,7 @@ use Rattle.dep_options.specs.declared.error.OptionCause.TheVariants.{Shape, BadR
 use Rattle.dep_options.specs.declared.error.OptionError.{OptionError}
 use Rattle.dep_options.specs.declared.option_values.OptionValues.{OptionValues}
 use Rattle.dep_options.specs.declared.stated.Stated.{Stated}
-use Rattle.dep_options.specs.Options.{first_of, first_fault, given, truth_of, environments_of, compile_of, folder_of, package_of, manager_of, variables_of}
+use Rattle.dep_options.specs.Options.{first_of, first_fault, truth_of, environments_of, compile_of, folder_of, package_of, manager_of, variables_of}
 use Rattle.dep_options.specs.Decls.{Written, written_of, IsRequirement, IsBadRequirement, source_of, has_source, decl_of, IsDecl, shape, requirement, option, source, good, AreDeclsFrom, end, refused, later, more}
 use Rattle.dep_options.specs.Values.{values_of, option_or, source_by, decl_by}
 use Rattle.dep_options.specs.Stated.{written_by}

@@ -1,6 +1,5 @@
 -- Options one after another.
-use Rattle.std.proofs.Common.{◌≡◌, ℕ, ◌+◌, ◌<◌, Bool, true, false, not, cond, ◌||◌, List, [], ◌∷◌, ◌++◌, map, take, drop, length, get_or, Option, Some, None, is_some, option_and_then, codes, refl, sym, ◌∙◌, ap, subst, bytes_eq, arith}
-use Rattle.std.specs.List.{list_any}
+use Rattle.std.proofs.Common.{◌≡◌, ℕ, ◌+◌, ◌<◌, Bool, true, false, not, cond, ◌||◌, List, [], ◌∷◌, ◌++◌, map, take, drop, length, get_or, Option, Some, None, is_some, option_and_then, codes, refl, sym, ◌∙◌, ap, subst, bytes_eq}
 use Rattle.std.specs.BTreeSet.{BTreeSet, contains_by, UpdatesBy}
 use Rattle.std.specs.Cmp.Lexicographic.{slice_cmp, texts_ties}
 use Rattle.std.specs.Ordering.{nat_cmp}

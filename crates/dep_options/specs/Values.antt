@@ -1,5 +1,5 @@
 -- The values of options, each where its option is there.
-use Rattle.std.specs.Prelude.{◌≡◌, ℕ, Bool, true, false, List, [], ◌∷◌, Option, Some, None, is_some, option_and_then, if◌then◌else◌, codes, bytes_eq}
+use Rattle.std.specs.Prelude.{◌≡◌, ℕ, Bool, true, false, List, [], Option, Some, None, option_and_then, if◌then◌else◌, codes, bytes_eq}
 use Rattle.elixir_terms.specs.declared.term.Term.{Term}
 use Rattle.version_req.specs.Condition.{Alternatives}
 use Rattle.dep_options.specs.declared.decl.Decl.{Decl}
@@ -12,7 +12,7 @@ use Rattle.dep_options.specs.declared.error.OptionCause.TheVariants as cause
 use Rattle.dep_options.specs.declared.option_name.OptionName.{OptionName}
 use Rattle.dep_options.specs.declared.option_name.OptionName.TheVariants as name
 use Rattle.dep_options.specs.declared.option_values.OptionValues.{OptionValues}
-use Rattle.dep_options.specs.Options.{Kind, Registry, Unsupported, kind_of, first_of, fault_by, truth_of, environments_of, compile_of, folder_of, package_of, manager_of, variable_of, variables_of}
+use Rattle.dep_options.specs.Options.{Registry, Unsupported, kind_of, first_of, fault_by, truth_of, environments_of, compile_of, folder_of, package_of, manager_of, variable_of, variables_of}
 use Rattle.dep_options.specs.Views.{pair_of, app_of, named_of, Named}
 
 -- want of memory, which says nothing of the declarations

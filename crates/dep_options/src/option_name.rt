@@ -62,7 +62,8 @@ pub(crate) fn option_named(name: &[u8]) -> Option<OptionName>
 
 // Whether the option asks for a source that isn't supported.
 fn is_unsupported(name: &[u8]) -> bool
-    ensures { result ≡ (bytes_eq name.now (codes "git") || (bytes_eq name.now (codes "github") || (bytes_eq name.now (codes "organization") || bytes_eq name.now (codes "in_umbrella")))) }
+    ensures { result ≡ (bytes_eq name.now (codes "git") || (bytes_eq name.now (codes "github")
+        || (bytes_eq name.now (codes "organization") || bytes_eq name.now (codes "in_umbrella")))) }
 {
     is_word(name, b"git")
         || is_word(name, b"github")

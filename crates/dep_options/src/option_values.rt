@@ -11,7 +11,7 @@ use crate::values::{
 };
 use crate::views::{is_word, string};
 use elixir_terms::Term;
-use mx_base::{AppName, ListOf, NameError, RelPath, Text, copy_text};
+use mx_base::{AppName, ListOf, RelPath, Text, copy_text};
 use std::alloc::{AllocError, Global};
 use std::collections::BTreeSet;
 use version_req::Requirement;
@@ -61,7 +61,8 @@ impl OptionValues {
     ) -> Result<(), OptionCause>
         ensures ok { OnOk result (self.new ≡ with_option base.now self.old (name.now, value.now)) }
         ensures fits { OnOk result (fault_of base.now (name.now, value.now) ≡ None) }
-        ensures err { IfErr result (λ cause. IsFalse (is_memory cause) → fault_of base.now (name.now, value.now) ≡ Some cause) }
+        ensures err { IfErr result (λ cause. IsFalse (is_memory cause)
+            → fault_of base.now (name.now, value.now) ≡ Some cause) }
     {
         let Some(option) = option_named(name.as_slice()) else {
             return Err(OptionCause::UnknownOption(copy_text(name)?));
@@ -141,6 +142,7 @@ fn environment(alloc: Global, given: Option<AppName>) -> Result<AppName, AllocEr
         Some(env) => Ok(env),
         None => match AppName::of(alloc, b"prod") {
             Ok(env) => Ok(env),
+            // `prod` is a name, so memory ran out
             Err(_) => Err(AllocError),
         },
     }
@@ -150,7 +152,8 @@ fn environment(alloc: Global, given: Option<AppName>) -> Result<AppName, AllocEr
 fn put<T: Drop>(slot: &mut Option<T>, name: &Text, value: Option<T>) -> Result<(), OptionCause>
     ensures ok { OnOk result (slot.new ≡ value) }
     ensures fits { OnOk result (IsSome value) }
-    ensures err { IfErr result (λ cause. IsFalse (is_memory cause) → (value ≡ None) × (cause ≡ OptionCause.BadValue name.now)) }
+    ensures err { IfErr result (λ cause. IsFalse (is_memory cause)
+        → (value ≡ None) × (cause ≡ OptionCause.BadValue name.now)) }
 {
     if value.is_none() {
         return Err(OptionCause::BadValue(copy_text(name)?));
@@ -162,7 +165,8 @@ fn put<T: Drop>(slot: &mut Option<T>, name: &Text, value: Option<T>) -> Result<(
 // Whether a value names the one registry that there is.
 fn check_registry(name: &Text, value: &Term) -> Result<(), OptionCause>
     ensures ok { OnOk result (registry_fault name.now value.now ≡ None) }
-    ensures err { IfErr result (λ cause. IsFalse (is_memory cause) → registry_fault name.now value.now ≡ Some cause) }
+    ensures err { IfErr result (λ cause. IsFalse (is_memory cause)
+        → registry_fault name.now value.now ≡ Some cause) }
 {
     match string(value) {
         Some(text) if is_word(text.as_slice(), b"hexpm") => Ok(()),
@@ -177,9 +181,12 @@ pub(crate) fn option_values(
     base: &RelPath,
     options: &[(&Text, &Term)],
 ) -> Result<OptionValues, OptionCause>
-    ensures ok { IfOk result (λ values. values ≡ values_of base.now (map (λ o. (o.0.now, o.1.now)) options.now)) }
-    ensures fits { OnOk result (first_fault base.now [] (map (λ o. (o.0.now, o.1.now)) options.now) ≡ None) }
-    ensures err { IfErr result (λ cause. IsFalse (is_memory cause) → first_fault base.now [] (map (λ o. (o.0.now, o.1.now)) options.now) ≡ Some cause) }
+    ensures ok { IfOk result (λ values. values
+        ≡ values_of base.now (map (λ o. (o.0.now, o.1.now)) options.now)) }
+    ensures fits { OnOk result
+        (first_fault base.now [] (map (λ o. (o.0.now, o.1.now)) options.now) ≡ None) }
+    ensures err { IfErr result (λ cause. IsFalse (is_memory cause)
+        → first_fault base.now [] (map (λ o. (o.0.now, o.1.now)) options.now) ≡ Some cause) }
 {
     let mut values = OptionValues::none();
     let mut seen = BTreeSet::new(alloc);

@@ -40,7 +40,8 @@ pub fn decls(alloc: Global, base: &RelPath, term: &Term) -> Result<Vec<Decl>, Op
 // What the items of a list declare.
 fn decls_in(alloc: Global, base: &RelPath, terms: &[Term]) -> Result<Vec<Decl>, OptionError>
     ensures ok { IfOk result (λ decls. AreDeclsFrom 0 base.now terms.now (Ok decls.items)) }
-    ensures err { IfErr result (λ e. IsFalse (is_memory e.cause) → AreDeclsFrom 0 base.now terms.now (Err e)) }
+    ensures err { IfErr result (λ e. IsFalse (is_memory e.cause)
+        → AreDeclsFrom 0 base.now terms.now (Err e)) }
 {
     let mut decls = Vec::new(alloc);
     for (index, term) in terms.iter().enumerate() {
@@ -62,7 +63,8 @@ fn pushed(
     term: &Term,
     decls: &mut Vec<Decl>,
 ) -> Result<(), OptionCause>
-    ensures ok { OnOk result ((d : Decl) × (decls.new.items ≡ decls.old.items ++ d ∷ []) × IsDecl base.now term.now (Ok d)) }
+    ensures ok { OnOk result
+        ((d : Decl) × (decls.new.items ≡ decls.old.items ++ d ∷ []) × IsDecl base.now term.now (Ok d)) }
     ensures err { IfErr result (λ cause. IsFalse (is_memory cause) → IsDecl base.now term.now (Err cause)) }
 {
     decls.push(decl(alloc, base, term)?)?;
@@ -95,7 +97,8 @@ fn has_source(requirement: &Option<Requirement>, values: &OptionValues) -> bool
 // The requirement that is written, where one is.
 fn requirement_of(alloc: Global, text: Option<&Bytes>) -> Result<Option<Requirement>, OptionCause>
     ensures ok { IfOk result (IsRequirement (option_copied text.entry)) }
-    ensures err { IfErr result (λ cause. IsFalse (is_memory cause) → IsBadRequirement (option_copied text.entry) × (cause ≡ OptionCause.BadRequirement)) }
+    ensures err { IfErr result (λ cause. IsFalse (is_memory cause)
+        → IsBadRequirement (option_copied text.entry) × (cause ≡ OptionCause.BadRequirement)) }
 {
     let Some(text) = text else {
         return Ok(None);

@@ -42,7 +42,8 @@ fn with_options<'a>(
     requirement: Option<&'a Bytes>,
     options: &'a Term,
 ) -> Result<Option<Stated<'a>>, AllocError>
-    ensures { IfOk result (λ found. option_map written_by found ≡ option_and_then (λ os. written_as (app_of app.now) (option_copied requirement.entry) os) (keywords_of options.entry.now)) }
+    ensures { IfOk result (λ found. option_map written_by found
+        ≡ option_and_then (λ os. written_as (app_of app.now) (option_copied requirement.entry) os) (keywords_of options.entry.now)) }
 {
     match keywords(alloc, options)? {
         Some(options) => with_app(alloc, app, requirement, options),
@@ -56,7 +57,8 @@ fn with_app<'a>(
     requirement: Option<&'a Bytes>,
     options: Vec<(&'a Text, &'a Term)>,
 ) -> Result<Option<Stated<'a>>, AllocError>
-    ensures { IfOk result (λ found. option_map written_by found ≡ written_as (app_of app.now) (option_copied requirement.entry) (map (λ o. (o.0.now, o.1.now)) options.entry.items)) }
+    ensures { IfOk result (λ found. option_map written_by found
+        ≡ written_as (app_of app.now) (option_copied requirement.entry) (map (λ o. (o.0.now, o.1.now)) options.entry.items)) }
 {
     match app_of(alloc, app)? {
         Some(app) => Ok(Some(Stated {

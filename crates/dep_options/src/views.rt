@@ -66,7 +66,8 @@ pub(crate) fn keywords(
     alloc: Global,
     term: &Term,
 ) -> Result<Option<Vec<(&Text, &Term)>>, AllocError>
-    ensures { IfOk result (λ found. option_map (λ ks. map (λ k. (k.0.now, k.1.now)) ks.items) found ≡ keywords_of term.now) }
+    ensures { IfOk result (λ found. option_map (λ ks. map (λ k. (k.0.now, k.1.now)) ks.items) found
+        ≡ keywords_of term.now) }
 {
     let Some(items) = list(term) else {
         return Ok(None);

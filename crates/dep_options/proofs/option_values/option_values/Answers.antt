@@ -1,6 +1,5 @@
-use Rattle.std.proofs.Common.{◌≡◌, ℕ, ◌<◌, ◌∙◌, List, length, take, arith}
+use Rattle.std.proofs.Common.{◌<◌, ◌∙◌, length, take, arith}
 use Rattle.std.proofs.lemmas.Result.{err_from_is_err_and}
-use Rattle.dep_options.specs.Options.{has_name}
 use Rattle.dep_options.proofs.OptionLemmas.{named, added_new, added_again, values_then, values_else, faults_then, faults_else, fault_found, seen_more}
 use Rattle.dep_options.proofs.option_values.option_values.Goals as goal
 use Rattle.dep_options.proofs.option_values.option_values.Goals.{then-branch+in_ok-set, else-branch}

@@ -1,4 +1,4 @@
-use Rattle.std.proofs.Common.{◌≡◌, ℕ, List, [], take, drop, length}
+use Rattle.std.proofs.Common.{◌≡◌, ℕ, List, [], take, drop}
 use Rattle.dep_options.specs.Options.{has_name, first_fault}
 use Rattle.dep_options.specs.Values.{values_of}
 use Rattle.dep_options.proofs.OptionLemmas.{named, is_among}
