@@ -191,7 +191,8 @@ pub(crate) fn option_values(
     let mut values = OptionValues::none();
     let mut seen = BTreeSet::new(alloc);
     for (name, value) in options {
-        if seen.insert(name.as_slice())? {
+        let is_new = seen.insert(name.as_slice())?;
+        if is_new {
             values.set(alloc, base, *name, *value)?;
         }
     }
