@@ -1,6 +1,7 @@
 // What a manifest declares.
 
 use mx_base::{AppName, ListOf, RelPath, Text};
+use std::alloc::AllocError;
 use version_req::Requirement;
 
 /// Names of apps or of environments, in their order.
@@ -30,8 +31,31 @@ pub struct Decl {
     pub system_env: Variables,
 }
 
+impl Clone for Decl {
+    ghost use Rattle.std.specs.Prelude.{◌≡◌};
+
+    ghost is_clone = { λ decl copy. copy ≡ decl };
+
+    fn clone(&self) -> Result<Decl, AllocError> {
+        Ok(Decl {
+            app: self.app.clone()?,
+            requirement: self.requirement.clone()?,
+            source: self.source.clone()?,
+            only: self.only.clone()?,
+            env: self.env.clone()?,
+            optional: self.optional,
+            override_: self.override_,
+            compile: self.compile.clone()?,
+            manager: self.manager,
+            runtime: self.runtime,
+            app_file: self.app_file,
+            system_env: self.system_env.clone()?,
+        })
+    }
+}
+
 /// Where a dependency comes from.
-#[derive(Debug, Drop)]
+#[derive(Debug, PartialEq, Eq, Drop)]
 pub enum DepSource {
     /// A package of the registry.
     Hex { package: AppName },
@@ -39,8 +63,23 @@ pub enum DepSource {
     Path { dir: RelPath },
 }
 
+impl Clone for DepSource {
+    ghost use Rattle.std.specs.Prelude.{◌≡◌};
+
+    ghost is_clone = { λ source copy. copy ≡ source };
+
+    fn clone(&self) -> Result<DepSource, AllocError> {
+        match self {
+            DepSource::Hex { package } => Ok(DepSource::Hex {
+                package: package.clone()?,
+            }),
+            DepSource::Path { dir } => Ok(DepSource::Path { dir: dir.clone()? }),
+        }
+    }
+}
+
 /// How a dependency is compiled.
-#[derive(Debug, Drop)]
+#[derive(Debug, PartialEq, Eq, Drop)]
 pub enum CompileBy {
     /// As its manager does.
     Manager,
@@ -48,6 +87,20 @@ pub enum CompileBy {
     Command(Text),
     /// Not at all.
     Nothing,
+}
+
+impl Clone for CompileBy {
+    ghost use Rattle.std.specs.Prelude.{◌≡◌};
+
+    ghost is_clone = { λ compile copy. copy ≡ compile };
+
+    fn clone(&self) -> Result<CompileBy, AllocError> {
+        match self {
+            CompileBy::Manager => Ok(CompileBy::Manager),
+            CompileBy::Command(command) => Ok(CompileBy::Command(command.clone()?)),
+            CompileBy::Nothing => Ok(CompileBy::Nothing),
+        }
+    }
 }
 
 /// The build tool of a dependency.
@@ -63,4 +116,17 @@ pub enum Manager {
 pub struct Variable {
     pub name: Text,
     pub value: Text,
+}
+
+impl Clone for Variable {
+    ghost use Rattle.std.specs.Prelude.{◌≡◌};
+
+    ghost is_clone = { λ variable copy. copy ≡ variable };
+
+    fn clone(&self) -> Result<Variable, AllocError> {
+        Ok(Variable {
+            name: self.name.clone()?,
+            value: self.value.clone()?,
+        })
+    }
 }
