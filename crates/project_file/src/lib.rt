@@ -24,4 +24,6 @@ pub use project::{Decls, Project};
 pub use settings::Settings;
 
 #[cfg(test)]
+mod shop_tests;
+#[cfg(test)]
 mod tests;
