@@ -15,12 +15,12 @@ use Rattle.dep_rows.proofs.Standing.{well_formed_more, nothing_well_formed, so_f
 use Rattle.dep_rows.proofs.Winners.{few_winners}
 
 -- the rows so far, when so many winners were asked
-pub record Stands {Fault : Type 0} (meaning : Option (ChildrenOf Fault)) (root : List Decl) (rows : List Row) (winners : List ℕ) (asked : ℕ) : Type 0 where
+pub record Stands {Known Fault : Type 0} (children_of : Known → ChildrenOf Fault) (meaning : Option Known) (root : List Decl) (rows : List Row) (winners : List ℕ) (asked : ℕ) : Type 0 where
   pub well_formed : AreWellFormed rows winners
   pub few : length rows ≤ most_rows
   pub short : length winners ≤ length rows
   pub within : asked ≤ length winners
-  pub told : IfSome meaning (λ told. AreRowsSoFar told root rows (take asked winners) (drop asked winners))
+  pub told : IfSome meaning (λ known. AreRowsSoFar (children_of known) root rows (take asked winners) (drop asked winners))
 
 if_told : {A : Type 0} (meaning : Option A) (P Q : A → Type 0) → ((told : A) → P told → Q told) → IfSome meaning P → IfSome meaning Q
 if_told None P Q step h = h
@@ -34,20 +34,20 @@ both_told : {A : Type 0} (meaning : Option A) (P Q : A → Type 0) → IfSome me
 both_told None P Q step h = h
 both_told (Some told) P Q step h = step h
 
-root_stands : {Fault : Type 0} (meaning : Option (ChildrenOf Fault)) (root : List Decl) → length root ≤ most_rows → Stands meaning root (rows_from None 0 root) (next_winners [] (rows_from None 0 root)) 0
-root_stands meaning root few =
+root_stands : {Known Fault : Type 0} (children_of : Known → ChildrenOf Fault) (meaning : Option Known) (root : List Decl) → length root ≤ most_rows → Stands children_of meaning root (rows_from None 0 root) (next_winners [] (rows_from None 0 root)) 0
+root_stands children_of meaning root few =
     let long = length-rows_from None 0 root in
     record {
       well_formed = well_formed_more [] [] None root nothing_well_formed tt;
       few = omega (arith, few, long);
       short = few_winners [] (rows_from None 0 root);
       within = omega arith;
-      told = if_any meaning (λ told. AreRowsSoFar told root (rows_from None 0 root) [] (next_winners [] (rows_from None 0 root))) (λ told. so_far_root told root);
+      told = if_any meaning (λ known. AreRowsSoFar (children_of known) root (rows_from None 0 root) [] (next_winners [] (rows_from None 0 root))) (λ known. so_far_root (children_of known) root);
     }
 
 -- the rows of the root, before a winner is asked
-pub stands_root : {Fault : Type 0} (meaning : Option (ChildrenOf Fault)) (root decls : List Decl) (no_rows rows : List Row) (nowhere winners : List ℕ) → no_rows ≡ [] → nowhere ≡ [] → decls ≡ root → rows ≡ no_rows ++ rows_from None 0 decls → winners ≡ nowhere ++ next_winners no_rows (rows_from None 0 decls) → length root ≤ most_rows → Stands meaning root rows winners 0
-stands_root meaning root decls no_rows rows nowhere winners none at_none same rows_are winners_are few =
+pub stands_root : {Known Fault : Type 0} (children_of : Known → ChildrenOf Fault) (meaning : Option Known) (root decls : List Decl) (no_rows rows : List Row) (nowhere winners : List ℕ) → no_rows ≡ [] → nowhere ≡ [] → decls ≡ root → rows ≡ no_rows ++ rows_from None 0 decls → winners ≡ nowhere ++ next_winners no_rows (rows_from None 0 decls) → length root ≤ most_rows → Stands children_of meaning root rows winners 0
+stands_root children_of meaning root decls no_rows rows nowhere winners none at_none same rows_are winners_are few =
     let all_rows : rows ≡ rows_from None 0 root = rows_are ∙ ap (λ (rs : List Row). rs ++ rows_from None 0 decls) none ∙ ap (λ (ds : List Decl). rows_from None 0 ds) same in
     let all_winners : winners ≡ next_winners [] (rows_from None 0 root) =
     winners_are
@@ -55,11 +55,11 @@ stands_root meaning root decls no_rows rows nowhere winners none at_none same ro
     ∙ ap (λ (rs : List Row). next_winners rs (rows_from None 0 decls)) none
     ∙ ap (λ (ds : List Decl). next_winners [] (rows_from None 0 ds)) same
     in
-    subst (λ (rs : List Row). Stands meaning root rs winners 0) (sym all_rows)
-    (subst (λ (ws : List ℕ). Stands meaning root (rows_from None 0 root) ws 0) (sym all_winners) (root_stands meaning root few))
+    subst (λ (rs : List Row). Stands children_of meaning root rs winners 0) (sym all_rows)
+    (subst (λ (ws : List ℕ). Stands children_of meaning root (rows_from None 0 root) ws 0) (sym all_winners) (root_stands children_of meaning root few))
 
 -- the winner that is asked next
-module _ {Fault : Type 0} (meaning : Option (ChildrenOf Fault)) (root : List Decl) (rows : List Row) (winners : List ℕ) (asked winner : ℕ) (stands : Stands meaning root rows winners asked) (next : asked < length winners) (is : winner ≡ get_or winners asked winner) where
+module _ {Known Fault : Type 0} (children_of : Known → ChildrenOf Fault) (meaning : Option Known) (root : List Decl) (rows : List Row) (winners : List ℕ) (asked winner : ℕ) (stands : Stands children_of meaning root rows winners asked) (next : asked < length winners) (is : winner ≡ get_or winners asked winner) where
   pub winner_within : winner < length rows
   winner_within =
       let wins = stands.well_formed.winning.only asked winner next in
@@ -68,8 +68,8 @@ module _ {Fault : Type 0} (meaning : Option (ChildrenOf Fault)) (root : List Dec
   left_is : drop asked winners ≡ winner ∷ drop (asked + 1) winners
   left_is = drop_more winners asked winner next ∙ ap (λ (n : ℕ). n ∷ drop (asked + 1) winners) (sym is)
 
-  next_told : (told : ChildrenOf Fault) → AreRowsSoFar told root rows (take asked winners) (drop asked winners) → AreRowsSoFar told root rows (take asked winners) (winner ∷ drop (asked + 1) winners)
-  next_told told so_far = subst (λ (ws : List ℕ). AreRowsSoFar told root rows (take asked winners) ws) left_is so_far
+  next_told : (children : ChildrenOf Fault) → AreRowsSoFar children root rows (take asked winners) (drop asked winners) → AreRowsSoFar children root rows (take asked winners) (winner ∷ drop (asked + 1) winners)
+  next_told children so_far = subst (λ (ws : List ℕ). AreRowsSoFar children root rows (take asked winners) ws) left_is so_far
 
   asked_more : (more : List ℕ) → take (asked + 1) (winners ++ more) ≡ take asked winners ++ winner ∷ []
   asked_more more = take-append-le (asked + 1) winners more (omega (arith, next)) ∙ take_more winners asked winner next ∙ ap (λ (n : ℕ). take asked winners ++ n ∷ []) (sym is)
@@ -81,7 +81,7 @@ module _ {Fault : Type 0} (meaning : Option (ChildrenOf Fault)) (root : List Dec
   has_winner = subst (λ (n : ℕ). Contains winners n) (sym is) (Contains-get_or winners asked winner next)
 
   -- its children came
-  pub stands_more : (new_rows : List Row) (new_winners : List ℕ) → BringsIn meaning winner rows new_rows winners new_winners → Stands meaning root new_rows new_winners (asked + 1)
+  pub stands_more : (new_rows : List Row) (new_winners : List ℕ) → BringsIn children_of meaning winner rows new_rows winners new_winners → Stands children_of meaning root new_rows new_winners (asked + 1)
   stands_more new_rows new_winners brings =
       let block = rows_from (Some winner) 0 brings.decls in
       let new = next_winners rows block in
@@ -91,73 +91,73 @@ module _ {Fault : Type 0} (meaning : Option (ChildrenOf Fault)) (root : List Dec
       let long = length-append rows block in
       let long_winners = length-append winners new in
       let told_now = if_told meaning
-      (λ told. AreRowsSoFar told root rows (take asked winners) (drop asked winners))
-      (λ told. told brings.row.app brings.row.decl ≡ Ok brings.decls → AreRowsSoFar told root (rows ++ block) (take (asked + 1) (winners ++ new)) (drop (asked + 1) (winners ++ new)))
-      (λ told so_far answer.
-      subst (λ (ws : List ℕ). AreRowsSoFar told root (rows ++ block) (take (asked + 1) (winners ++ new)) ws) (sym (left_more new))
-      (subst (λ (ws : List ℕ). AreRowsSoFar told root (rows ++ block) ws (drop (asked + 1) winners ++ new)) (sym (asked_more new))
-      (so_far_more told root rows (take asked winners) winner (drop (asked + 1) winners) brings.row brings.decls (next_told told so_far) brings.stands answer)))
+      (λ known. AreRowsSoFar (children_of known) root rows (take asked winners) (drop asked winners))
+      (λ known. children_of known brings.row.app brings.row.decl (Ok brings.decls) → AreRowsSoFar (children_of known) root (rows ++ block) (take (asked + 1) (winners ++ new)) (drop (asked + 1) (winners ++ new)))
+      (λ known so_far answer.
+      subst (λ (ws : List ℕ). AreRowsSoFar (children_of known) root (rows ++ block) (take (asked + 1) (winners ++ new)) ws) (sym (left_more new))
+      (subst (λ (ws : List ℕ). AreRowsSoFar (children_of known) root (rows ++ block) ws (drop (asked + 1) winners ++ new)) (sym (asked_more new))
+      (so_far_more (children_of known) root rows (take asked winners) winner (drop (asked + 1) winners) brings.row brings.decls (next_told (children_of known) so_far) brings.stands answer)))
       stands.told
       in
-      let all : Stands meaning root (rows ++ block) (winners ++ new) (asked + 1) = record {
+      let all : Stands children_of meaning root (rows ++ block) (winners ++ new) (asked + 1) = record {
         well_formed = well_formed_more rows winners (Some winner) brings.decls stands.well_formed (winner_within, has_winner);
         few = subst (λ (rs : List Row). length rs ≤ most_rows) brings.rows brings.few;
         short = omega (arith, few_new, short, long, long_winners);
         within = omega (arith, next, long_winners);
-        told = both_told meaning (λ told. told brings.row.app brings.row.decl ≡ Ok brings.decls) (λ told. AreRowsSoFar told root (rows ++ block) (take (asked + 1) (winners ++ new)) (drop (asked + 1) (winners ++ new))) told_now brings.answer;
+        told = both_told meaning (λ known. children_of known brings.row.app brings.row.decl (Ok brings.decls)) (λ known. AreRowsSoFar (children_of known) root (rows ++ block) (take (asked + 1) (winners ++ new)) (drop (asked + 1) (winners ++ new))) told_now brings.answer;
       } in
-      subst (λ (rs : List Row). Stands meaning root rs new_winners (asked + 1)) (sym brings.rows)
-      (subst (λ (ws : List ℕ). Stands meaning root (rows ++ block) ws (asked + 1)) (sym brings.winners) all)
+      subst (λ (rs : List Row). Stands children_of meaning root rs new_winners (asked + 1)) (sym brings.rows)
+      (subst (λ (ws : List ℕ). Stands children_of meaning root (rows ++ block) ws (asked + 1)) (sym brings.winners) all)
 
   -- its children can't come
-  pub stands_hindered : (is_outside is_memory : Fault → Bool) (error : RowsError Fault) → IfSome meaning (λ told. Hinders is_outside is_memory told rows winner error) → IfSome meaning (λ told. HasCause is_outside is_memory told root error)
+  pub stands_hindered : (is_outside is_memory : Fault → Bool) (error : RowsError Fault) → IfSome meaning (λ known. Hinders is_outside is_memory (children_of known) rows winner error) → IfSome meaning (λ known. HasCause is_outside is_memory (children_of known) root error)
   stands_hindered is_outside is_memory error hindered =
-      both_told meaning (λ told. Hinders is_outside is_memory told rows winner error) (λ told. HasCause is_outside is_memory told root error)
+      both_told meaning (λ known. Hinders is_outside is_memory (children_of known) rows winner error) (λ known. HasCause is_outside is_memory (children_of known) root error)
       (if_told meaning
-      (λ told. AreRowsSoFar told root rows (take asked winners) (drop asked winners))
-      (λ told. Hinders is_outside is_memory told rows winner error → HasCause is_outside is_memory told root error)
-      (λ told so_far. cause told error (next_told told so_far))
+      (λ known. AreRowsSoFar (children_of known) root rows (take asked winners) (drop asked winners))
+      (λ known. Hinders is_outside is_memory (children_of known) rows winner error → HasCause is_outside is_memory (children_of known) root error)
+      (λ known so_far. cause (children_of known) error (next_told (children_of known) so_far))
       stands.told)
       hindered
     where
-      cause : (told : ChildrenOf Fault) (error : RowsError Fault) → AreRowsSoFar told root rows (take asked winners) (winner ∷ drop (asked + 1) winners) → Hinders is_outside is_memory told rows winner error → HasCause is_outside is_memory told root error
-      cause told (Children fault) so_far (row, there, ends) =
+      cause : (children : ChildrenOf Fault) (error : RowsError Fault) → AreRowsSoFar children root rows (take asked winners) (winner ∷ drop (asked + 1) winners) → Hinders is_outside is_memory children rows winner error → HasCause is_outside is_memory children root error
+      cause children (Children fault) so_far (row, there, ends) =
           elim ends [
             | inl answer ↦ inl (record { rows = rows; asked = take asked winners; winner = winner; later = drop (asked + 1) winners; row = row; so_far = so_far; few = stands.few; stands = there; answer = answer })
             | inr other ↦ inr other
           ]
-      cause told TooManyRows so_far (row, decls, there, answer, many) =
+      cause children TooManyRows so_far (row, decls, there, answer, many) =
           let long = length-append rows (rows_from (Some winner) 0 decls) in
           let block_long = length-rows_from (Some winner) 0 decls in
           record {
             rows = rows ++ rows_from (Some winner) 0 decls;
             asked = take asked winners ++ winner ∷ [];
             later = drop (asked + 1) winners ++ next_winners rows (rows_from (Some winner) 0 decls);
-            so_far = so_far_more told root rows (take asked winners) winner (drop (asked + 1) winners) row decls so_far there answer;
+            so_far = so_far_more children root rows (take asked winners) winner (drop (asked + 1) winners) row decls so_far there answer;
             many = omega (arith, many, long, block_long);
           }
-      cause told OutOfMemory so_far h = tt
+      cause children OutOfMemory so_far h = tt
 
 -- all winners were asked
-pub stands_end : {Fault : Type 0} (meaning : Option (ChildrenOf Fault)) (root : List Decl) (rows : List Row) (winners : List ℕ) (asked : ℕ) → Stands meaning root rows winners asked → length winners ≤ asked → IfSome meaning (λ told. AreRows told root rows winners)
-stands_end meaning root rows winners asked stands past =
+pub stands_end : {Known Fault : Type 0} (children_of : Known → ChildrenOf Fault) (meaning : Option Known) (root : List Decl) (rows : List Row) (winners : List ℕ) (asked : ℕ) → Stands children_of meaning root rows winners asked → length winners ≤ asked → IfSome meaning (λ known. AreRows (children_of known) root rows winners)
+stands_end children_of meaning root rows winners asked stands past =
     if_told meaning
-    (λ told. AreRowsSoFar told root rows (take asked winners) (drop asked winners))
-    (λ told. AreRows told root rows winners)
-    (λ told so_far.
-    subst (λ (ws : List ℕ). AreRowsSoFar told root rows ws []) (take_all asked winners past)
-    (subst (λ (ws : List ℕ). AreRowsSoFar told root rows (take asked winners) ws) (drop_all asked winners past) so_far))
+    (λ known. AreRowsSoFar (children_of known) root rows (take asked winners) (drop asked winners))
+    (λ known. AreRows (children_of known) root rows winners)
+    (λ known so_far.
+    subst (λ (ws : List ℕ). AreRowsSoFar (children_of known) root rows ws []) (take_all asked winners past)
+    (subst (λ (ws : List ℕ). AreRowsSoFar (children_of known) root rows (take asked winners) ws) (drop_all asked winners past) so_far))
     stands.told
 
 -- the root alone passes the limit
-pub root_many : {Fault : Type 0} (meaning : Option (ChildrenOf Fault)) (is_outside is_memory : Fault → Bool) (root : List Decl) → most_rows < length root → IfSome meaning (λ told. HasCause is_outside is_memory told root TooManyRows)
-root_many meaning is_outside is_memory root many =
+pub root_many : {Known Fault : Type 0} (children_of : Known → ChildrenOf Fault) (meaning : Option Known) (is_outside is_memory : Fault → Bool) (root : List Decl) → most_rows < length root → IfSome meaning (λ known. HasCause is_outside is_memory (children_of known) root TooManyRows)
+root_many children_of meaning is_outside is_memory root many =
     let long = length-rows_from None 0 root in
-    if_any meaning (λ told. HasCause is_outside is_memory told root TooManyRows)
-    (λ told. record { rows = rows_from None 0 root; asked = []; later = next_winners [] (rows_from None 0 root); so_far = so_far_root told root; many = omega (arith, many, long) })
+    if_any meaning (λ known. HasCause is_outside is_memory (children_of known) root TooManyRows)
+    (λ known. record { rows = rows_from None 0 root; asked = []; later = next_winners [] (rows_from None 0 root); so_far = so_far_root (children_of known) root; many = omega (arith, many, long) })
 
-pub brings_in : {Fault : Type 0} (meaning : Option (ChildrenOf Fault)) (winner : ℕ) (row : Row) (decls : List Decl) (old_rows new_rows : List Row) (old_winners new_winners : List ℕ) → slice_get old_rows winner ≡ Some row → IfSome meaning (λ told. told row.app row.decl ≡ Ok decls) → new_rows ≡ old_rows ++ rows_from (Some winner) 0 decls → new_winners ≡ old_winners ++ next_winners old_rows (rows_from (Some winner) 0 decls) → length old_rows + length decls ≤ most_rows → BringsIn meaning winner old_rows new_rows old_winners new_winners
-brings_in meaning winner row decls old_rows new_rows old_winners new_winners stands answer rows_are winners_are few =
+pub brings_in : {Known Fault : Type 0} (children_of : Known → ChildrenOf Fault) (meaning : Option Known) (winner : ℕ) (row : Row) (decls : List Decl) (old_rows new_rows : List Row) (old_winners new_winners : List ℕ) → slice_get old_rows winner ≡ Some row → IfSome meaning (λ known. children_of known row.app row.decl (Ok decls)) → new_rows ≡ old_rows ++ rows_from (Some winner) 0 decls → new_winners ≡ old_winners ++ next_winners old_rows (rows_from (Some winner) 0 decls) → length old_rows + length decls ≤ most_rows → BringsIn children_of meaning winner old_rows new_rows old_winners new_winners
+brings_in children_of meaning winner row decls old_rows new_rows old_winners new_winners stands answer rows_are winners_are few =
     let long : length new_rows ≡ length old_rows + length decls = ap length rows_are ∙ length-append old_rows (rows_from (Some winner) 0 decls) ∙ ap (λ (n : ℕ). length old_rows + n) (length-rows_from (Some winner) 0 decls) in
     record {
       row = row;

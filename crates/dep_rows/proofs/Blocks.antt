@@ -39,7 +39,7 @@ blocks_longer children rows more start _ _ (next {winner = winner} {winners = wi
     next before (get_longer rows more winner row stands) answer (blocks_longer children rows more (start + length decls) winners below rest)
 
 -- the children of one winner more
-pub blocks_push : {Fault : Type 0} (children : ChildrenOf Fault) (rows : List Row) (last : ℕ) (row : Row) (decls : List Decl) (start : ℕ) (winners : List ℕ) (below : List Row) → Blocks children rows start winners below → last < start + length below → slice_get rows last ≡ Some row → children row.app row.decl ≡ Ok decls → Blocks children rows start (winners ++ last ∷ []) (below ++ rows_from (Some last) 0 decls)
+pub blocks_push : {Fault : Type 0} (children : ChildrenOf Fault) (rows : List Row) (last : ℕ) (row : Row) (decls : List Decl) (start : ℕ) (winners : List ℕ) (below : List Row) → Blocks children rows start winners below → last < start + length below → slice_get rows last ≡ Some row → children row.app row.decl (Ok decls) → Blocks children rows start (winners ++ last ∷ []) (below ++ rows_from (Some last) 0 decls)
 blocks_push children rows last row decls start _ _ none within stands answer =
     subst (λ (rs : List Row). Blocks children rows start (last ∷ []) rs) (append-nil (rows_from (Some last) 0 decls)) (next (omega (arith, within)) stands answer none)
 blocks_push children rows last row decls start _ _ (next {winner = winner} {winners = winners} {row = first} {decls = firsts} {more = below} before at known rest) within stands answer =

@@ -5,7 +5,7 @@ use Rattle.std.proofs.lemmas.List.Elements.{All-contains, Contains-append_right,
 use Rattle.std.proofs.lemmas.Option.{same_Some}
 use Rattle.dep_options.specs.declared.decl.Decl.{Decl}
 use Rattle.dep_rows.specs.declared.row.Row.{Row}
-use Rattle.dep_rows.specs.Rows.{ChildrenOf, Blocks, AreWinners, rows_from}
+use Rattle.dep_rows.specs.Rows.{ChildrenOf, AnswersOnce, Blocks, AreWinners, rows_from}
 use Rattle.dep_rows.specs.Rows.Blocks.{none, next}
 use Rattle.dep_rows.proofs.Ordered.{no_less_after, not_itself_before}
 use Rattle.dep_rows.proofs.Places.{get_before}
@@ -41,7 +41,7 @@ same_answer : {Fault : Type 0} (a b : List Decl) → ◌≡◌ {A = Result (List
 same_answer a b same = cc
 
 -- two rows so far
-module _ {Fault : Type 0} (children : ChildrenOf Fault) (rows other : List Row) (asked later other_asked other_later : List ℕ) (winners : AreWinners rows (asked ++ later)) (others : AreWinners other (other_asked ++ other_later)) where
+module _ {Fault : Type 0} (children : ChildrenOf Fault) (once : AnswersOnce children) (rows other : List Row) (asked later other_asked other_later : List ℕ) (winners : AreWinners rows (asked ++ later)) (others : AreWinners other (other_asked ++ other_later)) where
   abbrev pub Either : Type 0
   Either = GoesOn children rows other asked other_asked ⊎ GoesOn children other rows other_asked asked
 
@@ -59,12 +59,12 @@ module _ {Fault : Type 0} (children : ChildrenOf Fault) (rows other : List Row) 
       (no_later common other_more more front y (other_rest ++ other_later) x (rest ++ later) y_within other_are are)
       (no_later common more other_more front x (rest ++ later) y (other_rest ++ other_later) x_within are other_are)
 
-  same_child : (common more other_more : List Row) (x y : ℕ) (row other_row : Row) (decls other_decls : List Decl) → rows ≡ common ++ more → other ≡ common ++ other_more → x < length common → x ≡ y → slice_get rows x ≡ Some row → slice_get other y ≡ Some other_row → children row.app row.decl ≡ Ok decls → children other_row.app other_row.decl ≡ Ok other_decls → decls ≡ other_decls
+  same_child : (common more other_more : List Row) (x y : ℕ) (row other_row : Row) (decls other_decls : List Decl) → rows ≡ common ++ more → other ≡ common ++ other_more → x < length common → x ≡ y → slice_get rows x ≡ Some row → slice_get other y ≡ Some other_row → children row.app row.decl (Ok decls) → children other_row.app other_row.decl (Ok other_decls) → decls ≡ other_decls
   same_child common more other_more x y row other_row decls other_decls whole other_whole within same stands other_stands answer other_answer =
       let in_common : slice_get rows x ≡ slice_get common x = ap (λ (rs : List Row). slice_get rs x) whole ∙ get_before common more x within in
       let in_other : slice_get other x ≡ slice_get common x = ap (λ (rs : List Row). slice_get rs x) other_whole ∙ get_before common other_more x within in
       let same_row : row ≡ other_row = same_Some row other_row (sym stands ∙ in_common ∙ sym in_other ∙ ap (λ (n : ℕ). slice_get other n) same ∙ other_stands) in
-      same_answer decls other_decls (sym answer ∙ ap (λ (r : Row). children r.app r.decl) same_row ∙ other_answer)
+      same_answer decls other_decls (once row.app row.decl (Ok decls) (Ok other_decls) answer (subst (λ (r : Row). children r.app r.decl (Ok other_decls)) (sym same_row) other_answer))
 
   pub either_from : (start : ℕ) (common more other_more : List Row) (front rest other_rest : List ℕ) → length common ≡ start → rows ≡ common ++ more → other ≡ common ++ other_more → asked ≡ front ++ rest → other_asked ≡ front ++ other_rest → Blocks children rows start rest more → Blocks children other start other_rest other_more → Either
   either_from start common _ other_more front _ other_rest long whole other_whole asks other_asks none blocks =

@@ -5,7 +5,7 @@ use Rattle.std.proofs.lemmas.List.Elements.{All-contains, Contains-append_cases}
 use Rattle.std.proofs.lemmas.Option.{same_Some, slice_get_within}
 use Rattle.dep_options.specs.declared.decl.Decl.{Decl}
 use Rattle.dep_rows.specs.declared.row.Row.{Row}
-use Rattle.dep_rows.specs.Rows.{ChildrenOf, Blocks, AreWinners, AreRows, AreRowsSoFar, PassesLimit, Meets, rows_from, most_rows}
+use Rattle.dep_rows.specs.Rows.{ChildrenOf, AnswersOnce, Blocks, AreWinners, AreRows, AreRowsSoFar, PassesLimit, Meets, rows_from, most_rows}
 use Rattle.dep_rows.specs.Rows.Blocks.{none, next}
 use Rattle.dep_rows.proofs.Ordered.{not_itself_before}
 use Rattle.dep_rows.proofs.Places.{get_shorter}
@@ -14,16 +14,16 @@ use Rattle.dep_rows.proofs.Blocks.{length-rows_from}
 use Rattle.dep_rows.proofs.OneList.{GoesOn, here, both_win, no_later, either_from}
 
 -- of two rows so far of one root, one goes on where the other ends
-pub either : {Fault : Type 0} (children : ChildrenOf Fault) (root : List Decl) (rows other : List Row) (asked later other_asked other_later : List ℕ)
+pub either : {Fault : Type 0} (children : ChildrenOf Fault) → AnswersOnce children → (root : List Decl) (rows other : List Row) (asked later other_asked other_later : List ℕ)
     → AreRowsSoFar children root rows asked later → AreRowsSoFar children root other other_asked other_later
     → GoesOn children rows other asked other_asked ⊎ GoesOn children other rows other_asked asked
-either children root rows other asked later other_asked other_later so_far other_so_far =
-    either_from children rows other asked later other_asked other_later so_far.winners other_so_far.winners
+either children once root rows other asked later other_asked other_later so_far other_so_far =
+    either_from children once rows other asked later other_asked other_later so_far.winners other_so_far.winners
     (length root) (rows_from None 0 root) so_far.below other_so_far.below [] asked other_asked (length-rows_from None 0 root) so_far.whole other_so_far.whole refl refl so_far.blocks other_so_far.blocks
 
 -- the next winner has no known children
 abbrev pub IsEnd : {Fault : Type 0} → ChildrenOf Fault → List Row → List ℕ → Type 0
-IsEnd children rows later = (winner : ℕ) (rest : List ℕ) (row : Row) (decls : List Decl) → later ≡ winner ∷ rest → slice_get rows winner ≡ Some row → children row.app row.decl ≡ Ok decls → ⊥
+IsEnd children rows later = (winner : ℕ) (rest : List ℕ) (row : Row) (decls : List Decl) → later ≡ winner ∷ rest → slice_get rows winner ≡ Some row → children row.app row.decl (Ok decls) → ⊥
 
 -- where it goes on from an end, the further winner is the one at the end
 module _ {Fault : Type 0} (children : ChildrenOf Fault) (rows more : List Row) (asked later further other_later : List ℕ) (winner : ℕ) (winners : AreWinners rows (asked ++ later)) (others : AreWinners (rows ++ more) (asked ++ winner ∷ (further ++ other_later))) (within : winner < length rows) where
@@ -65,10 +65,10 @@ no_further children rows other asked later other_asked other_later winners other
           left_ends place rest row decls refl (ap (λ (n : ℕ). slice_get rows n) same ∙ there) answer
 
 -- two ends are one
-pub same_end : {Fault : Type 0} (children : ChildrenOf Fault) (root : List Decl) (rows other : List Row) (asked later other_asked other_later : List ℕ)
+pub same_end : {Fault : Type 0} (children : ChildrenOf Fault) → AnswersOnce children → (root : List Decl) (rows other : List Row) (asked later other_asked other_later : List ℕ)
     → AreRowsSoFar children root rows asked later → AreRowsSoFar children root other other_asked other_later → IsEnd children rows later → IsEnd children other other_later → (rows ≡ other) × (asked ≡ other_asked)
-same_end children root rows other asked later other_asked other_later so_far other_so_far ends other_ends =
-    elim (either children root rows other asked later other_asked other_later so_far other_so_far) [
+same_end children once root rows other asked later other_asked other_later so_far other_so_far ends other_ends =
+    elim (either children once root rows other asked later other_asked other_later so_far other_so_far) [
       | inl on ↦
           let ended = no_further children rows other asked later other_asked other_later so_far.winners other_so_far.winners ends (length rows) on.further on.more refl on.asks on.whole on.blocks in
           (sym (on.whole ∙ ap (λ (rs : List Row). rows ++ rs) ended.1 ∙ append-nil rows), sym (on.asks ∙ ap (λ (ws : List ℕ). asked ++ ws) ended.0 ∙ append-nil asked))
@@ -89,17 +89,17 @@ first_same x y xs ys same = cc
 same_fault : {Fault : Type 0} (a b : Fault) → ◌≡◌ {A = Result (List Decl) Fault} (Err a) (Err b) → a ≡ b
 same_fault a b same = cc
 
-met_end : {Fault : Type 0} (children : ChildrenOf Fault) (root : List Decl) (fault : Fault) (met : Meets children root fault) → IsEnd children met.rows (met.winner ∷ met.later)
-met_end children root fault met winner rest row decls is stands answer =
+met_end : {Fault : Type 0} (children : ChildrenOf Fault) → AnswersOnce children → (root : List Decl) (fault : Fault) (met : Meets children root fault) → IsEnd children met.rows (met.winner ∷ met.later)
+met_end children once root fault met winner rest row decls is stands answer =
     let same : met.winner ≡ winner = first_same met.winner winner met.later rest is in
     let same_row : row ≡ met.row = same_Some row met.row (sym stands ∙ ap (λ (n : ℕ). slice_get met.rows n) (sym same) ∙ met.stands) in
-    apart decls fault (sym answer ∙ ap (λ (r : Row). children r.app r.decl) same_row ∙ met.answer)
+    apart decls fault (once row.app row.decl (Ok decls) (Err fault) answer (subst (λ (r : Row). children r.app r.decl (Err fault)) (sym same_row) met.answer))
 
 -- no rows pass the limit where others end below it
-end_within : {Fault : Type 0} (children : ChildrenOf Fault) (root : List Decl) (rows : List Row) (asked later : List ℕ) → AreRowsSoFar children root rows asked later → IsEnd children rows later → length rows ≤ most_rows → PassesLimit children root → ⊥
-end_within children root rows asked later so_far ends few passes =
+end_within : {Fault : Type 0} (children : ChildrenOf Fault) → AnswersOnce children → (root : List Decl) (rows : List Row) (asked later : List ℕ) → AreRowsSoFar children root rows asked later → IsEnd children rows later → length rows ≤ most_rows → PassesLimit children root → ⊥
+end_within children once root rows asked later so_far ends few passes =
     let many = passes.many in
-    elim (either children root rows passes.rows asked later passes.asked passes.later so_far passes.so_far) [
+    elim (either children once root rows passes.rows asked later passes.asked passes.later so_far passes.so_far) [
       | inl on ↦
           let ended = no_further children rows passes.rows asked later passes.asked passes.later so_far.winners passes.so_far.winners ends (length rows) on.further on.more refl on.asks on.whole on.blocks in
           let long : length passes.rows ≡ length rows = ap length (on.whole ∙ ap (λ (rs : List Row). rows ++ rs) ended.1 ∙ append-nil rows) in
@@ -109,26 +109,26 @@ end_within children root rows asked later so_far ends few passes =
           omega (arith, many, few, long)
     ]
 
-pub one_list : {Fault : Type 0} (children : ChildrenOf Fault) (root : List Decl) (rows other : List Row) (winners other_winners : List ℕ) → AreRows children root rows winners → AreRows children root other other_winners → (rows ≡ other) × (winners ≡ other_winners)
-one_list children root rows other winners other_winners are others = same_end children root rows other winners [] other_winners [] are others (rows_end children rows) (rows_end children other)
+pub one_list : {Fault : Type 0} (children : ChildrenOf Fault) → AnswersOnce children → (root : List Decl) (rows other : List Row) (winners other_winners : List ℕ) → AreRows children root rows winners → AreRows children root other other_winners → (rows ≡ other) × (winners ≡ other_winners)
+one_list children once root rows other winners other_winners are others = same_end children once root rows other winners [] other_winners [] are others (rows_end children rows) (rows_end children other)
 
-pub rows_or_limit : {Fault : Type 0} (children : ChildrenOf Fault) (root : List Decl) (rows : List Row) (winners : List ℕ) → AreRows children root rows winners → length rows ≤ most_rows → PassesLimit children root → ⊥
-rows_or_limit children root rows winners are few passes = end_within children root rows winners [] are (rows_end children rows) few passes
+pub rows_or_limit : {Fault : Type 0} (children : ChildrenOf Fault) → AnswersOnce children → (root : List Decl) (rows : List Row) (winners : List ℕ) → AreRows children root rows winners → length rows ≤ most_rows → PassesLimit children root → ⊥
+rows_or_limit children once root rows winners are few passes = end_within children once root rows winners [] are (rows_end children rows) few passes
 
-pub fault_or_limit : {Fault : Type 0} (children : ChildrenOf Fault) (root : List Decl) (fault : Fault) → Meets children root fault → PassesLimit children root → ⊥
-fault_or_limit children root fault met passes = end_within children root met.rows met.asked (met.winner ∷ met.later) met.so_far (met_end children root fault met) met.few passes
+pub fault_or_limit : {Fault : Type 0} (children : ChildrenOf Fault) → AnswersOnce children → (root : List Decl) (fault : Fault) → Meets children root fault → PassesLimit children root → ⊥
+fault_or_limit children once root fault met passes = end_within children once root met.rows met.asked (met.winner ∷ met.later) met.so_far (met_end children once root fault met) met.few passes
 
-pub rows_or_fault : {Fault : Type 0} (children : ChildrenOf Fault) (root : List Decl) (rows : List Row) (winners : List ℕ) (fault : Fault) → AreRows children root rows winners → Meets children root fault → ⊥
-rows_or_fault children root rows winners fault are met =
-    let same = same_end children root rows met.rows winners [] met.asked (met.winner ∷ met.later) are met.so_far (rows_end children rows) (met_end children root fault met) in
+pub rows_or_fault : {Fault : Type 0} (children : ChildrenOf Fault) → AnswersOnce children → (root : List Decl) (rows : List Row) (winners : List ℕ) (fault : Fault) → AreRows children root rows winners → Meets children root fault → ⊥
+rows_or_fault children once root rows winners fault are met =
+    let same = same_end children once root rows met.rows winners [] met.asked (met.winner ∷ met.later) are met.so_far (rows_end children rows) (met_end children once root fault met) in
     let wins = All-contains (Wins met.rows) (met.asked ++ met.winner ∷ met.later) met.winner met.so_far.winners.only (here met.asked met.winner met.later) in
     let also : Wins rows met.winner = subst (λ (rs : List Row). Wins rs met.winner) (sym same.0) wins in
     let has : Contains met.asked met.winner = subst (λ (ws : List ℕ). Contains ws met.winner) (append-nil winners ∙ same.1) (are.winners.all met.winner also.0 also.1) in
     not_itself_before met.asked met.winner met.later met.so_far.winners.in_order has
 
-pub one_fault : {Fault : Type 0} (children : ChildrenOf Fault) (root : List Decl) (fault other : Fault) → Meets children root fault → Meets children root other → fault ≡ other
-one_fault children root fault other met also =
-    let same = same_end children root met.rows also.rows met.asked (met.winner ∷ met.later) also.asked (also.winner ∷ also.later) met.so_far also.so_far (met_end children root fault met) (met_end children root other also) in
+pub one_fault : {Fault : Type 0} (children : ChildrenOf Fault) → AnswersOnce children → (root : List Decl) (fault other : Fault) → Meets children root fault → Meets children root other → fault ≡ other
+one_fault children once root fault other met also =
+    let same = same_end children once root met.rows also.rows met.asked (met.winner ∷ met.later) also.asked (also.winner ∷ also.later) met.so_far also.so_far (met_end children once root fault met) (met_end children once root other also) in
     let others : AreWinners (met.rows ++ []) (met.asked ++ also.winner ∷ also.later) =
     subst (λ (rs : List Row). AreWinners rs (met.asked ++ also.winner ∷ also.later)) (sym same.0 ∙ sym (append-nil met.rows))
     (subst (λ (ws : List ℕ). AreWinners also.rows (ws ++ also.winner ∷ also.later)) (sym same.1) also.so_far.winners)
@@ -136,4 +136,4 @@ one_fault children root fault other met also =
     let within : also.winner < length met.rows = slice_get_within met.rows also.winner also.row (ap (λ (rs : List Row). slice_get rs also.winner) same.0 ∙ also.stands) in
     let same_winner : met.winner ≡ also.winner = next_is met.rows [] met.asked met.winner met.later also.later also.winner met.so_far.winners others within in
     let same_row : met.row ≡ also.row = same_Some met.row also.row (sym met.stands ∙ ap (λ (rs : List Row). slice_get rs met.winner) same.0 ∙ ap (λ (n : ℕ). slice_get also.rows n) same_winner ∙ also.stands) in
-    same_fault fault other (sym met.answer ∙ ap (λ (r : Row). children r.app r.decl) same_row ∙ also.answer)
+    same_fault fault other (once met.row.app met.row.decl (Err fault) (Err other) met.answer (subst (λ (r : Row). children r.app r.decl (Err other)) (sym same_row) also.answer))

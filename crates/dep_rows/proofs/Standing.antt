@@ -51,7 +51,7 @@ so_far_root children root = record {
 
 -- the rows with the children of the next winner
 pub so_far_more : {Fault : Type 0} (children : ChildrenOf Fault) (root : List Decl) (rows : List Row) (asked : List ℕ) (winner : ℕ) (later : List ℕ) (row : Row) (decls : List Decl)
-    → AreRowsSoFar children root rows asked (winner ∷ later) → slice_get rows winner ≡ Some row → children row.app row.decl ≡ Ok decls
+    → AreRowsSoFar children root rows asked (winner ∷ later) → slice_get rows winner ≡ Some row → children row.app row.decl (Ok decls)
     → AreRowsSoFar children root (rows ++ rows_from (Some winner) 0 decls) (asked ++ winner ∷ []) (later ++ next_winners rows (rows_from (Some winner) 0 decls))
 so_far_more children root rows asked winner later row decls so_far stands answer =
     let block = rows_from (Some winner) 0 decls in

@@ -1,5 +1,5 @@
 -- What a call for an app's children may answer.
-use Rattle.std.specs.Prelude.{◌≡◌, ◌⊎◌, Bool, false, List, Result, Ok, Err, IsTrue}
+use Rattle.std.specs.Prelude.{◌⊎◌, Bool, false, List, Result, Ok, Err, IsTrue}
 use Rattle.dep_options.specs.declared.decl.Decl.{Decl}
 
 -- the answer is an error that counts
@@ -7,6 +7,6 @@ abbrev pub fails : {T Fault : Type 0} → (Fault → Bool) → Result T Fault �
 fails counts (Ok x) = false
 fails counts (Err fault) = counts fault
 
--- a call that should have had this answer may end in the fault: it is the answer, or comes from the outside, or memory ran out
-abbrev pub MayEndIn : {Fault : Type 0} → (Fault → Bool) → (Fault → Bool) → Result (List Decl) Fault → Fault → Type 0
-MayEndIn is_outside is_memory answer fault = (answer ≡ Err fault) ⊎ IsTrue (is_outside fault) ⊎ IsTrue (is_memory fault)
+-- a call with these answers may end in the fault: it is an answer, or comes from the outside, or memory ran out
+abbrev pub MayEndIn : {Fault : Type 0} → (Fault → Bool) → (Fault → Bool) → (Result (List Decl) Fault → Type 0) → Fault → Type 0
+MayEndIn is_outside is_memory Answers fault = Answers (Err fault) ⊎ IsTrue (is_outside fault) ⊎ IsTrue (is_memory fault)

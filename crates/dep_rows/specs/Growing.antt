@@ -29,11 +29,11 @@ abbrev pub HasRequiredApps : BTreeSet (List ℕ) → List Row → Type 0
 HasRequiredApps apps rows = (app : List ℕ) → contains text_cmp apps app ≡ has_required rows app
 
 -- the children of the winner at a place have come at the end, the known ones where they are told
-pub record BringsIn {Fault : Type 0} (meaning : Option (ChildrenOf Fault)) (winner : ℕ) (old_rows new_rows : List Row) (old_winners new_winners : List ℕ) : Type 0 where
+pub record BringsIn {Known Fault : Type 0} (children_of : Known → ChildrenOf Fault) (meaning : Option Known) (winner : ℕ) (old_rows new_rows : List Row) (old_winners new_winners : List ℕ) : Type 0 where
   pub row : Row
   pub decls : List Decl
   pub stands : slice_get old_rows winner ≡ Some row
-  pub answer : IfSome meaning (λ told. told row.app row.decl ≡ Ok decls)
+  pub answer : IfSome meaning (λ known. children_of known row.app row.decl (Ok decls))
   pub rows : new_rows ≡ old_rows ++ rows_from (Some winner) 0 decls
   pub winners : new_winners ≡ old_winners ++ next_winners old_rows (rows_from (Some winner) 0 decls)
   pub few : length new_rows ≤ most_rows
@@ -42,5 +42,5 @@ pub record BringsIn {Fault : Type 0} (meaning : Option (ChildrenOf Fault)) (winn
 abbrev pub Hinders : {Fault : Type 0} → (Fault → Bool) → (Fault → Bool) → ChildrenOf Fault → List Row → ℕ → RowsError Fault → Type 0
 Hinders is_outside is_memory children rows winner (Children fault) = (row : Row) × (slice_get rows winner ≡ Some row) × MayEndIn is_outside is_memory (children row.app row.decl) fault
 Hinders is_outside is_memory children rows winner TooManyRows =
-    (row : Row) × (decls : List Decl) × (slice_get rows winner ≡ Some row) × (children row.app row.decl ≡ Ok decls) × (most_rows < length rows + length decls)
+    (row : Row) × (decls : List Decl) × (slice_get rows winner ≡ Some row) × children row.app row.decl (Ok decls) × (most_rows < length rows + length decls)
 Hinders is_outside is_memory children rows winner OutOfMemory = Unit {0}

@@ -30,13 +30,17 @@ pub record AreWinners (rows : List Row) (winners : List ℕ) : Type 0 where
   pub all : (place : ℕ) (row : Row) → IsWinner rows place row → Contains winners place
 
 -- what an app's winner declares in turn, or why that isn't known
-abbrev pub ChildrenOf : Type 0 → Type 0
-ChildrenOf Fault = List ℕ → Decl → Result (List Decl) Fault
+abbrev pub ChildrenOf : Type 0 → Type 1
+ChildrenOf Fault = List ℕ → Decl → Result (List Decl) Fault → Type 0
+
+-- each winner has one answer at most
+abbrev pub AnswersOnce : {Fault : Type 0} → ChildrenOf Fault → Type 0
+AnswersOnce {Fault = Fault} children = (app : List ℕ) (winner : Decl) (answer other : Result (List Decl) Fault) → children app winner answer → children app winner other → answer ≡ other
 
 -- the children of these winners as rows, from a place on. Each winner stands before its children
 pub data Blocks {Fault : Type 0} (children : ChildrenOf Fault) (rows : List Row) : ℕ → List ℕ → List Row → Type 0 where
   none : {start : ℕ} → Blocks children rows start [] []
-  next : {start winner : ℕ} {winners : List ℕ} {row : Row} {decls : List Decl} {more : List Row} → winner < start → slice_get rows winner ≡ Some row → children row.app row.decl ≡ Ok decls → Blocks children rows (start + length decls) winners more → Blocks children rows start (winner ∷ winners) (rows_from (Some winner) 0 decls ++ more)
+  next : {start winner : ℕ} {winners : List ℕ} {row : Row} {decls : List Decl} {more : List Row} → winner < start → slice_get rows winner ≡ Some row → children row.app row.decl (Ok decls) → Blocks children rows (start + length decls) winners more → Blocks children rows start (winner ∷ winners) (rows_from (Some winner) 0 decls ++ more)
 
 -- rows so far: the declarations of the root, and then the children of the first winners
 pub record AreRowsSoFar {Fault : Type 0} (children : ChildrenOf Fault) (root : List Decl) (rows : List Row) (asked later : List ℕ) : Type 0 where
@@ -67,7 +71,7 @@ pub record Meets {Fault : Type 0} (children : ChildrenOf Fault) (root : List Dec
   pub so_far : AreRowsSoFar children root rows asked (winner ∷ later)
   pub few : length rows ≤ most_rows
   pub stands : slice_get rows winner ≡ Some row
-  pub answer : children row.app row.decl ≡ Err fault
+  pub answer : children row.app row.decl (Err fault)
 
 -- a row outside the root stands after the winner that declares it
 abbrev pub IsDeclaredBy : List ℕ → ℕ → Option ℕ → Type 0

@@ -1,5 +1,6 @@
 // Children by a list, for callers without a project.
 ghost use Rattle.std.specs.Prelude.{◌≡◌, ◌⊎◌, ℕ, List, Some, Ok, Err, MatchResult, false};
+ghost use Rattle.std.proofs.Common.{sym, ◌∙◌};
 ghost use Rattle.mx_base.specs.Causes.{Counted};
 ghost use Rattle.dep_rows.specs.declared.list_children.ListAnswer.{ListAnswer};
 ghost use Rattle.dep_rows.specs.Children.{fails};
@@ -52,7 +53,7 @@ pub struct ListChildren<P> {
 
 impl<P: Faults + Drop> ListChildren<P> {
     pub fn new(answers: ListAnswers, plan: P) -> ListChildren<P>
-        ensures meaning { ⟦<ListChildren<P> as Children>⟧.meaning result ≡ Some (λ app winner. answer_for answers app) }
+        ensures meaning { ⟦<ListChildren<P> as Children>⟧.meaning result ≡ Some answers }
         ensures faults { ⟦<ListChildren<P> as Children>⟧.faults result ≡ P.count plan }
     {
         ListChildren { answers, plan }
@@ -62,7 +63,11 @@ impl<P: Faults + Drop> ListChildren<P> {
 impl<P: Faults + Drop> Children for ListChildren<P> {
     type Fault = ListFault;
 
-    ghost meaning = { λ list. Some (λ app winner. answer_for list.answers app) };
+    ghost Known = { List ListAnswer };
+
+    ghost children_of = { λ answers app winner answer. answer ≡ answer_for answers app };
+
+    ghost meaning = { λ list. Some list.answers };
 
     ghost faults = { λ list. P.count list.plan };
 
@@ -74,7 +79,9 @@ impl<P: Faults + Drop> Children for ListChildren<P> {
 
     ghost made_over = { λ list. list.answers };
 
-    ghost told = { λ list app winner fault is. listed_is_reason list.answers app fault is };
+    ghost one = { λ list app winner answer other is also. is ∙ sym also };
+
+    ghost told = { λ list app winner fault is. listed_is_reason list.answers app fault (sym is) };
 
     fn children(
         &mut self,

@@ -207,7 +207,7 @@ fn no_app_is_asked_past_the_limit(rt: HostRuntime) -> Result<(), Fail> {
 
 #[test]
 fn a_root_has_one_outcome(_rt: HostRuntime) -> Result<(), Fail> {
-    one_list::<ListFault>();
-    one_outcome::<ListFault>();
+    one_list::<ListChildren<NoFaults>>();
+    one_outcome::<ListChildren<NoFaults>>();
     Ok(())
 }

@@ -12,7 +12,7 @@ returns-clause-ok g c =
     let shown = c.len.ensures in
     let shown_rows = c.len-2.ensures in
     let room = c.if-len.false in
-    brings_in (g.C.Children.meaning c.args.children.now) c.args.winner c.index-row.result.now c.in-Ok.decls.items old.rows.items c.add_all.new.self.rows.items old.winners.items c.add_all.new.self.winners.items
+    brings_in g.C.Children.children_of (g.C.Children.meaning c.args.children.now) c.args.winner c.index-row.result.now c.in-Ok.decls.items old.rows.items c.add_all.new.self.rows.items old.winners.items c.add_all.new.self.winners.items
     (slice_get_read old.rows.items old.rows.len c.args.winner c.index-row.result.now rows_long c.requires.within c.index-row.ensures)
     c.in-Ok.ensures.answer
     c.in_ok-add_all.ensures.rows
