@@ -1,11 +1,10 @@
 -- The apps with a required row.
-use Rattle.std.proofs.Common.{◌≡◌, ℕ, Bool, true, false, cond, ◌||◌, ◌&&◌, List, [], ◌∷◌, ◌++◌, refl, sym, ◌∙◌, ap}
-use Rattle.std.specs.BTreeSet.{BTreeSet, UpdatesBy}
-use Rattle.std.specs.Ordering.{is_eq}
+use Rattle.std.proofs.Common.{◌≡◌, ℕ, Bool, true, false, cond, ◌||◌, ◌&&◌, List, [], ◌∷◌, ◌++◌, refl, sym, ◌∙◌, ap, nat_eq}
+use Rattle.std.specs.Cmp.Lexicographic.{pointwise}
+use Rattle.indexmap.specs.IndexSet.{Updates}
 use Rattle.std.proofs.lemmas.List.Folds.{list_any-append}
-use Rattle.mx_base.specs.Order.{text_cmp}
 use Rattle.dep_rows.specs.declared.row.Row.{Row}
-use Rattle.dep_rows.specs.Growing.{has_required, HasRequiredApps}
+use Rattle.dep_rows.specs.Growing.{has_required, AppKeys, HasRequiredApps}
 
 none_more : (has required same : Bool) → required ≡ false → has ≡ (has || ((required && same) || false))
 none_more true required same optional = refl
@@ -19,18 +18,18 @@ one_more true true false needed = refl
 one_more false true true needed = refl
 one_more false true false needed = refl
 
-has_push : (rows : List Row) (row : Row) (app : List ℕ) → has_required (rows ++ row ∷ []) app ≡ (has_required rows app || ((row.required && is_eq (text_cmp row.app app)) || false))
-has_push rows row app = list_any-append (λ row. row.required && is_eq (text_cmp row.app app)) rows (row ∷ [])
+has_push : (rows : List Row) (row : Row) (app : List ℕ) → has_required (rows ++ row ∷ []) app ≡ (has_required rows app || ((row.required && pointwise nat_eq row.app app) || false))
+has_push rows row app = list_any-append (λ row. row.required && pointwise nat_eq row.app app) rows (row ∷ [])
 
 -- a row that isn't required
-pub apps_with_optional : (apps : BTreeSet (List ℕ)) (rows : List Row) (row : Row) → row.required ≡ false → HasRequiredApps apps rows → HasRequiredApps apps (rows ++ row ∷ [])
+pub apps_with_optional : (apps : AppKeys) (rows : List Row) (row : Row) → row.required ≡ false → HasRequiredApps apps rows → HasRequiredApps apps (rows ++ row ∷ [])
 apps_with_optional apps rows row optional known app =
-    known app ∙ none_more (has_required rows app) row.required (is_eq (text_cmp row.app app)) optional ∙ sym (has_push rows row app)
+    known app ∙ none_more (has_required rows app) row.required (pointwise nat_eq row.app app) optional ∙ sym (has_push rows row app)
 
 -- a required row, whose app is in the set from then on
-pub apps_with_required : (apps new : BTreeSet (List ℕ)) (rows : List Row) (row : Row) → row.required ≡ true → HasRequiredApps apps rows → UpdatesBy text_cmp (text_cmp row.app) apps new true → HasRequiredApps new (rows ++ row ∷ [])
+pub apps_with_required : (apps new : AppKeys) (rows : List Row) (row : Row) → row.required ≡ true → HasRequiredApps apps rows → Updates (pointwise nat_eq) apps new row.app true → HasRequiredApps new (rows ++ row ∷ [])
 apps_with_required apps new rows row needed known updates app =
     updates.0 app
-    ∙ ap (λ (has : Bool). cond (is_eq (text_cmp row.app app)) true has) (known app)
-    ∙ one_more (has_required rows app) row.required (is_eq (text_cmp row.app app)) needed
+    ∙ ap (λ (has : Bool). cond (pointwise nat_eq row.app app) true has) (known app)
+    ∙ one_more (has_required rows app) row.required (pointwise nat_eq row.app app) needed
     ∙ sym (has_push rows row app)

@@ -1,12 +1,11 @@
 -- The winners of rows that go on.
-use Rattle.std.proofs.Common.{◌≡◌, ℕ, zero, suc, ◌<◌, ◌≤◌, ◌⊎◌, inl, inr, Bool, true, false, not, ◌&&◌, cond, List, [], ◌∷◌, ◌++◌, length, get_or, slice_get, Some, All, Contains, IsTrue, refl, sym, ◌∙◌, ap, subst, arith, append-nil, append_assoc}
-use Rattle.std.specs.Ordering.{is_eq}
+use Rattle.std.proofs.Common.{◌≡◌, ℕ, zero, suc, ◌<◌, ◌≤◌, ◌⊎◌, inl, inr, Bool, true, false, not, ◌&&◌, cond, List, [], ◌∷◌, ◌++◌, length, get_or, slice_get, Some, All, Contains, IsTrue, refl, sym, ◌∙◌, ap, subst, arith, append-nil, append_assoc, nat_eq}
+use Rattle.std.specs.Cmp.Lexicographic.{pointwise}
 use Rattle.std.proofs.lemmas.Bool.{and_parts, and_from, or_cases, or_parts, both_ways, false≢true}
 use Rattle.std.proofs.lemmas.List.{length-append}
 use Rattle.std.proofs.lemmas.List.Elements.{All-push, All-weaker, Contains-append_left, Contains-push}
 use Rattle.std.proofs.lemmas.List.Quantifiers.{all_pairs_push}
 use Rattle.std.proofs.lemmas.Option.{none-some, same_Some, slice_get_within}
-use Rattle.mx_base.specs.Order.{text_cmp}
 use Rattle.dep_rows.specs.declared.row.Row.{Row}
 use Rattle.dep_rows.specs.Growing.{has_required, next_winner, next_winners}
 use Rattle.dep_rows.specs.Rows.{IsWinner, AreWinners}
@@ -40,9 +39,9 @@ pub record HasRequired (rows : List Row) (app : List ℕ) : Type 0 where
 pub some_required : (rows : List Row) (app : List ℕ) → has_required rows app ≡ true → HasRequired rows app
 some_required [] app h = absurd (false≢true h)
 some_required (row ∷ rows) app h =
-    elim (or_cases (row.required && is_eq (text_cmp row.app app)) (has_required rows app) h) [
+    elim (or_cases (row.required && pointwise nat_eq row.app app) (has_required rows app) h) [
       | inl here ↦
-          let parts = and_parts row.required (is_eq (text_cmp row.app app)) here in
+          let parts = and_parts row.required (pointwise nat_eq row.app app) here in
           record { place = 0; row = row; stands = refl; required = parts.0; same = same_name row.app app parts.1 }
       | inr there ↦
           let found = some_required rows app there in
@@ -52,11 +51,11 @@ some_required (row ∷ rows) app h =
 pub none_required : (rows : List Row) (app : List ℕ) → has_required rows app ≡ false → (place : ℕ) (found : Row) → slice_get rows place ≡ Some found → IsTrue found.required → found.app ≡ app → ⊥
 none_required [] app none place found stands required same = none-some found stands
 none_required (row ∷ rows) app none zero found stands required same =
-    let parts = or_parts (row.required && is_eq (text_cmp row.app app)) (has_required rows app) none in
+    let parts = or_parts (row.required && pointwise nat_eq row.app app) (has_required rows app) none in
     let is : found ≡ row = sym (same_Some row found stands) in
     both_ways _ parts.0 (and_from _ _ (subst (λ (r : Row). IsTrue r.required) is required) (tests_same row.app app (subst (λ (r : Row). r.app ≡ app) is same)))
 none_required (row ∷ rows) app none (suc place) found stands required same =
-    let parts = or_parts (row.required && is_eq (text_cmp row.app app)) (has_required rows app) none in
+    let parts = or_parts (row.required && pointwise nat_eq row.app app) (has_required rows app) none in
     none_required rows app parts.1 place found stands required same
 
 abbrev pub Wins : List Row → ℕ → Type 0

@@ -1,9 +1,10 @@
 -- Rows that grow at their end, and the winners among the new ones.
-use Rattle.std.specs.Prelude.{◌≡◌, ℕ, ◌+◌, ◌<◌, ◌≤◌, Bool, not, ◌&&◌, List, [], ◌∷◌, ◌++◌, length, if◌then◌else◌, slice_get, Option, Some, Ok, IfSome}
+use Rattle.std.specs.Prelude.{◌≡◌, ℕ, ◌+◌, ◌<◌, ◌≤◌, Bool, not, ◌&&◌, List, [], ◌∷◌, ◌++◌, length, if◌then◌else◌, slice_get, Option, Some, Ok, IfSome, nat_eq}
 use Rattle.std.specs.List.{list_any}
-use Rattle.std.specs.Ordering.{is_eq}
-use Rattle.std.specs.BTreeSet.{BTreeSet, contains}
-use Rattle.mx_base.specs.Order.{text_cmp}
+use Rattle.std.specs.Cmp.Lexicographic.{pointwise}
+use Rattle.std.specs.declared.hash.FoldHasher.{FoldHasher}
+use Rattle.std.specs.declared.hash.BuildHasherDefault.{BuildHasherDefault}
+use Rattle.indexmap.specs.IndexSet.{IndexSet, contains}
 use Rattle.dep_options.specs.declared.decl.Decl.{Decl}
 use Rattle.dep_rows.specs.declared.row.Row.{Row}
 use Rattle.dep_rows.specs.declared.error.RowsError.{RowsError}
@@ -13,7 +14,7 @@ use Rattle.dep_rows.specs.Rows.{ChildrenOf, rows_from, most_rows}
 
 -- the app has a required row among these
 abbrev pub has_required : List Row → List ℕ → Bool
-has_required rows app = list_any (λ row. row.required && is_eq (text_cmp row.app app)) rows
+has_required rows app = list_any (λ row. row.required && pointwise nat_eq row.app app) rows
 
 -- the place of the row that comes after these, where it wins
 abbrev pub next_winner : List Row → Row → List ℕ
@@ -24,9 +25,13 @@ abbrev pub next_winners : List Row → List Row → List ℕ
 next_winners rows [] = []
 next_winners rows (row ∷ more) = next_winner rows row ++ next_winners (rows ++ row ∷ []) more
 
+-- a set of apps, in the order in which they came
+abbrev pub AppKeys : Type 0
+AppKeys = IndexSet (List ℕ) (BuildHasherDefault FoldHasher)
+
 -- the set has just the apps with a required row
-abbrev pub HasRequiredApps : BTreeSet (List ℕ) → List Row → Type 0
-HasRequiredApps apps rows = (app : List ℕ) → contains text_cmp apps app ≡ has_required rows app
+abbrev pub HasRequiredApps : AppKeys → List Row → Type 0
+HasRequiredApps apps rows = (app : List ℕ) → contains (pointwise nat_eq) apps app ≡ has_required rows app
 
 -- the children of the winner at a place have come at the end, the known ones where they are told
 pub record BringsIn {Known Fault : Type 0} (children_of : Known → ChildrenOf Fault) (meaning : Option Known) (winner : ℕ) (old_rows new_rows : List Row) (old_winners new_winners : List ℕ) : Type 0 where

@@ -4,12 +4,12 @@ ghost use Rattle.dep_rows.specs.Growing.{has_required, next_winner, next_winners
 ghost use Rattle.dep_rows.specs.Listed.{IsWithinLimit};
 ghost use Rattle.dep_rows.specs.Rows.{AreWellFormed, most_rows, row_of, rows_from};
 
+use crate::app_key::AppKey;
 use crate::list::Rows;
 use crate::row::{Places, Row, RowList};
 use dep_options::Decl;
-use mx_base::AppName;
+use indexmap::IndexSet;
 use std::alloc::{AllocError, Global};
-use std::collections::BTreeSet;
 
 /// How many rows there may be.
 pub(crate) const MOST_ROWS: usize = 65_536;
@@ -19,7 +19,7 @@ pub(crate) const MOST_ROWS: usize = 65_536;
 pub(crate) struct Listing {
     pub(crate) rows: Vec<Row>,
     pub(crate) winners: Vec<u32>,
-    pub(crate) apps: BTreeSet<AppName>,
+    pub(crate) apps: IndexSet<AppKey>,
 }
 
 impl Listing {
@@ -31,7 +31,7 @@ impl Listing {
         Listing {
             rows: Vec::new(alloc),
             winners: Vec::new(alloc),
-            apps: BTreeSet::new(alloc),
+            apps: IndexSet::new(alloc),
         }
     }
 
@@ -84,7 +84,7 @@ impl Listing {
         if !row.required {
             return Ok(());
         }
-        if self.apps.insert(row.app.clone()?)? {
+        if self.apps.insert(AppKey::new(row.app.clone()?))? {
             self.winners.push(self.rows.len() as u32)?;
         }
         Ok(())

@@ -1,7 +1,9 @@
-use Rattle.std.proofs.Common.{◌<◌, length, false, refl, ◌∙◌, subst, arith, IfSome, Option}
+use Rattle.std.proofs.Common.{ℕ, List, ◌<◌, ◌≤◌, length, false, refl, sym, ◌∙◌, subst, arith, IfSome, Option}
 use Rattle.dep_rows.specs.Growing.{BringsIn, Hinders}
 use Rattle.dep_rows.specs.Refusal.{HasCause}
-use Rattle.dep_rows.proofs.Asking.{stands_root, winner_within, stands_more, stands_hindered, root_many, handed_on}
+use Rattle.dep_rows.specs.Rows.{AreRows}
+use Rattle.dep_rows.specs.declared.row.Row.{Row}
+use Rattle.dep_rows.proofs.Asking.{stands_root, winner_within, stands_more, stands_hindered, stands_end, root_many, handed_on}
 use Rattle.dep_rows.proofs.queue.rows.Goals as goal
 
 pub returns-then-root-gt-MOST_ROWS-clause-refused : goal.returns-then-root-gt-MOST_ROWS-clause-refused
@@ -65,3 +67,17 @@ loop-asked-preserved g c =
       made_over = c.in_ok-bring_in.ensures.made_over ∙ at.invariant.made_over;
       faults = c.in_ok-bring_in.ensures.cause.kept (refl {a = false}) ∙ at.invariant.faults;
     }
+
+pub returns-clause-read : goal.returns-clause-read
+returns-clause-read g c =
+    let at = c.loop-asked in
+    let test = c.loop-asked-test.false in
+    let counts = c.len.ensures in
+    let winners_long = at.listing.winners.ok.0 in
+    let past : length at.listing.winners.items ≤ at.asked = omega (arith, test, counts, winners_long) in
+    let meaning = g.C.Children.meaning c.args.children.now in
+    let root = c.args.root.now in
+    let found = c.into_rows.result in
+    subst (λ (rs : List Row). IfSome meaning (λ known. AreRows (g.C.Children.children_of known) root rs found.winners)) (sym c.into_rows.ensures.rows)
+    (subst (λ (ws : List ℕ). IfSome meaning (λ known. AreRows (g.C.Children.children_of known) root at.listing.rows.items ws)) (sym c.into_rows.ensures.winners)
+    (stands_end g.C.Children.children_of meaning root at.listing.rows.items at.listing.winners.items at.asked at.invariant.stands past))
