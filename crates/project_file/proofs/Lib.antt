@@ -1,0 +1,7 @@
+pub mod EntryLemmas
+pub mod FileLemmas
+pub mod PathLemmas
+pub mod ProjectLemmas
+pub mod SettingsLemmas
+pub mod ToldLemmas
+pub mod VersionLemmas
