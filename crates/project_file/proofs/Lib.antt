@@ -1,5 +1,6 @@
 pub mod EntryLemmas
 pub mod FileLemmas
+pub mod OneLemmas
 pub mod PathLemmas
 pub mod ProjectLemmas
 pub mod SettingsLemmas

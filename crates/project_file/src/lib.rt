@@ -8,6 +8,7 @@
 mod compilers;
 mod entries;
 mod error;
+mod laws;
 mod loading;
 mod manager;
 mod manifest;
@@ -16,6 +17,7 @@ mod settings;
 mod views;
 
 pub use error::{ProjectError, SettingsError};
+pub use laws::{one_project, one_settings};
 pub use loading::{load_project, load_settings, project_of_text};
 pub use manager::manager_by_files;
 pub use project::{Decls, Project};
