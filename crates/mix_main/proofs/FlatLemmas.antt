@@ -20,13 +20,13 @@ use Rattle.dep_options.specs.declared.decl.DepSource.{DepSource}
 use Rattle.dep_options.specs.declared.decl.DepSource.TheVariants.{Hex, Path}
 use Rattle.dep_options.specs.declared.error.OptionCause.{OptionCause}
 use Rattle.dep_options.specs.declared.error.OptionError.{OptionError}
-use Rattle.dep_options.specs.Decls.{Written, source_of, IsDecl, shape, requirement, option, source, good, AreDeclsFrom, end, refused, later, more, AreDecls, no_list, items}
+use Rattle.dep_options.specs.Decls.{Written, source_of, IsDecl, shape as decl_shape, requirement as decl_requirement, option as decl_option, source as decl_source, good as decl_good, AreDeclsFrom, end as decls_end, refused as decls_refused, later as decls_later, more as decls_more, AreDecls, no_list as decls_no_list, items as decls_items}
 use Rattle.dep_options.specs.Options.{is_kept_apart, first_of, folder_of, given, package_of}
 use Rattle.dep_options.specs.Views.{string_of, all_of}
 use Rattle.project_file.specs.declared.error.ProjectError.{ProjectError}
 use Rattle.project_file.specs.declared.project.Project.{Project}
 use Rattle.project_file.specs.Manifest.{IsProject}
-use Rattle.project_file.specs.Manifest.IsProject.{shape as unlike, bare, options as misdeclared, whole}
+use Rattle.project_file.specs.Manifest.IsProject.{shape as project_shape, bare as project_bare, options as project_options, whole as project_whole}
 use Rattle.mix_main.specs.declared.declaration.Declaration.{Declaration}
 use Rattle.mix_main.specs.Plan.{is_plain, lies_at, flat_of, differ, apps_differ, if_apps_differ, flat_declarations}
 
@@ -134,7 +134,7 @@ nothing_outside = λ k d h. absurd (omega (arith, h))
 
 -- the folder that a text led to, unless it is kept apart
 abbrev led_to : Result (List ℕ) PathError → Option (List ℕ)
-led_to (Ok dir) = if is_kept_apart (first_segment dir) then None else Some dir
+led_to (Ok dir) = cond (is_kept_apart (first_segment dir)) None (Some dir)
 led_to (Err e) = None
 
 led_outside : (led : Result (List ℕ) PathError) → IfSome (led_to led) IsOutside
@@ -168,27 +168,27 @@ source_apart base w =
     (value_outside base (first_of (codes "path") w.options))
 
 decl_apart : {base : List ℕ} {t : Term} {answer : Result Decl OptionCause} → IsDecl base t answer → IfOk answer (λ d. IsApart d.source)
-decl_apart (shape e) = tt
-decl_apart (requirement w e bad) = tt
-decl_apart (option w r e is fault) = tt
-decl_apart (source w r e is free lacks) = tt
-decl_apart {base = base} (good w r e is free has) = source_apart base w
+decl_apart (decl_shape e) = tt
+decl_apart (decl_requirement w e bad) = tt
+decl_apart (decl_option w r e is fault) = tt
+decl_apart (decl_source w r e is free lacks) = tt
+decl_apart {base = base} (decl_good w r e is free has) = source_apart base w
 
 decls_apart : {place : ℕ} {base : List ℕ} {ts : List Term} {answer : Result (List Decl) OptionError} → AreDeclsFrom place base ts answer → IfOk answer AreApart
-decls_apart end = tt
-decls_apart (refused is) = tt
-decls_apart (later is rest) = tt
-decls_apart (more is rest) = (decl_apart is, decls_apart rest)
+decls_apart decls_end = tt
+decls_apart (decls_refused is) = tt
+decls_apart (decls_later is rest) = tt
+decls_apart (decls_more is rest) = (decl_apart is, decls_apart rest)
 
 term_apart : {base : List ℕ} {t : Term} {answer : Result (List Decl) OptionError} → AreDecls base t answer → IfOk answer AreApart
-term_apart (no_list e) = tt
-term_apart (items ts e are) = decls_apart are
+term_apart (decls_no_list e) = tt
+term_apart (decls_items ts e are) = decls_apart are
 
 project_apart : {dir : List ℕ} {t : Term} {answer : Result Project ProjectError} → IsProject dir t answer → IfOk answer (λ p. AreApart p.decls)
-project_apart (unlike e) = tt
-project_apart (bare s e none) = tt
-project_apart (misdeclared s deps e some are) = tt
-project_apart (whole s deps e some are) = term_apart are
+project_apart (project_shape e) = tt
+project_apart (project_bare s e none) = tt
+project_apart (project_options s deps e some are) = tt
+project_apart (project_whole s deps e some are) = term_apart are
 
 lies_outside : (app : List ℕ) (at : DepSource) → IsApart at → IfSome (lies_at app at) (λ d. IsFalse (is_in_build d.dir))
 lies_outside app (Hex name) apart = tt
@@ -223,19 +223,6 @@ if_outside (Some ds) outs = at (apps_differ ds)
     at false = tt
 
 -- what a project declares lies outside the folder of builds
-pub declared_outside : (dir : List ℕ) (t : Term) (p : Project) (decls : List Decl) (ds : List Declaration) → IsProject dir t (Ok p) → decls ≡ p.decls → flat_declarations decls ≡ Some ds → All (λ d. IsFalse (is_in_build d.dir)) ds
-declared_outside dir t p decls ds is same e =
-    let apart : AreApart decls = subst AreApart (sym same) (project_apart is) in
-    subst (λ (o : Option (List Declaration)). IfSome o AreOutside) e (if_outside (all_of flat_of decls) (all_outside decls apart))
-
-are_unlike : (o : Option (List Declaration)) → IfSome (option_and_then if_apps_differ o) (λ ds. apps_differ ds ≡ true)
-are_unlike None = tt
-are_unlike (Some ds) = at (apps_differ ds) refl
-  where
-    at : (b : Bool) → apps_differ ds ≡ b → IfSome (cond b (Some ds) None) (λ xs. apps_differ xs ≡ true)
-    at true e = e
-    at false e = tt
-
--- what a project declares is of different apps
-pub declared_unlike : (decls : List Decl) (ds : List Declaration) → flat_declarations decls ≡ Some ds → apps_differ ds ≡ true
-declared_unlike decls ds e = subst (λ (o : Option (List Declaration)). IfSome o (λ xs. apps_differ xs ≡ true)) e (are_unlike (all_of flat_of decls))
+pub declared_outside : (dir : List ℕ) (t : Term) (p : Project) (ds : List Declaration) → IsProject dir t (Ok p) → flat_declarations p.decls ≡ Some ds → All (λ d. IsFalse (is_in_build d.dir)) ds
+declared_outside dir t p ds is e =
+    subst (λ (o : Option (List Declaration)). IfSome o AreOutside) e (if_outside (all_of flat_of p.decls) (all_outside p.decls (project_apart is)))

@@ -41,8 +41,14 @@ loaded_refused : (dir text : List ℕ) (files : List File) (e : ProjectError) �
 loaded_refused dir text files _ here (as_text why) = unread text here why
 loaded_refused dir text files _ here (as_term t read says) = refused text t here read says
 
+-- with a manifest that is a project, but none that is planned
+pub unplanned_meant : {X : Type 0} (found : Option (List ℕ)) (dir : List ℕ) (meaning : Loaded → Result X Refusal) (path text slice : List ℕ) (p : Project) (fault : PlanFault) → fault ≡ Refused (refused_project path project.Shape) → found ≡ Some text → slice ≡ text → (t : Term) × IsReadAs slice t × IsProject dir t (Ok p) → meaning (Ok (Some p)) ≡ Err (refused_project path project.Shape) → IsMeantBy found dir meaning (Err fault)
+unplanned_meant found dir meaning path text slice p fault told some same said is =
+    subst (λ (f : PlanFault). IsMeantBy found dir meaning (Err f)) (sym told)
+    (λ files at. loaded_meant found dir meaning (Err (refused_project path project.Shape)) text slice p some same said is files at)
+
 -- with a manifest that is refused
-pub refused_meant : {X : Type 0} (found : Option (List ℕ)) (dir : List ℕ) (meaning : Loaded → Result X Refusal) (path text slice : List ℕ) (e : ProjectError) → ((error : ProjectError) → meaning (Err error) ≡ Err (refused_project path error)) → found ≡ Some text → slice ≡ text → (IsFalse (is_outside e) → IsRefusedManifest dir slice e) → IsMeantBy found dir meaning (Err (manifest_fault path e))
+refused_meant : {X : Type 0} (found : Option (List ℕ)) (dir : List ℕ) (meaning : Loaded → Result X Refusal) (path text slice : List ℕ) (e : ProjectError) → ((error : ProjectError) → meaning (Err error) ≡ Err (refused_project path error)) → found ≡ Some text → slice ≡ text → (IsFalse (is_outside e) → IsRefusedManifest dir slice e) → IsMeantBy found dir meaning (Err (manifest_fault path e))
 refused_meant found dir meaning path text slice project.Read means some same why = λ files at. tt
 refused_meant found dir meaning path text slice (project.Term error) means some same why =
     λ files at. (Err (project.Term error), loaded_refused dir slice files (project.Term error) (there dir files found text slice some same at) (why refl), means (project.Term error))
@@ -51,6 +57,10 @@ refused_meant found dir meaning path text slice project.Shape means some same wh
 refused_meant found dir meaning path text slice (project.Options error) means some same why =
     λ files at. (Err (project.Options error), loaded_refused dir slice files (project.Options error) (there dir files found text slice some same at) (why refl), means (project.Options error))
 refused_meant found dir meaning path text slice project.OutOfMemory means some same why = λ files at. tt
+
+pub fault_meant : {X : Type 0} (found : Option (List ℕ)) (dir : List ℕ) (meaning : Loaded → Result X Refusal) (path text slice : List ℕ) (e : ProjectError) (fault : PlanFault) → fault ≡ manifest_fault path e → ((error : ProjectError) → meaning (Err error) ≡ Err (refused_project path error)) → found ≡ Some text → slice ≡ text → (IsFalse (is_outside e) → IsRefusedManifest dir slice e) → IsMeantBy found dir meaning (Err fault)
+fault_meant found dir meaning path text slice e fault told means some same why =
+    subst (λ (f : PlanFault). IsMeantBy found dir meaning (Err f)) (sym told) (refused_meant found dir meaning path text slice e means some same why)
 
 -- what is meant by the text that was found is meant by the files
 pub meant_by_files : {X : Type 0} (told : Option (List File)) (dir : List ℕ) (found : Option (List ℕ)) (meaning : Loaded → Result X Refusal) (meant : Result X PlanFault) → IfSome told (λ files. found ≡ bytes_at (manifest_at dir) files) → IsMeantBy found dir meaning meant → IfSome told (λ files. Says (IsMeant files dir meaning) meant)

@@ -57,10 +57,10 @@ fn declarations<S: Store>(alloc: Global, store: &mut S) -> Result<Vec<Declaratio
     ensures returned { S.folder_faults store.new ≡ S.folder_faults store.old }
     ensures cause { Counted (S.faults store.old) (S.faults store.new) (is_read result) }
 {
-    let root = RelPath::root(alloc);
-    let path = root.child(alloc, MANIFEST)?;
+    let folder = RelPath::root(alloc);
+    let path = folder.child(alloc, MANIFEST)?;
     let text = store.get(alloc, &path)?;
-    declared(alloc, &root, path, text)
+    declared(alloc, &folder, path, text)
 }
 
 // What the manifest that was found at the root's path declares.

@@ -254,8 +254,7 @@ fn the_first_refusal_of_a_declaration_is_told(rt: HostRuntime) -> Result<(), Fai
         let root = format!(in alloc; "[app: :demo, version: \"1.0.0\", deps: {deps}]")?;
         assert_refused(&rt, alloc, &root, 3, parts.next().unwrap_or(""))?;
     }
-    let root =
-        "[app: :demo, version: \"1.0.0\", deps: [{:c, path: \"c\"}, {:b, path: \"b\"}]]";
+    let root = "[app: :demo, version: \"1.0.0\", deps: [{:c, path: \"c\"}, {:b, path: \"b\"}]]";
     assert_refused(&rt, alloc, root, 9, "path missing: c c")
 }
 

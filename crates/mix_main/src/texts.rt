@@ -146,7 +146,8 @@ fn push_options(alloc: Global, line: &mut Vec<u8>, error: &OptionError) -> Resul
     line.extend_from_slice(b"dependency ")?;
     push_number(alloc, line, error.index)?;
     line.extend_from_slice(b": ")?;
-    push_cause(line, &error.cause)
+    push_cause(line, &error.cause)?;
+    Ok(())
 }
 
 fn push_cause(line: &mut Vec<u8>, cause: &OptionCause) -> Result<(), AllocError>

@@ -5,7 +5,6 @@ use Rattle.mx_base.specs.Order.{bytes_at}
 use Rattle.elixir_terms.specs.declared.error.TermError.{TermError}
 use Rattle.elixir_terms.specs.declared.term.Term.{Term}
 use Rattle.elixir_terms.specs.Refused.{Refuses, is_memory}
-use Rattle.project_file.specs.declared.error.SettingsError.{SettingsError}
 use Rattle.project_file.specs.declared.error.SettingsError.TheVariants as settings
 use Rattle.project_file.specs.declared.settings.Settings.{Settings}
 use Rattle.project_file.specs.Compilers.{settings_of, no_settings}

@@ -1,5 +1,5 @@
 -- What the refusals of inner calls become, and what a refusal says.
-use Rattle.std.specs.Prelude.{ℕ, List, Result, Ok, Err, Option, IsFalse, if◌then◌else◌}
+use Rattle.std.specs.Prelude.{ℕ, List, Err, if◌then◌else◌}
 use Rattle.elixir_terms.specs.declared.error.TermError.{TermError}
 use Rattle.elixir_terms.specs.declared.term.Term.{Term}
 use Rattle.elixir_terms.specs.Refused.{is_memory}

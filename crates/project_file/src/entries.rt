@@ -12,10 +12,7 @@ use mx_base::Text;
 use std::alloc::{AllocError, Global};
 
 /// The entries of a keyword list, or of a map whose keys are atoms.
-pub(crate) fn entries(
-    alloc: Global,
-    term: &Term,
-) -> Result<Option<Vec<(&Text, &Term)>>, AllocError>
+pub(crate) fn entries(alloc: Global, term: &Term) -> Result<Option<Vec<(&Text, &Term)>>, AllocError>
     ensures { IfOk result (λ found. option_map (λ es. named es.items) found ≡ entries_of term.now) }
 {
     if let Some(entries) = keywords(alloc, term)? {

@@ -59,11 +59,7 @@ fn project_found(
 }
 
 /// Reads the text of the manifest of a folder.
-pub fn project_of_text(
-    alloc: Global,
-    dir: &RelPath,
-    text: &[u8],
-) -> Result<Project, ProjectError>
+pub fn project_of_text(alloc: Global, dir: &RelPath, text: &[u8]) -> Result<Project, ProjectError>
     // What is answered is what the term says that the text spells.
     ensures ok { IfOk result (λ p. (t : Term) × IsReadAs text.now t × IsProject dir.now t (Ok p)) }
     // What is refused is the text, or its term, unless memory ran out.

@@ -27,11 +27,7 @@ pub(crate) struct Header<'a> {
 }
 
 /// What the term of a manifest in a folder says.
-pub(crate) fn project_in(
-    alloc: Global,
-    dir: &RelPath,
-    term: &Term,
-) -> Result<Project, ProjectError>
+pub(crate) fn project_in(alloc: Global, dir: &RelPath, term: &Term) -> Result<Project, ProjectError>
     ensures ok { IfOk result (λ p. IsProject dir.now term.now (Ok p)) }
     ensures refused { IfErr result (λ e. IsFalse (is_outside e) → IsProject dir.now term.now (Err e)) }
     ensures own { IsFalse (is_read result) }

@@ -1,4 +1,4 @@
-use Rattle.std.proofs.Common.{ℕ, List, IsFalse}
+use Rattle.std.proofs.Common.{IsFalse}
 use Rattle.project_file.specs.Files.{is_outside}
 use Rattle.project_file.specs.Refusals.{term_refused, IsRefusedManifest}
 use Rattle.project_file.proofs.ProjectLemmas.{handed_on, text_refused, term_says}

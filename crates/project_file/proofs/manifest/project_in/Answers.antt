@@ -1,4 +1,4 @@
-use Rattle.std.proofs.Common.{Err, IsFalse, ◌∙◌}
+use Rattle.std.proofs.Common.{Err, IsFalse}
 use Rattle.project_file.specs.Files.{is_outside}
 use Rattle.project_file.specs.Manifest.{IsProject}
 use Rattle.project_file.specs.Refusals.{options_refused}
