@@ -3,8 +3,8 @@ use Rattle.std.specs.List.{list_any}
 use Rattle.std.specs.BTreeSet.{UpdatesBy}
 use denote.Ref.{Bor}
 use Rattle.mx_base.specs.Order.{text_cmp}
-use Rattle.mix_main.proofs.ManifestLemmas.{apps_of, has_name, unlike_more, declared_twice, seen_more}
-use Rattle.mix_main.proofs.manifest.apps_differ.Goals as goal
+use Rattle.mix_main.proofs.FlatLemmas.{apps_of, has_name, unlike_more, declared_twice, seen_more}
+use Rattle.mix_main.proofs.flat.apps_differ.Goals as goal
 
 not_of : (added has : Bool) → added ≡ not has → added ≡ true → has ≡ false
 not_of added true e h = cc
