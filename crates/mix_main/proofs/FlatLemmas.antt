@@ -1,5 +1,5 @@
 -- Names that differ, and folders that are declared.
-use Rattle.std.proofs.Common.{◌≡◌, ℕ, ◌+◌, ◌<◌, Bool, true, false, not, cond, ◌&&◌, ◌||◌, List, [], ◌∷◌, ◌++◌, map, take, drop, length, get_or, Option, Some, None, IfSome, is_some, option_and_then, Result, Ok, Err, IfOk, All, IsFalse, codes, refl, sym, ◌∙◌, ap, subst, bytes_eq, append_assoc, arith}
+use Rattle.std.proofs.Common.{◌≡◌, ℕ, ◌+◌, ◌<◌, Bool, true, false, not, cond, ◌&&◌, ◌||◌, List, [], ◌∷◌, ◌++◌, map, take, drop, length, get_or, Option, Some, None, IfSome, option_and_then, Result, Ok, Err, IfOk, All, IsFalse, codes, refl, sym, ◌∙◌, ap, subst, bytes_eq, append_assoc, arith}
 use Rattle.std.specs.List.{list_any, AllByRecursion}
 use Rattle.std.specs.BTreeSet.{BTreeSet, contains_by, UpdatesBy}
 use Rattle.std.specs.Cmp.Lexicographic.{texts_ties}

@@ -1,5 +1,5 @@
 -- Files have one plan.
-use Rattle.std.proofs.Common.{◌≡◌, ℕ, List, [], ◌∷◌, Option, Result, Ok, Err, MatchResult, sym, ◌∙◌, ap, subst}
+use Rattle.std.proofs.Common.{◌≡◌, ℕ, List, [], ◌∷◌, Result, Ok, Err, MatchResult, sym, ◌∙◌, ap, subst}
 use Rattle.mx_base.specs.declared.file.File.{File}
 use Rattle.elixir_terms.proofs.ReadLemmas.{spells_one}
 use Rattle.version_req.proofs.Complete.{one_requirement}

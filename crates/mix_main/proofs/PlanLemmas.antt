@@ -1,5 +1,5 @@
 -- What manifests mean, jobs of declarations, and the plan, one declaration after another.
-use Rattle.std.proofs.Common.{◌≡◌, ℕ, suc, ◌+◌, ◌<◌, Bool, true, false, List, [], ◌∷◌, ◌++◌, map, filter_map, drop, length, get_or, Option, Some, None, IfSome, Result, Ok, Err, MatchResult, MatchOption, All, IsFalse, refl, sym, ◌∙◌, ap, subst, append_assoc, append-nil, add-one, drop-cons, eqb, arith}
+use Rattle.std.proofs.Common.{◌≡◌, ℕ, suc, ◌+◌, ◌<◌, Bool, true, false, List, [], ◌∷◌, ◌++◌, map, filter_map, drop, length, get_or, Option, Some, None, IfSome, Result, Ok, Err, MatchResult, All, IsFalse, refl, sym, ◌∙◌, ap, subst, append_assoc, append-nil, add-one, drop-cons, eqb, arith}
 use Rattle.std.specs.Result.{IsErrAnd}
 use Rattle.std.proofs.lemmas.Bool.{eqb-true, eqb-false}
 use Rattle.std.proofs.lemmas.List.{nil_from_length, map-append}

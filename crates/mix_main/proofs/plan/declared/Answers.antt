@@ -1,4 +1,4 @@
-use Rattle.std.proofs.Common.{◌≡◌, ℕ, List, [], Option, Some, Ok, Err, option_map, refl, sym, ◌∙◌, ap, subst}
+use Rattle.std.proofs.Common.{ℕ, List, [], Ok, Err, option_map, refl, sym, ◌∙◌, ap, subst}
 use Rattle.elixir_terms.specs.declared.term.Term.{Term}
 use Rattle.project_file.specs.declared.error.ProjectError.TheVariants.{Shape}
 use Rattle.project_file.specs.Files.{IsReadAs}

@@ -1,4 +1,4 @@
-use Rattle.std.proofs.Common.{◌≡◌, ℕ, List, Option, Ok, Err, sym, ◌∙◌, ap}
+use Rattle.std.proofs.Common.{ℕ, List, Ok, Err, sym, ◌∙◌, ap}
 use Rattle.mx_base.specs.Order.{bytes_at}
 use Rattle.project_file.specs.declared.error.ProjectError.TheVariants.{Shape}
 use Rattle.project_file.specs.Files.{manifest_at}
