@@ -259,35 +259,6 @@ fn the_first_refusal_of_a_declaration_is_told(rt: HostRuntime) -> Result<(), Fai
 }
 
 #[test]
-fn a_bad_option_changes_nothing(rt: HostRuntime) -> Result<(), Fail> {
-    let alloc = rt.alloc();
-    let files = [(
-        "project.exs",
-        "[app: :demo, version: \"1.0.0\", deps: [{:a, pth: \"a\"}]]",
-    )];
-    let mut store = MemStore::new(
-        alloc,
-        project(alloc, &files)?,
-        failing(alloc, 0)?,
-        failing(alloc, 0)?,
-        failing(alloc, 0)?,
-    );
-    let env = AppName::of(alloc, b"dev")?;
-    let app = AppName::of(alloc, b"a")?;
-    let path = RelPath::join(alloc, &RelPath::root(alloc), b"old")?;
-    let mut folder = store.folder(alloc, &env, &app)?;
-    folder.put(alloc, &path, b"O")?;
-    store.give_back(folder);
-    let mut out = MemSink::new(alloc, Vec::new(alloc));
-    let words = words(alloc, &["deps.compile"])?;
-    let status = run(alloc, &words, &mut store, &mut EchoCompiler, &mut out);
-    assert_eq!(rt; status.code(), 3);
-    let left = store.folder(alloc, &env, &app)?.files(alloc)?;
-    assert_eq!(rt; left.as_slice().len(), 1);
-    Ok(())
-}
-
-#[test]
 fn manifests_are_keyword_lists_or_maps(rt: HostRuntime) -> Result<(), Fail> {
     let files = [
         (
