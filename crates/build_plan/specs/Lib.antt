@@ -1,0 +1,9 @@
+pub mod Dependencies
+pub mod Faults
+pub mod Found
+pub mod Jobs
+pub mod Lines
+pub mod Needs
+pub mod Options
+pub mod Plan
+pub mod Sources

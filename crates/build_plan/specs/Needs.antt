@@ -1,0 +1,36 @@
+-- What the apps that are reached need directly.
+use Rattle.std.specs.Prelude.{ℕ, Bool, false, ◌==◌, List, map, filter, filter_map, position, Option, Some, None, option_map, option_and_then, slice_get, nat_eq, bytes_eq}
+use Rattle.dep_rows.specs.declared.row.Row.{Row}
+
+-- the row is a child of the winner at this place
+abbrev pub is_child_at : ℕ → Option ℕ → Bool
+is_child_at place None = false
+is_child_at place (Some by) = nat_eq place by
+
+-- the app of the row at a place
+abbrev pub app_of : List Row → ℕ → Option (List ℕ)
+app_of rows place = option_map (λ row. row.app) (slice_get rows place)
+
+-- the app stands at the place
+abbrev pub is_app_at : List Row → List ℕ → ℕ → Bool
+is_app_at rows app place = is_app app (app_of rows place)
+  where
+    is_app : List ℕ → Option (List ℕ) → Bool
+    is_app app None = false
+    is_app app (Some other) = bytes_eq app other
+
+-- which of these winners is the app's, from 0
+abbrev pub node_of : List Row → List ℕ → List ℕ → Option ℕ
+node_of rows places app = position (is_app_at rows app) places
+
+-- what the winner at a place needs directly: the apps among its children, optional or not, that have a winner among these
+abbrev pub direct_needs : List Row → List ℕ → ℕ → List ℕ
+direct_needs rows places place = filter_map (λ row. node_of rows places row.app) (filter (λ row. is_child_at place row.by) rows)
+
+-- the graph of these winners
+abbrev pub graph_of : List Row → List ℕ → List (List ℕ)
+graph_of rows places = map (direct_needs rows places) places
+
+-- the apps of these winners' places in the graph
+abbrev pub apps_of : List Row → List ℕ → List ℕ → List (List ℕ)
+apps_of rows places nodes = filter_map (λ node. option_and_then (app_of rows) (slice_get places node)) nodes

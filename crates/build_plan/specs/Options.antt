@@ -1,0 +1,55 @@
+-- The options text of a job: all that its declaration says of how it is compiled, as a printed term.
+use Rattle.std.specs.Prelude.{ℕ, Bool, true, false, List, [], ◌∷◌, map, codes}
+use Rattle.elixir_terms.specs.declared.term.Term.{Term}
+use Rattle.elixir_terms.specs.declared.term.Term.TheVariants.{Atom, Str, List as Elements, Tuple}
+use Rattle.elixir_terms.specs.Printed.{printed}
+use Rattle.mx_base.specs.declared.variable.Variable.{Variable}
+use Rattle.compile_model.specs.declared.how.How.{How}
+use Rattle.compile_model.specs.declared.how.How.TheVariants.{Nothing, Unit as ByUnit, Program}
+use Rattle.dep_options.specs.declared.decl.Decl.{Decl}
+use Rattle.dep_options.specs.declared.decl.CompileBy.{CompileBy}
+use Rattle.dep_options.specs.declared.decl.CompileBy.TheVariants as by
+use Rattle.dep_options.specs.declared.decl.Manager.{Manager}
+use Rattle.dep_options.specs.declared.decl.Manager.TheVariants.{Mix, Rebar3, Make}
+
+abbrev pub keyword : List ℕ → Term → Term
+keyword name value = Tuple (Atom name ∷ value ∷ [])
+
+abbrev pub truth : Bool → Term
+truth true = Atom (codes "true")
+truth false = Atom (codes "false")
+
+abbrev pub manager_name : Manager → List ℕ
+manager_name Mix = codes "mix"
+manager_name Rebar3 = codes "rebar3"
+manager_name Make = codes "make"
+
+-- what the declaration says: a command, or whether it is compiled
+abbrev pub compile_term : CompileBy → Term
+compile_term by.Manager = truth true
+compile_term (by.Command text) = Str text
+compile_term by.Nothing = truth false
+
+-- by what it is compiled
+abbrev pub compiler_term : How → Term
+compiler_term Nothing = Atom (codes "none")
+compiler_term ByUnit = Atom (codes "unit")
+compiler_term (Program words) = Elements (map (λ word. Str word) words)
+
+abbrev pub variable_term : Variable → Term
+variable_term variable = Tuple (Str variable.name ∷ Str variable.value ∷ [])
+
+abbrev pub options_term : List ℕ → Decl → Manager → How → Term
+options_term version decl manager how = Elements (
+    keyword (codes "app") (Atom decl.app)
+    ∷ keyword (codes "version") (Str version)
+    ∷ keyword (codes "env") (Atom decl.env)
+    ∷ keyword (codes "manager") (Atom (manager_name manager))
+    ∷ keyword (codes "compile") (compile_term decl.compile)
+    ∷ keyword (codes "compiler") (compiler_term how)
+    ∷ keyword (codes "app_file") (truth decl.app_file)
+    ∷ keyword (codes "system_env") (Elements (map variable_term decl.system_env))
+    ∷ [])
+
+abbrev pub options_text : List ℕ → Decl → Manager → How → List ℕ
+options_text version decl manager how = printed (options_term version decl manager how)

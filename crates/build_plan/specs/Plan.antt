@@ -1,0 +1,65 @@
+-- The plan of a project in an environment, or the first refusal of its files.
+use Rattle.std.specs.Prelude.{◌≡◌, ◌⊎◌, ℕ, ◌<◌, ◌≤◌, List, [], ◌∷◌, ◌++◌, length, Option, Some, None, Result, Ok, Err, IsTrue, codes}
+use Rattle.semver.specs.declared.Version.{Version}
+use Rattle.mx_base.specs.declared.file.File.{File}
+use Rattle.compile_model.specs.declared.job.Job.{Job}
+use Rattle.converger.specs.declared.divergence.Divergence.{Divergence}
+use Rattle.converger.specs.Converged.{NoneDiverges}
+use Rattle.converger.specs.Divergence.{AreDivergences}
+use Rattle.converger.specs.Reach.{AreReached}
+use Rattle.dep_options.specs.declared.decl.Decl.{Decl}
+use Rattle.dep_order.specs.Cycle.{IsCycleOf}
+use Rattle.dep_order.specs.Listing.{IsOrderOf}
+use Rattle.dep_rows.specs.declared.row.Row.{Row}
+use Rattle.dep_rows.specs.Rows.{AreRows, Meets, PassesLimit, most_rows}
+use Rattle.project_file.specs.declared.error.ProjectError.{ProjectError}
+use Rattle.project_file.specs.declared.error.SettingsError.{SettingsError}
+use Rattle.project_file.specs.declared.project.Project.{Project}
+use Rattle.project_file.specs.declared.settings.Settings.{Settings}
+use Rattle.project_file.specs.Files.{IsLoaded, AreSettings, manifest_at}
+use Rattle.build_plan.specs.declared.children.ChildFault.{ChildFault}
+use Rattle.build_plan.specs.declared.error.DivergedLine.{DivergedLine}
+use Rattle.build_plan.specs.declared.error.PlanError.{PlanError}
+use Rattle.build_plan.specs.declared.error.PlanError.TheVariants as refused
+use Rattle.build_plan.specs.Dependencies.{AreChildren, AreVersions}
+use Rattle.build_plan.specs.Faults.{of_child}
+use Rattle.build_plan.specs.Jobs.{AreFirstJobs, AllFit, is_too_large}
+use Rattle.build_plan.specs.Lines.{AreLines}
+use Rattle.build_plan.specs.Needs.{graph_of, apps_of}
+
+-- the settings, and the manifest of the root
+pub record IsRoot (files : List File) (settings : Settings) (root : Project) : Type 0 where
+  pub set : AreSettings files (Ok settings)
+  pub loaded : IsLoaded files [] (Ok (Some root))
+
+-- the rows of the root, within the limit, with the versions of their winners
+pub record AreListed (files : List File) (root : List Decl) (rows : List Row) (winners : List ℕ) (versions : List (Option Version)) : Type 0 where
+  pub listed : AreRows (AreChildren files) root rows winners
+  pub few : length rows ≤ most_rows
+  pub known : AreVersions files rows winners versions
+
+-- why the rows of a root can't be had: a dependency is refused, or there are too many
+abbrev pub RefusesRows : List File → List Decl → PlanError → Type 0
+RefusesRows files root error =
+    ((fault : ChildFault) × Meets (AreChildren files) root fault × (error ≡ of_child fault)) ⊎ (PassesLimit (AreChildren files) root × (error ≡ refused.TooManyRows))
+
+-- rows that live together, and the winners that the environment reaches
+pub record Converge (files : List File) (env : List ℕ) (root : List Decl) (rows : List Row) (places : List ℕ) : Type 0 where
+  pub winners : List ℕ
+  pub versions : List (Option Version)
+  pub listed : AreListed files root rows winners versions
+  pub together : NoneDiverges rows winners versions
+  pub reached : AreReached rows env places
+
+-- what is met first: a refusal of the settings, of the root, of a dependency or of the number of rows, then all
+-- divergences, a cycle, and the first app past a limit; else the jobs in converged order
+pub data IsPlan (files : List File) (env : List ℕ) : Result (List Job) PlanError → Type 0 where
+  settings : {error : SettingsError} → AreSettings files (Err error) → IsPlan files env (Err (refused.Settings error))
+  no_project : (settings : Settings) → AreSettings files (Ok settings) → IsLoaded files [] (Ok None) → IsPlan files env (Err refused.NoProject)
+  project : (settings : Settings) {fault : ProjectError} → AreSettings files (Ok settings) → IsLoaded files [] (Err fault) → IsPlan files env (Err (refused.Project (manifest_at []) fault))
+  dependency : (settings : Settings) (root : Project) {fault : ChildFault} → IsRoot files settings root → Meets (AreChildren files) root.decls fault → IsPlan files env (Err (of_child fault))
+  too_many : (settings : Settings) (root : Project) → IsRoot files settings root → PassesLimit (AreChildren files) root.decls → IsPlan files env (Err refused.TooManyRows)
+  diverged : (settings : Settings) (root : Project) (rows : List Row) (winners : List ℕ) (versions : List (Option Version)) (divergences : List Divergence) {lines : List DivergedLine} → IsRoot files settings root → AreListed files root.decls rows winners versions → AreDivergences rows winners versions divergences → 0 < length divergences → AreLines rows divergences lines → IsPlan files env (Err (refused.Diverged lines))
+  cycle : (settings : Settings) (root : Project) (rows : List Row) (places nodes : List ℕ) → IsRoot files settings root → Converge files env root.decls rows places → IsCycleOf (graph_of rows places) nodes → IsPlan files env (Err (refused.Cycle (apps_of rows places nodes)))
+  too_large : (settings : Settings) (root : Project) (rows : List Row) (places order : List ℕ) (jobs : List Job) (job : Job) → IsRoot files settings root → Converge files env root.decls rows places → IsOrderOf (graph_of rows places) order → AreFirstJobs files settings rows places order (jobs ++ job ∷ []) → AllFit jobs → IsTrue (is_too_large jobs job) → IsPlan files env (Err (refused.TooLarge job.app))
+  planned : (settings : Settings) (root : Project) (rows : List Row) (places order : List ℕ) {jobs : List Job} → IsRoot files settings root → Converge files env root.decls rows places → IsOrderOf (graph_of rows places) order → AreFirstJobs files settings rows places order jobs → length jobs ≡ length order → AllFit jobs → IsPlan files env (Ok jobs)

@@ -1,0 +1,51 @@
+// Why a project has no plan.
+
+use converger::Rule;
+use mx_base::{AppName, ListOf, Names, RelPath};
+use project_file::{ProjectError, SettingsError};
+
+/// Where the two declarations of a divergence stand.
+#[derive(Debug, Drop)]
+pub struct DivergedLine {
+    pub rule: Rule,
+    pub app: AppName,
+    /// The app that declares the winner, none where the root does.
+    pub winner_by: Option<AppName>,
+    /// The winner's place among the declarations of that manifest, from 0.
+    pub winner_index: u32,
+    /// The app that declares the other, none where the root does.
+    pub other_by: Option<AppName>,
+    /// The other's place among the declarations of that manifest, from 0.
+    pub other_index: u32,
+}
+
+/// One line for each divergence, by row and then by rule.
+pub type DivergedLines = ListOf<DivergedLine>;
+
+/// Why a project has no plan: what is met first.
+#[derive(Debug, Drop)]
+pub enum PlanError {
+    /// The store failed, and counted it. This says nothing of the files.
+    Read,
+    /// The settings are refused.
+    Settings(SettingsError),
+    /// There is no `project.exs`.
+    NoProject,
+    /// The manifest at this path is refused.
+    Project { path: RelPath, fault: ProjectError },
+    /// No file lies below the folder of a dependency.
+    PathMissing { app: AppName, dir: RelPath },
+    /// The app comes from the registry, and no version of it is locked.
+    NotLocked(AppName),
+    /// There are more than 65,536 declarations.
+    TooManyRows,
+    /// Some declarations can't live together with the winners of their apps.
+    Diverged(DivergedLines),
+    /// The apps of a cycle, each of which needs the next one, and the last one the first.
+    Cycle(Names),
+    /// The first app that passes a limit: the jobs of the environment, its sources, the sources of all, or what is
+    /// sent of its job.
+    TooLarge(AppName),
+    /// There was not enough memory. This says nothing of the files.
+    OutOfMemory,
+}

@@ -1,0 +1,18 @@
+//! The plan of a project: its files, an environment, and the jobs in the order in which they are compiled.
+//!
+//! It brings together the rows of `dep_rows`, the rules of `converger`, the order of `dep_order` and the manifests of
+//! `project_file`. A layer above may rely on this: `plan` answers the one plan that the files have, or the refusal
+//! that is met first; nothing is written.
+#![tactic(auto)]
+
+mod children;
+mod dependencies;
+mod error;
+mod found;
+mod plan;
+mod sources;
+mod versions;
+
+pub use children::ChildFault;
+pub use error::{DivergedLine, DivergedLines, PlanError};
+pub use plan::plan;

@@ -1,0 +1,12 @@
+//! How each dependency is compiled: by which compiler, or by which words of a program.
+//!
+//! It stands on the settings of `project_file`. A layer above may rely on this: `command` answers what the settings
+//! and the declaration say.
+#![tactic(auto)]
+
+mod command;
+
+pub use command::command;
+
+#[cfg(test)]
+mod tests;
