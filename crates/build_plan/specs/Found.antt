@@ -36,4 +36,4 @@ pub record IsFoundAt (rows : List Row) (place : ℕ) (found : Found) : Type 0 wh
 -- the sources of a dependency: all of them, or they are more than a dependency may have or than there is room for
 abbrev pub AreSources : List File → List ℕ → ℕ → Option (List File) → Type 0
 AreSources files dir room sources =
-    MatchOption sources (λ all. all ≡ sources_of dir files) ((most_files < length (sources_of dir files)) ⊎ (room < bytes_in (sources_of dir files)))
+    MatchOption sources ((most_files < length (sources_of dir files)) ⊎ (room < bytes_in (sources_of dir files))) (λ all. all ≡ sources_of dir files)

@@ -9,10 +9,10 @@ mod children;
 mod dependencies;
 mod error;
 mod found;
-mod plan;
+mod planning;
 mod sources;
 mod versions;
 
 pub use children::ChildFault;
 pub use error::{DivergedLine, DivergedLines, PlanError};
-pub use plan::plan;
+pub use planning::plan;

@@ -1,13 +1,14 @@
 // A compiler that copies its sources.
-ghost use Rattle.std.specs.Prelude.{◌≡◌, [], ◌∷◌, ◌++◌, IfOk, OnOk, find, flat_map, filter};
+ghost use Rattle.std.specs.Prelude.{◌≡◌, [], ◌∷◌, ◌++◌, length, map, IfOk, OnOk, find, flat_map, filter};
 ghost use Rattle.std.specs.Option.{option_copied};
 ghost use Rattle.compile_model.specs.Content.{content_of};
+ghost use Rattle.compile_model.specs.Planned.{IsNamed};
 ghost use Rattle.compile_model.specs.Echo.{echo_of, echo_file, echo_bytes, is_named, is_copied, bytes_of, echo_failed_is_bare, echo_files_in_order, echo_nothing_is_empty};
 
 use crate::compiler::{CompileFault, Compiler, Input, Meaning};
 use crate::how::How;
 use crate::outcome::Outcome;
-use mx_base::{Bytes, File, Files, RelPath};
+use mx_base::{Bytes, File, Files, RelPath, Shared};
 use std::alloc::{AllocError, Global};
 
 /// Copies sources into one output file, and never dies. A source `fail` makes a job fail with its text, and
@@ -77,6 +78,8 @@ fn has_name(file: &File, name: &str) -> bool
 
 #[tactic(auto, using(mx_base::proofs::NameLemmas::name_with_ending))]
 fn echo_files(alloc: Global, input: &Input) -> Result<Files, AllocError>
+    requires needs { length input.now.needs.now ≡ length input.now.job.now.needs }
+    requires named { IsNamed input.now.job.now }
     ensures { IfOk result (λ files. files ≡ echo_file (content_of input.now.job.now input.now.needs.now) ∷ []) }
 {
     let mut name = String::from_str(alloc, input.job.app.as_str())?;
@@ -89,16 +92,25 @@ fn echo_files(alloc: Global, input: &Input) -> Result<Files, AllocError>
     Ok(Files::from_vec(files))
 }
 
+#[tactic(auto, using(crate::proofs::EchoLemmas::echoed_needs))]
 fn echoed(alloc: Global, input: &Input) -> Result<Vec<u8>, AllocError>
+    requires needs { length input.now.needs.now ≡ length input.now.job.now.needs }
+    requires named { IsNamed input.now.job.now }
     ensures { IfOk result (λ bytes. bytes.items ≡ echo_bytes (content_of input.now.job.now input.now.needs.now)) }
 {
     let mut bytes = Vec::new(alloc);
     push_copied(&mut bytes, input.job.sources.as_slice())?;
-    let needs = input.needs;
-    for need in needs {
-        push_files(&mut bytes, need.get().files.as_slice())?;
-    }
+    push_needs(&mut bytes, input.needs)?;
     Ok(bytes)
+}
+
+fn push_needs(bytes: &mut Vec<u8>, needs: &[Shared<Outcome>]) -> Result<(), AllocError>
+    ensures { OnOk result (bytes.new.items ≡ bytes.old.items ++ flat_map bytes_of (map (λ o. o.files) needs.now)) }
+{
+    for need in needs {
+        push_files(bytes, need.get().files.as_slice())?;
+    }
+    Ok(())
 }
 
 fn push_copied(bytes: &mut Vec<u8>, sources: &[File]) -> Result<(), AllocError>

@@ -4,9 +4,9 @@
 //! and the declaration say.
 #![tactic(auto)]
 
-mod command;
+mod commands;
 
-pub use command::command;
+pub use commands::command;
 
 #[cfg(test)]
 mod tests;
