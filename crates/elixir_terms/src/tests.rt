@@ -1,6 +1,6 @@
 // Texts that are read, and texts that are refused.
 
-use crate::{Term, TermCause, TermError, one_reading, print, read};
+use crate::{Feature, Term, TermCause, TermError, one_reading, one_refusal, print, read};
 use mx_base::Bytes;
 use std::alloc::Global;
 use std::test::Fail;
@@ -13,12 +13,33 @@ fn printed(alloc: Global, text: &[u8]) -> Result<Bytes, Fail> {
 fn is_refused(alloc: Global, text: &[u8]) -> bool {
     match read(alloc, text) {
         Ok(_) => false,
-        Err(error) => error
-            == TermError {
-                at: 0,
-                cause: TermCause::NotRead,
-            },
+        Err(error) => error.cause != TermCause::OutOfMemory,
     }
+}
+
+fn is_refused_at(alloc: Global, text: &str, at: u64, cause: TermCause) -> bool {
+    match read(alloc, text.as_bytes()) {
+        Ok(_) => false,
+        Err(error) => error == TermError { at, cause },
+    }
+}
+
+#[test]
+fn the_first_refusal_is_told(rt: HostRuntime) -> Result<(), Fail> {
+    let alloc = rt.alloc();
+    one_refusal();
+    assert!(rt; is_refused_at(alloc, "1.5", 1, TermCause::Unsupported(Feature::Float)));
+    assert!(rt; is_refused_at(alloc, "{:a, 1.5}", 6, TermCause::Unsupported(Feature::Float)));
+    assert!(rt; is_refused_at(alloc, "~r(x)", 0, TermCause::Unsupported(Feature::Sigil)));
+    assert!(rt; is_refused_at(alloc, "\"#{x}\"", 1, TermCause::Unsupported(Feature::Interpolation)));
+    assert!(rt; is_refused_at(alloc, "Foo", 0, TermCause::Unsupported(Feature::Alias)));
+    assert!(rt; is_refused_at(alloc, "\"\\q\"", 1, TermCause::BadEscape));
+    assert!(rt; is_refused_at(alloc, "%{a: 1, a: 2}", 8, TermCause::DuplicateKey));
+    assert!(rt; is_refused_at(alloc, "1 2", 2, TermCause::TrailingText));
+    assert!(rt; is_refused_at(alloc, "[a]", 2, TermCause::Unexpected));
+    assert!(rt; is_refused_at(alloc, "[1,", 3, TermCause::Unclosed));
+    assert!(rt; is_refused_at(alloc, "", 0, TermCause::Unclosed));
+    Ok(())
 }
 
 #[test]
