@@ -48,7 +48,9 @@ pub mod ScanLemmas
 pub mod IntegerFaults
 pub mod NameFaults
 pub mod TokenFaults
+pub mod DepthLemmas
 pub mod HistoryLemmas
+pub mod MoveLemmas
 pub mod ReaderLemmas
 pub mod SpellLemmas
 pub mod SpelledLemmas

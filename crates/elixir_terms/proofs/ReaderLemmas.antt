@@ -6,7 +6,7 @@ use Rattle.std.proofs.Math.Seq.{take-append-add}
 use Rattle.std.proofs.lemmas.Bool.{cases_lt}
 use Rattle.std.proofs.Math.Nat.{eq-or-lt_of_le}
 use Rattle.std.proofs.Math.ListN.{set}
-use Rattle.std.proofs.lemmas.List.{get_or-set_same, get_or-set_other, length-set}
+use Rattle.std.proofs.lemmas.List.{get_or_read, get_or-set_same, get_or-set_other, length-set}
 use Rattle.elixir_terms.specs.declared.bracket.Bracket.{Bracket}
 use Rattle.std.proofs.lemmas.Bool.{true≢false, false≢true, and_parts, and_from}
 use Rattle.std.proofs.lemmas.List.{append-nil, length-append, take-append-drop, length-take-le, take_all}
@@ -46,6 +46,7 @@ use Rattle.elixir_terms.proofs.BlankLemmas.{blanks_stop, blanks_meet}
 use Rattle.elixir_terms.proofs.CalmLemmas.{calm, Marred, fraction, quotes}
 use Rattle.elixir_terms.proofs.SnagLemmas.{small_not_deep, Snag, ties, snag, NotDone, fault_stop, fault_least, InKey, in_key, held_narrow}
 use Rattle.elixir_terms.proofs.DeepLemmas.{needs}
+use Rattle.elixir_terms.proofs.DepthLemmas.{few_holes}
 use Rattle.elixir_terms.proofs.ApartLemmas.{begins_allow, part_allow}
 use Rattle.elixir_terms.proofs.CodeLemmas.{one_from}
 use Rattle.elixir_terms.proofs.HistoryLemmas.{History, AfterEntryKey, InHoles, step_history, element_map}
@@ -499,18 +500,6 @@ loop_reads text s rest begun l = record { tokens = l.tokens; trail = l.trail }
 pub loop_first : (text rest begun : List ℕ) → length begun ≡ 65 → Blanks text rest → past_blank rest ≡ None → Loop text start rest begun
 loop_first text rest begun places blanks solid = record { tokens = []; trail = rests blanks solid; history = refl; places = places }
 
-few_holes : (holes : List Hole) → length holes ≤ levels holes
-few_holes [] = omega arith
-few_holes (hole ∷ holes) = let h = few_holes holes in let c = some_cost hole.slot hole.frame.bracket in omega arith
-  where
-    some_cost : (place : Slot) (kind : Bracket) → 1 ≤ cost_in place kind
-    some_cost slot.Element kind = omega arith
-    some_cost slot.EntryKey kind = omega arith
-    some_cost (slot.EntryValue entry) kind = omega arith
-    some_cost (slot.Keyword name) bracket.List = omega arith
-    some_cost (slot.Keyword name) bracket.Tuple = omega arith
-    some_cost (slot.Keyword name) bracket.Map = omega arith
-
 element_depth : (frame : Frame) (holes : List Hole) → StateFits (state.Element frame holes) → length holes < 65
 element_depth frame holes f = let all = holes_all holes f.0 f.2 in let few = few_holes holes in omega arith
 
@@ -560,3 +549,11 @@ loop_again text s (state.Value holes) rest after begun short utf8 n m old = absu
 loop_again text s (state.Element frame holes) rest after begun short utf8 n m old = absurd (old tt)
 loop_again text s (state.Separator frame holes) rest after begun short utf8 n m old = absurd (old tt)
 loop_again text s (state.Done t) rest after begun short utf8 n m old = absurd (old tt)
+
+-- with the place as it is read
+pub loop_again_at : (text : List ℕ) (s next : State) (rest after begun : List ℕ) (d here : ℕ) → length text ≤ longest → IsUtf8 text → Noted text s rest begun → Moves s rest next after → (NewEntry next → ⊥) → d ≡ depth next → d ≤ 64 → here ≡ get_or begun d here → (at : ℕ) × (at + here ≡ length text) × far.IsRefusal text at cause.DuplicateKey
+loop_again_at text s next rest after begun d here short utf8 n m old same few read =
+    let places = n.loop.places in
+    let r = loop_again text s next rest after begun short utf8 n m old in
+    let place : here ≡ get_or begun (depth next) 0 = get_or_read begun d here (omega arith) read 0 ∙ ap (λ i. get_or begun i 0) same in
+    (r.0, subst (λ x. r.0 + x ≡ length text) (sym place) r.1, r.2)
