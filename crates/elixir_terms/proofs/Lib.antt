@@ -1,6 +1,7 @@
 pub mod OptionLemmas
 pub mod BlankLemmas
 pub mod NameLemmas
+pub mod Utf8Lemmas
 pub mod StringLemmas
 pub mod NumberLemmas
 pub mod IntegerLemmas
@@ -21,3 +22,13 @@ pub mod Shows
 pub mod PrintedBytes
 pub mod PrintedTokens
 pub mod PrintedTerms
+pub mod StuckLemmas
+pub mod FaultLemmas
+pub mod SignFaults
+pub mod AtomFaults
+pub mod StringFaults
+pub mod WordFaults
+pub mod ScanLemmas
+pub mod IntegerFaults
+pub mod NameFaults
+pub mod TokenFaults

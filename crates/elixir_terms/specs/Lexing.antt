@@ -123,10 +123,6 @@ quoted_past (byte ∷ text) zero = if byte == 34 then Some ([], text) else (if b
 abbrev pub quoted_at : List ℕ → Found (List ℕ)
 quoted_at text = quoted_past text 0
 
-abbrev pub after_quote : List ℕ → Option (List ℕ)
-after_quote [] = None
-after_quote (byte ∷ text) = if byte == 34 then Some text else None
-
 abbrev pub after_escape : Option (List ℕ × ℕ) → List ℕ → Found (List ℕ)
 after_escape word text = option_map (λ f. (f.0, drop f.1 text)) word
 
@@ -305,12 +301,3 @@ IsNarrow token = Unit {0}
 abbrev pub IsWide : Token → Type 0
 IsWide (Int n) = IsNarrow (Int n) → ⊥
 IsWide token = ⊥
-
-abbrev pub IsNoneOrWide : Found Token → Type 0
-IsNoneOrWide None = Unit {0}
-IsNoneOrWide (Some found) = IsWide found.0
-
--- what is there is read, unless it is an integer outside 128 bits or memory ran out
-abbrev pub LexesBy : {X : Type 0} → (X → Token × List ℕ) → Result X TermError → Found Token → Type 0
-LexesBy view (Ok x) expected = (expected ≡ Some (view x)) × IsNarrow (view x).0
-LexesBy view (Err error) expected = IsFalse (is_memory error.cause) → (error ≡ not_read) × IsNoneOrWide expected

@@ -14,3 +14,5 @@ pub mod Printable
 pub mod Levels
 pub mod Limits
 pub mod Machine
+pub mod Local
+pub mod Lexed

@@ -10,7 +10,7 @@ use Rattle.elixir_terms.specs.declared.error.TermCause.TheVariants.{NotRead, Out
 -- want of memory, which says nothing of the text
 abbrev pub is_memory : TermCause → Bool
 is_memory OutOfMemory = true
-is_memory NotRead = false
+is_memory cause = false
 
 -- the whole text is refused
 abbrev pub not_read : TermError

@@ -8,6 +8,7 @@ ghost use Rattle.elixir_terms.specs.Within.{longest, Within};
 
 use crate::blanks::skip_blanks;
 use crate::error::{NOT_READ, TermError};
+use crate::expected::Expected;
 use crate::holes::Holes;
 use crate::lexer::first_token;
 use crate::state::State;
@@ -49,7 +50,21 @@ fn read_tokens(alloc: Global, text: &[u8]) -> Result<Term, TermError>
     };
     let mut rest = skip_blanks(text);
     while !rest.is_empty() {
-        let (token, after) = first_token(alloc, rest)?;
+        let expected = Expected {
+            term: true,
+            key: true,
+            closing: None,
+            comma: true,
+            arrow: true,
+            outermost: false,
+        };
+        let (token, after) = match first_token(alloc, rest, expected) {
+            Ok(found) => found,
+            Err(fault) => return Err(TermError {
+                at: 0,
+                cause: fault.cause,
+            }),
+        };
         state = state.step(alloc, token)?;
         rest = skip_blanks(after);
     }

@@ -128,7 +128,7 @@ fn print_digits(out: &mut Vec<u8>, n: u128) -> Result<(), AllocError>
     Ok(())
 }
 
-fn is_utf8(bytes: &[u8]) -> bool
+pub fn is_utf8(bytes: &[u8]) -> bool
     ensures { result ≡ is_utf8 bytes.now }
 {
     str::from_utf8(bytes).is_ok()
