@@ -3,12 +3,14 @@
 
 mod compiler;
 mod echo;
+mod how;
 mod job;
 mod outcome;
 mod seq;
 
 pub use compiler::{CompileFault, Compiler, Input, Meaning};
 pub use echo::EchoCompiler;
+pub use how::{How, Texts};
 pub use job::{Job, Jobs, Places, Plan};
 pub use outcome::{Fate, Outcome};
 pub use seq::{SeqFault, seq_build};

@@ -10,7 +10,8 @@ use Rattle.mx_base.specs.Path.{text_after, folder_text, child_of, path_from}
 use Rattle.mx_base.proofs.FolderLemmas.{after_is}
 use Rattle.tree_store.specs.Files.{paths_below}
 use Rattle.tree_store.proofs.OrderLemmas.{same_name, ties_itself}
-use Rattle.mix_main.specs.Plan.{is_source, if_source, source_at, sources_of, project_path, manifest_path}
+use Rattle.project_file.specs.Files.{manifest_at}
+use Rattle.mix_main.specs.Plan.{is_source, if_source, source_at, sources_of, project_path}
 
 after_front : (front rest : List ℕ) → text_after front (front ++ rest) ≡ Some rest
 after_front [] rest = refl
@@ -95,12 +96,12 @@ among dir name all (f ∷ fs) s =
     at false is rest = other_source dir name all f.path (filter_map (source_at dir all) (paths_below dir fs)) (path_from dir f.path) refl is ∙ rest
 
 -- the manifest among the sources of a dependency is the one at its path
-pub manifest_among : (dir : List ℕ) (files : List File) → bytes_at project_path (sources_of dir files) ≡ bytes_at (manifest_path dir) files
-manifest_among dir files = among dir project_path files files refl ∙ at (is_among (manifest_path dir) files) refl
+pub manifest_among : (dir : List ℕ) (files : List File) → bytes_at project_path (sources_of dir files) ≡ bytes_at (manifest_at dir) files
+manifest_among dir files = among dir project_path files files refl ∙ at (is_among (manifest_at dir) files) refl
   where
-    at : (b : Bool) → is_among (manifest_path dir) files ≡ b → cond b (bytes_at (manifest_path dir) files) None ≡ bytes_at (manifest_path dir) files
+    at : (b : Bool) → is_among (manifest_at dir) files ≡ b → cond b (bytes_at (manifest_at dir) files) None ≡ bytes_at (manifest_at dir) files
     at true is = refl
-    at false is = sym (absent (manifest_path dir) files is)
+    at false is = sym (absent (manifest_at dir) files is)
 
 compared : (name path : List ℕ) (b : Bool) → bytes_eq path name ≡ b → is_at name path ≡ b
 compared name path b e = sym (texts_ties name path) ∙ nat_list_eq_equiv.symm name path ∙ e

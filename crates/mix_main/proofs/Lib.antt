@@ -1,6 +1,6 @@
 pub mod AmongLemmas
 pub mod EndLemmas
-pub mod ManifestLemmas
+pub mod FlatLemmas
 pub mod OneLemmas
 pub mod PlainLemmas
 pub mod PlanLemmas

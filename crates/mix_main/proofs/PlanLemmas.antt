@@ -1,5 +1,5 @@
 -- What manifests mean, jobs of declarations, and the plan, one declaration after another.
-use Rattle.std.proofs.Common.{◌≡◌, ℕ, suc, ◌+◌, ◌<◌, Bool, true, false, List, [], ◌∷◌, ◌++◌, map, filter_map, drop, length, get_or, Option, Some, None, IfSome, Result, Ok, Err, MatchResult, MatchOption, All, IsFalse, refl, sym, ◌∙◌, ap, subst, append_assoc, append-nil, add-one, drop-cons, eqb, arith}
+use Rattle.std.proofs.Common.{◌≡◌, ℕ, suc, ◌+◌, ◌<◌, Bool, true, false, List, [], ◌∷◌, ◌++◌, map, filter_map, drop, length, get_or, Option, Some, None, IfSome, Result, Ok, Err, MatchResult, All, IsFalse, refl, sym, ◌∙◌, ap, subst, append_assoc, append-nil, add-one, drop-cons, eqb, arith}
 use Rattle.std.specs.Result.{IsErrAnd}
 use Rattle.std.proofs.lemmas.Bool.{eqb-true, eqb-false}
 use Rattle.std.proofs.lemmas.List.{nil_from_length, map-append}
@@ -10,36 +10,69 @@ use Rattle.compile_model.specs.declared.job.Job.{Job}
 use Rattle.tree_store.specs.Files.{paths_below, is_in_build}
 use Rattle.mix_main.specs.declared.declaration.Declaration.{Declaration}
 use Rattle.mix_main.specs.declared.refusal.Refusal.{Refusal}
-use Rattle.mix_main.specs.declared.refusal.Refusal.TheVariants.{PathMissing}
+use Rattle.mix_main.specs.declared.refusal.Refusal.TheVariants.{PathMissing, Project as refused_project}
 use Rattle.mix_main.specs.declared.plan_fault.PlanFault.{PlanFault}
 use Rattle.mix_main.specs.declared.plan_fault.PlanFault.TheVariants.{Refused, Read, OutOfMemory}
-use Rattle.mix_main.specs.Plan.{Manifest, IsReadAs, IsManifest, project_path, manifest_path, version_by, source_at, result_map, unless_missing, job_with, ArePlanned, IsPlan, declared_by}
-use Rattle.mix_main.specs.Plan.Manifest.{Absent, Unread, Reads}
-use Rattle.mix_main.specs.PlanFaults.{Says, IsMeant, IsJob, RefusedBy}
+use Rattle.project_file.specs.declared.error.ProjectError.{ProjectError}
+use Rattle.project_file.specs.declared.error.ProjectError.TheVariants as project
+use Rattle.project_file.specs.declared.project.Project.{Project}
+use Rattle.project_file.specs.Files.{IsReadAs, IsLoaded, manifest_at, is_outside}
+use Rattle.project_file.specs.Files.IsLoaded.{absent, unread, refused, loaded}
+use Rattle.project_file.specs.Manifest.{IsProject}
+use Rattle.project_file.specs.Refusals.{IsRefusedManifest}
+use Rattle.project_file.specs.Refusals.IsRefusedManifest.{unread as as_text, refused as as_term}
+use Rattle.mix_main.specs.Plan.{Loaded, project_path, version_by, source_at, result_map, unless_missing, job_with, ArePlanned, IsPlan, declared_by}
+use Rattle.mix_main.specs.PlanFaults.{Says, IsMeant, IsMeantBy, IsJob, RefusedBy, manifest_fault}
 use Rattle.mix_main.proofs.AmongLemmas.{manifest_among}
 
-pub meant_absent : {X : Type 0} (found : Option (List ℕ)) (meaning : Manifest → Result X Refusal) (meant : Result X Refusal) → found ≡ None → meaning Absent ≡ meant → IsMeant found meaning meant
-meant_absent found meaning meant e is = (Absent, e, is)
+-- without a manifest
+pub absent_meant : {X : Type 0} (found : Option (List ℕ)) (dir : List ℕ) (meaning : Loaded → Result X Refusal) (meant : Result X Refusal) → found ≡ None → meaning (Ok None) ≡ meant → (files : List File) → found ≡ bytes_at (manifest_at dir) files → IsMeant files dir meaning meant
+absent_meant found dir meaning meant none is files at = (Ok None, absent (sym at ∙ none), is)
 
-pub meant_unread : {X : Type 0} (found : Option (List ℕ)) (meaning : Manifest → Result X Refusal) (meant : Result X Refusal) (text slice : List ℕ) (read : Option Term) → found ≡ Some text → slice ≡ text → MatchOption read ((t : Term) → IsReadAs slice t → ⊥) (IsReadAs slice) → read ≡ None → meaning Unread ≡ meant → IsMeant found meaning meant
-meant_unread found meaning meant text slice read e same matched none is =
-    (Unread, (text, e, subst (λ (bytes : List ℕ). (t : Term) → IsReadAs bytes t → ⊥) same (subst (λ (o : Option Term). MatchOption o ((t : Term) → IsReadAs slice t → ⊥) (IsReadAs slice)) none matched)), is)
+there : (dir : List ℕ) (files : List File) (found : Option (List ℕ)) (text slice : List ℕ) → found ≡ Some text → slice ≡ text → found ≡ bytes_at (manifest_at dir) files → bytes_at (manifest_at dir) files ≡ Some slice
+there dir files found text slice is same at = sym at ∙ is ∙ ap (λ (bytes : List ℕ). Some bytes) (sym same)
 
-pub meant_reads : {X : Type 0} (found : Option (List ℕ)) (meaning : Manifest → Result X Refusal) (meant : Result X Refusal) (text slice : List ℕ) (read : Option Term) (t : Term) → found ≡ Some text → slice ≡ text → MatchOption read ((t : Term) → IsReadAs slice t → ⊥) (IsReadAs slice) → read ≡ Some t → meaning (Reads t) ≡ meant → IsMeant found meaning meant
-meant_reads found meaning meant text slice read t e same matched some is =
-    (Reads t, (text, e, subst (λ (bytes : List ℕ). IsReadAs bytes t) same (subst (λ (o : Option Term). MatchOption o ((u : Term) → IsReadAs slice u → ⊥) (IsReadAs slice)) some matched)), is)
+-- with a manifest that is a project
+pub loaded_meant : {X : Type 0} (found : Option (List ℕ)) (dir : List ℕ) (meaning : Loaded → Result X Refusal) (meant : Result X Refusal) (text slice : List ℕ) (p : Project) → found ≡ Some text → slice ≡ text → (t : Term) × IsReadAs slice t × IsProject dir t (Ok p) → meaning (Ok (Some p)) ≡ meant → (files : List File) → found ≡ bytes_at (manifest_at dir) files → IsMeant files dir meaning meant
+loaded_meant found dir meaning meant text slice p some same said is files at =
+    (Ok (Some p), loaded slice said.0 (there dir files found text slice some same at) said.1 said.2, is)
+
+loaded_refused : (dir text : List ℕ) (files : List File) (e : ProjectError) → bytes_at (manifest_at dir) files ≡ Some text → IsRefusedManifest dir text e → IsLoaded files dir (Err e)
+loaded_refused dir text files _ here (as_text why) = unread text here why
+loaded_refused dir text files _ here (as_term t read says) = refused text t here read says
+
+-- with a manifest that is a project, but none that is planned
+pub unplanned_meant : {X : Type 0} (found : Option (List ℕ)) (dir : List ℕ) (meaning : Loaded → Result X Refusal) (path text slice : List ℕ) (p : Project) (fault : PlanFault) → fault ≡ Refused (refused_project path project.Shape) → found ≡ Some text → slice ≡ text → (t : Term) × IsReadAs slice t × IsProject dir t (Ok p) → meaning (Ok (Some p)) ≡ Err (refused_project path project.Shape) → IsMeantBy found dir meaning (Err fault)
+unplanned_meant found dir meaning path text slice p fault told some same said is =
+    subst (λ (f : PlanFault). IsMeantBy found dir meaning (Err f)) (sym told)
+    (λ files at. loaded_meant found dir meaning (Err (refused_project path project.Shape)) text slice p some same said is files at)
+
+-- with a manifest that is refused
+refused_meant : {X : Type 0} (found : Option (List ℕ)) (dir : List ℕ) (meaning : Loaded → Result X Refusal) (path text slice : List ℕ) (e : ProjectError) → ((error : ProjectError) → meaning (Err error) ≡ Err (refused_project path error)) → found ≡ Some text → slice ≡ text → (IsFalse (is_outside e) → IsRefusedManifest dir slice e) → IsMeantBy found dir meaning (Err (manifest_fault path e))
+refused_meant found dir meaning path text slice project.Read means some same why = λ files at. tt
+refused_meant found dir meaning path text slice (project.Term error) means some same why =
+    λ files at. (Err (project.Term error), loaded_refused dir slice files (project.Term error) (there dir files found text slice some same at) (why refl), means (project.Term error))
+refused_meant found dir meaning path text slice project.Shape means some same why =
+    λ files at. (Err project.Shape, loaded_refused dir slice files project.Shape (there dir files found text slice some same at) (why refl), means project.Shape)
+refused_meant found dir meaning path text slice (project.Options error) means some same why =
+    λ files at. (Err (project.Options error), loaded_refused dir slice files (project.Options error) (there dir files found text slice some same at) (why refl), means (project.Options error))
+refused_meant found dir meaning path text slice project.OutOfMemory means some same why = λ files at. tt
+
+pub fault_meant : {X : Type 0} (found : Option (List ℕ)) (dir : List ℕ) (meaning : Loaded → Result X Refusal) (path text slice : List ℕ) (e : ProjectError) (fault : PlanFault) → fault ≡ manifest_fault path e → ((error : ProjectError) → meaning (Err error) ≡ Err (refused_project path error)) → found ≡ Some text → slice ≡ text → (IsFalse (is_outside e) → IsRefusedManifest dir slice e) → IsMeantBy found dir meaning (Err fault)
+fault_meant found dir meaning path text slice e fault told means some same why =
+    subst (λ (f : PlanFault). IsMeantBy found dir meaning (Err f)) (sym told) (refused_meant found dir meaning path text slice e means some same why)
 
 -- what is meant by the text that was found is meant by the files
-pub meant_by_files : {X : Type 0} (told : Option (List File)) (path : List ℕ) (found : Option (List ℕ)) (meaning : Manifest → Result X Refusal) (meant : Result X PlanFault) → IfSome told (λ files. found ≡ bytes_at path files) → Says (IsMeant found meaning) meant → IfSome told (λ files. Says (IsMeant (bytes_at path files) meaning) meant)
-meant_by_files None path found meaning meant e says = tt
-meant_by_files (Some files) path found meaning meant e says = subst (λ (o : Option (List ℕ)). Says (IsMeant o meaning) meant) e says
+pub meant_by_files : {X : Type 0} (told : Option (List File)) (dir : List ℕ) (found : Option (List ℕ)) (meaning : Loaded → Result X Refusal) (meant : Result X PlanFault) → IfSome told (λ files. found ≡ bytes_at (manifest_at dir) files) → IsMeantBy found dir meaning meant → IfSome told (λ files. Says (IsMeant files dir meaning) meant)
+meant_by_files None dir found meaning meant e says = tt
+meant_by_files (Some files) dir found meaning meant e says = says files e
 
 -- what the files mean as the manifest of a declaration gives its job
-job_meant : (files : List File) (d : Declaration) (path : List ℕ) (paths : List (List ℕ)) (found : Option (List ℕ)) (version : Result (List ℕ) Refusal) → paths_below d.dir files ≡ path ∷ paths → found ≡ bytes_at (manifest_path d.dir) files → IsMeant found (version_by (manifest_path d.dir)) version → IsJob files d (result_map (job_with files d) version)
-job_meant files d path paths found version some same meant = (
+job_meant : (files : List File) (d : Declaration) (path : List ℕ) (paths : List (List ℕ)) (version : Result (List ℕ) Refusal) → paths_below d.dir files ≡ path ∷ paths → IsMeant files d.dir (version_by (manifest_at d.dir)) version → IsJob files d (result_map (job_with files d) version)
+job_meant files d path paths version some meant = (
   meant.0,
-  subst (λ (o : Option (List ℕ)). IsManifest o meant.0) same meant.1,
-  ap (λ (ps : List (List ℕ)). unless_missing ps d (result_map (job_with files d) (version_by (manifest_path d.dir) meant.0))) some
+  meant.1,
+  ap (λ (ps : List (List ℕ)). unless_missing ps d (result_map (job_with files d) (version_by (manifest_at d.dir) meant.0))) some
       ∙ ap (result_map (job_with files d)) meant.2,
 )
 
@@ -47,16 +80,16 @@ job_meant files d path paths found version some same meant = (
 abbrev pub job_made : Declaration → List File → List ℕ → Job
 job_made d sources version = record { app = d.app; version = version; sources = sources; needs = [] }
 
-pub job_says : (told : Option (List File)) (d : Declaration) (paths : List (List ℕ)) (sources : List File) (version : Result (List ℕ) PlanFault) → (paths ≡ [] → ⊥) → IfSome told (λ files. paths ≡ paths_below d.dir files) → IfSome told (λ files. sources ≡ filter_map (source_at d.dir files) paths) → Says (IsMeant (bytes_at project_path sources) (version_by (manifest_path d.dir))) version → IfSome told (λ files. Says (IsJob files d) (result_map (job_made d sources) version))
+pub job_says : (told : Option (List File)) (d : Declaration) (paths : List (List ℕ)) (sources : List File) (version : Result (List ℕ) PlanFault) → (paths ≡ [] → ⊥) → IfSome told (λ files. paths ≡ paths_below d.dir files) → IfSome told (λ files. sources ≡ filter_map (source_at d.dir files) paths) → IsMeantBy (bytes_at project_path sources) d.dir (version_by (manifest_at d.dir)) version → IfSome told (λ files. Says (IsJob files d) (result_map (job_made d sources) version))
 job_says None d paths sources version some listed found says = tt
 job_says (Some files) d [] sources version some listed found says = absurd (some refl)
 job_says (Some files) d (path ∷ paths) sources (Ok version) some listed found says =
     let all = found ∙ ap (filter_map (source_at d.dir files)) listed in
     subst (λ (fs : List File). IsJob files d (Ok (job_made d fs version))) (sym all)
-    (job_meant files d path paths (bytes_at project_path sources) (Ok version) (sym listed) (ap (bytes_at project_path) all ∙ manifest_among d.dir files) says)
+    (job_meant files d path paths (Ok version) (sym listed) (says files (ap (bytes_at project_path) all ∙ manifest_among d.dir files)))
 job_says (Some files) d (path ∷ paths) sources (Err (Refused refusal)) some listed found says =
     let all = found ∙ ap (filter_map (source_at d.dir files)) listed in
-    job_meant files d path paths (bytes_at project_path sources) (Err refusal) (sym listed) (ap (bytes_at project_path) all ∙ manifest_among d.dir files) says
+    job_meant files d path paths (Err refusal) (sym listed) (says files (ap (bytes_at project_path) all ∙ manifest_among d.dir files))
 job_says (Some files) d (path ∷ paths) sources (Err Read) some listed found says = tt
 job_says (Some files) d (path ∷ paths) sources (Err OutOfMemory) some listed found says = tt
 
@@ -65,9 +98,9 @@ pub job_missing : (told : Option (List File)) (d : Declaration) (paths : List (L
 job_missing None d paths none listed = tt
 job_missing (Some files) d paths none listed =
     let empty : paths_below d.dir files ≡ [] = sym listed ∙ none in (
-      Absent,
-      sym (manifest_among d.dir files) ∙ ap (λ (ps : List (List ℕ)). bytes_at project_path (filter_map (source_at d.dir files) ps)) empty,
-      ap (λ (ps : List (List ℕ)). unless_missing ps d (result_map (job_with files d) (version_by (manifest_path d.dir) Absent))) empty,
+      Ok None,
+      absent (sym (manifest_among d.dir files) ∙ ap (λ (ps : List (List ℕ)). bytes_at project_path (filter_map (source_at d.dir files) ps)) empty),
+      ap (λ (ps : List (List ℕ)). unless_missing ps d (result_map (job_with files d) (version_by (manifest_at d.dir) (Ok None)))) empty,
     )
 
 declarations_left : (ds : List Declaration) (i : ℕ) (d : Declaration) → i < length ds → d ≡ get_or ds i d → drop i ds ≡ d ∷ drop (i + 1) ds
@@ -114,13 +147,13 @@ all_planned (Some files) jobs all so_far =
     subst (λ (js : List Job). ArePlanned files all (Ok js)) (append-nil jobs) (so_far (Ok []) refl)
 
 -- the manifest's declarations and their plan are the plan of the files
-pub whole_plan : (told : Option (List File)) (declarations : List Declaration) (jobs : List Job) → IfSome told (λ files. IsMeant (bytes_at project_path files) declared_by (Ok declarations)) → IfSome told (λ files. ArePlanned files declarations (Ok jobs)) → IfSome told (λ files. IsPlan files (Ok jobs))
+pub whole_plan : (told : Option (List File)) (declarations : List Declaration) (jobs : List Job) → IfSome told (λ files. IsMeant files [] declared_by (Ok declarations)) → IfSome told (λ files. ArePlanned files declarations (Ok jobs)) → IfSome told (λ files. IsPlan files (Ok jobs))
 whole_plan None declarations jobs meant planned = tt
 whole_plan (Some files) declarations jobs meant planned =
     (meant.0, meant.1, subst (λ (r : Result (List Declaration) Refusal). MatchResult r (λ ds. ArePlanned files ds (Ok jobs)) (λ refusal. Ok jobs ≡ Err refusal)) (sym meant.2) planned)
 
 -- the first refusal of the declarations is that of the files
-pub plan_refused : (told : Option (List File)) (declarations : List Declaration) (fault : PlanFault) → IfSome told (λ files. IsMeant (bytes_at project_path files) declared_by (Ok declarations)) → IfSome told (λ files. Says (ArePlanned files declarations) (Err fault)) → IfSome told (λ files. RefusedBy files fault)
+pub plan_refused : (told : Option (List File)) (declarations : List Declaration) (fault : PlanFault) → IfSome told (λ files. IsMeant files [] declared_by (Ok declarations)) → IfSome told (λ files. Says (ArePlanned files declarations) (Err fault)) → IfSome told (λ files. RefusedBy files fault)
 plan_refused None declarations fault meant planned = tt
 plan_refused (Some files) declarations (Refused refusal) meant planned =
     (meant.0, meant.1, subst (λ (r : Result (List Declaration) Refusal). MatchResult r (λ ds. ArePlanned files ds (Err refusal)) (λ other. IsRefused (Err refusal) other)) (sym meant.2) planned)
@@ -128,7 +161,7 @@ plan_refused (Some files) declarations Read meant planned = tt
 plan_refused (Some files) declarations OutOfMemory meant planned = tt
 
 -- a project that declares nothing right is refused
-pub project_refused : (told : Option (List File)) (fault : PlanFault) → IfSome told (λ files. Says (IsMeant (bytes_at project_path files) declared_by) (Err fault)) → IfSome told (λ files. RefusedBy files fault)
+pub project_refused : (told : Option (List File)) (fault : PlanFault) → IfSome told (λ files. Says (IsMeant files [] declared_by) (Err fault)) → IfSome told (λ files. RefusedBy files fault)
 project_refused None fault meant = tt
 project_refused (Some files) (Refused refusal) meant =
     (meant.0, meant.1, subst (λ (r : Result (List Declaration) Refusal). MatchResult r (λ ds. ArePlanned files ds (Err refusal)) (λ other. IsRefused (Err refusal) other)) (sym meant.2) refl)

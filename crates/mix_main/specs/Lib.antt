@@ -1,6 +1,5 @@
 pub mod Ends
 pub mod Filling
-pub mod Manifest
 pub mod Plan
 pub mod PlanFaults
 pub mod Report

@@ -5,15 +5,27 @@ use Rattle.mx_base.specs.Order.{bytes_at}
 use Rattle.compile_model.specs.declared.job.Job.{Job}
 use Rattle.tree_store.specs.declared.store.StoreFault.{StoreFault}
 use Rattle.tree_store.specs.declared.store.StoreFault.TheVariants as store
+use Rattle.project_file.specs.declared.error.ProjectError.{ProjectError}
+use Rattle.project_file.specs.declared.error.ProjectError.TheVariants as project
+use Rattle.project_file.specs.Files.{IsLoaded, manifest_at}
 use Rattle.mix_main.specs.declared.declaration.Declaration.{Declaration}
 use Rattle.mix_main.specs.declared.refusal.Refusal.{Refusal}
+use Rattle.mix_main.specs.declared.refusal.Refusal.TheVariants as refusal
 use Rattle.mix_main.specs.declared.plan_fault.PlanFault.{PlanFault}
 use Rattle.mix_main.specs.declared.plan_fault.PlanFault.TheVariants.{Refused, Read, OutOfMemory}
-use Rattle.mix_main.specs.Plan.{Manifest, IsManifest, manifest_path, job_of, IsPlan}
+use Rattle.mix_main.specs.Plan.{Loaded, job_of, IsPlan}
 
 abbrev pub plan_fault : StoreFault → PlanFault
 plan_fault store.Failed = Read
 plan_fault store.OutOfMemory = OutOfMemory
+
+-- a manifest at this path that isn't loaded
+abbrev pub manifest_fault : List ℕ → ProjectError → PlanFault
+manifest_fault path project.Read = Read
+manifest_fault path (project.Term error) = Refused (refusal.Project path (project.Term error))
+manifest_fault path project.Shape = Refused (refusal.Project path project.Shape)
+manifest_fault path (project.Options error) = Refused (refusal.Project path (project.Options error))
+manifest_fault path project.OutOfMemory = OutOfMemory
 
 -- the store failed
 abbrev pub is_read : {T : Type 0} → Result T PlanFault → Bool
@@ -35,10 +47,15 @@ Says Right (Err (Refused refusal)) = Right (Err refusal)
 Says Right (Err Read) = Unit {0}
 Says Right (Err OutOfMemory) = Unit {0}
 
--- what the manifest that is found means
-abbrev pub IsMeant : {X : Type 0} → Option (List ℕ) → (Manifest → Result X Refusal) → Result X Refusal → Type 0
-IsMeant found meaning meant = (manifest : Manifest) × IsManifest found manifest × (meaning manifest ≡ meant)
+-- what the manifest in a folder of these files means
+abbrev pub IsMeant : {X : Type 0} → List File → List ℕ → (Loaded → Result X Refusal) → Result X Refusal → Type 0
+IsMeant files dir meaning meant = (loaded : Loaded) × IsLoaded files dir loaded × (meaning loaded ≡ meant)
+
+-- what the manifest in a folder means, whichever the files are in which this is found at its path
+abbrev pub IsMeantBy : {X : Type 0} → Option (List ℕ) → List ℕ → (Loaded → Result X Refusal) → Result X PlanFault → Type 0
+IsMeantBy found dir meaning result =
+    (files : List File) → found ≡ bytes_at (manifest_at dir) files → Says (IsMeant files dir meaning) result
 
 -- the job of a declaration, or why there is none
 abbrev pub IsJob : List File → Declaration → Result Job Refusal → Type 0
-IsJob files declaration = IsMeant (bytes_at (manifest_path declaration.dir) files) (job_of files declaration)
+IsJob files declaration = IsMeant files declaration.dir (job_of files declaration)

@@ -3,7 +3,7 @@ use Rattle.std.specs.Prelude.{◌≡◌, ◌⊎◌, ℕ, Bool, true, false}
 use Rattle.mix_main.specs.declared.status.Status.{Status}
 use Rattle.mix_main.specs.declared.status.Status.TheVariants.{Built, SomeFailed, BadWords, Refused, ReadFault, TreeFault, Died, OutOfMemory, Missing, WriteFault}
 use Rattle.mix_main.specs.declared.refusal.Refusal.{Refusal}
-use Rattle.mix_main.specs.declared.refusal.Refusal.TheVariants.{NoProject, NotRead, Shape, PathMissing}
+use Rattle.mix_main.specs.declared.refusal.Refusal.TheVariants.{NoProject, Project, PathMissing}
 
 abbrev pub code_of : Status → ℕ
 code_of Built = 0
@@ -31,8 +31,7 @@ is_write_fault status = false
 
 abbrev pub status_of : Refusal → Status
 status_of NoProject = Missing
-status_of (NotRead path) = Refused
-status_of (Shape path) = Refused
+status_of (Project path fault) = Refused
 status_of (PathMissing app dir) = Missing
 
 -- how a command ends whose words are none: with that, or for want of memory, or with a failed sink

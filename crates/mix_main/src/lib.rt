@@ -9,7 +9,7 @@ mod clear;
 mod command;
 mod declaration;
 mod fill;
-mod manifest;
+mod flat;
 mod plain;
 mod plan;
 mod plan_fault;

@@ -1,26 +1,25 @@
 // The plan of a project.
-ghost use Rattle.std.specs.Prelude.{◌≡◌, Ok, List, Result, All, IfOk, IfErr, IfSome, IsTrue, IsFalse, map, MatchOption};
+ghost use Rattle.std.specs.Prelude.{◌≡◌, Ok, List, [], Result, All, IfOk, IfErr, IfSome, IsTrue, IsFalse, map};
 ghost use Rattle.std.specs.Option.{option_copied};
-ghost use Rattle.elixir_terms.specs.declared.term.Term.{Term};
 ghost use Rattle.mx_base.specs.declared.file.File.{File};
 ghost use Rattle.mx_base.specs.Causes.{Counted};
 ghost use Rattle.mx_base.specs.Order.{bytes_at};
 ghost use Rattle.compile_model.specs.declared.job.Job.{Job};
 ghost use Rattle.tree_store.specs.Files.{is_in_build};
 ghost use Rattle.mix_main.specs.declared.refusal.Refusal.{Refusal};
-ghost use Rattle.mix_main.specs.Manifest.{apps_differ};
-ghost use Rattle.mix_main.specs.Plan.{IsReadAs, project_path, manifest_path, declared_by, version_by, result_map, ArePlanned, IsPlan, jobs_differ};
-ghost use Rattle.mix_main.specs.PlanFaults.{is_read, RefusedBy, Says, IsMeant, IsJob};
+ghost use Rattle.project_file.specs.Files.{manifest_at};
+ghost use Rattle.mix_main.specs.Plan.{apps_differ, project_path, declared_by, version_alone, version_by, result_map, ArePlanned, IsPlan, jobs_differ};
+ghost use Rattle.mix_main.specs.PlanFaults.{is_read, RefusedBy, Says, IsMeant, IsMeantBy, IsJob};
 
 use crate::declaration::Declaration;
-use crate::manifest::{dependency_version, root_declarations};
+use crate::flat::flat_declarations;
 use crate::plan_fault::PlanFault;
 use crate::refusal::Refusal;
 use crate::sources::sources;
 use compile_model::{Job, Jobs, Places, Plan};
-use elixir_terms::{Term, TermCause, read};
 use mx_base::{AppName, Bytes, File, RelPath, Text};
-use std::alloc::{AllocError, Global};
+use project_file::{Project, ProjectError, project_of_text};
+use std::alloc::Global;
 use tree_store::Store;
 
 const MANIFEST: &str = "project.exs";
@@ -50,7 +49,7 @@ pub(crate) fn plan_of<S: Store>(
 
 // What the project declares.
 fn declarations<S: Store>(alloc: Global, store: &mut S) -> Result<Vec<Declaration>, PlanFault>
-    ensures meant { IfSome (S.sources store.old) (λ files. Says (IsMeant (bytes_at project_path files) declared_by) (result_map (λ ds. ds.items) result)) }
+    ensures meant { IfSome (S.sources store.old) (λ files. Says (IsMeant files [] declared_by) (result_map (λ ds. ds.items) result)) }
     ensures outside { IfOk result (λ ds. All (λ d. IsFalse (is_in_build d.dir)) ds.items) }
     ensures differ { IfOk result (λ ds. IsTrue (apps_differ ds.items)) }
     ensures sources { S.sources store.new ≡ S.sources store.old }
@@ -58,19 +57,22 @@ fn declarations<S: Store>(alloc: Global, store: &mut S) -> Result<Vec<Declaratio
     ensures returned { S.folder_faults store.new ≡ S.folder_faults store.old }
     ensures cause { Counted (S.faults store.old) (S.faults store.new) (is_read result) }
 {
-    let path = RelPath::root(alloc).child(alloc, MANIFEST)?;
+    let folder = RelPath::root(alloc);
+    let path = folder.child(alloc, MANIFEST)?;
     let text = store.get(alloc, &path)?;
-    declared(alloc, path, text)
+    declared(alloc, &folder, path, text)
 }
 
-// What the manifest that was found at the project's path declares.
+// What the manifest that was found at the root's path declares.
 fn declared(
     alloc: Global,
+    root: &RelPath,
     path: RelPath,
     text: Option<Bytes>,
 ) -> Result<Vec<Declaration>, PlanFault>
-    requires { path ≡ project_path }
-    ensures meant { Says (IsMeant text declared_by) (result_map (λ ds. ds.items) result) }
+    requires root { root.now ≡ [] }
+    requires path { path ≡ project_path }
+    ensures meant { IsMeantBy text [] declared_by (result_map (λ ds. ds.items) result) }
     ensures outside { IfOk result (λ ds. All (λ d. IsFalse (is_in_build d.dir)) ds.items) }
     ensures differ { IfOk result (λ ds. IsTrue (apps_differ ds.items)) }
     ensures own { IsFalse (is_read result) }
@@ -78,12 +80,13 @@ fn declared(
     let Some(text) = text else {
         return Err(PlanFault::Refused(Refusal::NoProject));
     };
-    let Some(term) = term(alloc, text.as_slice())? else {
-        return Err(PlanFault::Refused(Refusal::NotRead { path }));
+    let project = match project_of_text(alloc, root, text.as_slice()) {
+        Ok(project) => project,
+        Err(fault) => return Err(PlanFault::of_manifest(path, fault)),
     };
-    match root_declarations(alloc, &term)? {
+    match flat_declarations(alloc, project.decls.as_slice())? {
         Some(declarations) => Ok(declarations),
-        None => Err(PlanFault::Refused(Refusal::Shape { path })),
+        None => Err(PlanFault::of_manifest(path, ProjectError::Shape)),
     }
 }
 
@@ -135,19 +138,35 @@ fn job<S: Store>(alloc: Global, store: &mut S, declaration: Declaration) -> Resu
 
 // The version that the manifest among a dependency's sources gives, 0.0.0 without one.
 fn version(alloc: Global, dir: &RelPath, sources: &[File]) -> Result<Text, PlanFault>
-    ensures meant { Says (IsMeant (bytes_at project_path sources.now) (version_by (manifest_path dir.now))) result }
+    ensures meant { IsMeantBy (bytes_at project_path sources.now) dir.now (version_by (manifest_at dir.now)) result }
     ensures own { IsFalse (is_read result) }
 {
     let Some(text) = manifest_in(sources) else {
         return Ok(Text::from_slice(alloc, b"0.0.0")?);
     };
     let path = dir.child(alloc, MANIFEST)?;
-    let Some(term) = term(alloc, text.as_slice())? else {
-        return Err(PlanFault::Refused(Refusal::NotRead { path }));
+    let project = match project_of_text(alloc, dir, text.as_slice()) {
+        Ok(project) => project,
+        Err(fault) => return Err(PlanFault::of_manifest(path, fault)),
     };
-    match dependency_version(alloc, &term)? {
-        Some(version) => Ok(Text::from_slice(alloc, version.as_slice())?),
-        None => Err(PlanFault::Refused(Refusal::Shape { path })),
+    match version_alone(project) {
+        Some(version) => Ok(version),
+        None => Err(PlanFault::of_manifest(path, ProjectError::Shape)),
+    }
+}
+
+// The version of a project that declares nothing.
+fn version_alone(project: Project) -> Option<Text>
+    ensures { result ≡ version_alone project.version project.decls }
+{
+    let Project {
+        app: _,
+        version,
+        decls,
+    } = project;
+    match decls.as_slice() {
+        [] => Some(version),
+        _ => None,
     }
 }
 
@@ -160,19 +179,6 @@ fn manifest_in(files: &[File]) -> Option<&Bytes>
         }
     }
     None
-}
-
-// The term that is read from the text, if one is.
-fn term(alloc: Global, text: &[u8]) -> Result<Option<Term>, AllocError>
-    ensures { IfOk result (λ found. MatchOption found ((t : Term) → IsReadAs text.now t → ⊥) (IsReadAs text.now)) }
-{
-    match read(alloc, text) {
-        Ok(term) => Ok(Some(term)),
-        Err(error) => match error.cause {
-            TermCause::NotRead => Ok(None),
-            TermCause::OutOfMemory => Err(AllocError),
-        },
-    }
 }
 
 /// The files of a project have one plan, or one first refusal.

@@ -1,6 +1,10 @@
 // Why there is no plan.
+ghost use Rattle.std.specs.Prelude.{◌≡◌};
+ghost use Rattle.mix_main.specs.PlanFaults.{manifest_fault};
 
 use crate::refusal::Refusal;
+use mx_base::RelPath;
+use project_file::ProjectError;
 use std::alloc::{AllocError, AllocFailed};
 use tree_store::StoreFault;
 
@@ -12,6 +16,19 @@ pub(crate) enum PlanFault {
     /// The store failed, and counted it.
     Read,
     OutOfMemory,
+}
+
+impl PlanFault {
+    /// The manifest at a path isn't loaded.
+    pub(crate) fn of_manifest(path: RelPath, fault: ProjectError) -> PlanFault
+        ensures { result ≡ manifest_fault path fault }
+    {
+        match fault {
+            ProjectError::Read => PlanFault::Read,
+            ProjectError::OutOfMemory => PlanFault::OutOfMemory,
+            fault => PlanFault::Refused(Refusal::Project { path, fault }),
+        }
+    }
 }
 
 impl From<AllocError> for PlanFault {

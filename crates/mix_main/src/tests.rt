@@ -4,6 +4,7 @@ use crate::{Status, run};
 use compile_model::{CompileFault, Compiler, EchoCompiler, Input, Meaning, Outcome};
 use mx_base::{AppName, Bytes, FaultPlan, Faults, MemSink, RelPath};
 use std::alloc::Global;
+use std::process::Abort;
 use std::test::Fail;
 use tree_store::{Contents, Folder, MemStore, Store};
 
@@ -180,93 +181,115 @@ fn a_failed_dependency_and_a_warning_are_reported(rt: HostRuntime) -> Result<(),
     Ok(())
 }
 
-// A root manifest, and the line that refuses it where the folder `b` holds one file.
-const REFUSED_ROOTS: [(&str, u8, &str); 13] = [
-    (
-        "[app: 1.5]",
-        3,
-        "mixc: project.exs: refused at 0: NotRead\n",
-    ),
-    ("[app: 1]", 3, "mixc: project.exs: shape\n"),
-    ("[app: :demo]", 3, "mixc: project.exs: shape\n"),
-    (
-        "[version: \"1\", app: :demo]",
-        3,
-        "mixc: project.exs: shape\n",
-    ),
-    (
-        "[app: :demo, version: :one]",
-        3,
-        "mixc: project.exs: shape\n",
-    ),
-    (
-        "[app: \"demo\", version: \"1\"]",
-        3,
-        "mixc: project.exs: shape\n",
-    ),
-    (
-        "[app: :demo, version: \"1\", deps: [{:b, path: \"b\"}, {:b, path: \"c\"}]]",
-        3,
-        "mixc: project.exs: shape\n",
-    ),
-    (
-        "[app: :demo, version: \"1\", deps: [{:b, path: \"../b\"}]]",
-        3,
-        "mixc: project.exs: shape\n",
-    ),
-    (
-        "[app: :demo, version: \"1\", deps: [{:b, path: \"_build/b\"}]]",
-        3,
-        "mixc: project.exs: shape\n",
-    ),
-    (
-        "[app: :demo, version: \"1\", deps: [{:b, path: \"b\", only: :test}]]",
-        3,
-        "mixc: project.exs: shape\n",
-    ),
-    (
-        "[app: :demo, version: \"1\", deps: [{:b, \"~> 1.0\"}]]",
-        3,
-        "mixc: project.exs: shape\n",
-    ),
-    (
-        "[app: :demo, version: \"1\", deps: [{:c, path: \"c\"}, {:b, path: \"b\"}]]",
-        9,
-        "mixc: path missing: c c\n",
-    ),
-    (
-        "[app: :demo, version: \"1\", deps: [{:b, path: \"b\"}, {:c, path: \"c\"}]]",
-        3,
-        "mixc: b/project.exs: refused at 0: NotRead\n",
-    ),
-];
+// Each row has a root manifest, and what refuses it where the folder `b` holds a manifest without an end.
+const REFUSED_ROOTS: &str = r#"[app: 1.5]|project.exs: refused at 0: NotRead
+[app: 1]|project.exs: shape
+[app: :demo]|project.exs: shape
+[app: :demo, version: :one]|project.exs: shape
+[app: :demo, version: "1"]|project.exs: shape
+[app: "demo", version: "1.0.0"]|project.exs: shape
+[app: :demo, version: "1.0.0", deps: {}]|project.exs: shape
+"#;
+
+// The same by the declarations alone.
+const REFUSED_DECLARATIONS: &str = r#"[{:b, pth: "b"}]|project.exs: dependency 0: UnknownOption(pth)
+[{:b, git: "x"}]|project.exs: dependency 0: UnsupportedSource(git)
+[{:b, path: "../b"}]|project.exs: dependency 0: BadValue(path)
+[{:b, path: "_build/b"}]|project.exs: dependency 0: BadValue(path)
+[{:b, "one"}]|project.exs: dependency 0: BadRequirement
+[{:b, path: "b"}, {:c, []}]|project.exs: dependency 1: NoSource
+[:b]|project.exs: dependency 0: Shape
+[{:b, path: "b"}, {:b, path: "c"}]|project.exs: shape
+[{:b, "~> 1.0"}]|project.exs: shape
+[{:b, "~> 1.0", path: "b"}]|project.exs: shape
+[{:b, hex: :b}]|project.exs: shape
+[{:b, path: "b", only: :dev}]|project.exs: shape
+[{:b, path: "b", env: :dev}]|project.exs: shape
+[{:b, path: "b", optional: true}]|project.exs: shape
+[{:b, path: "b", override: true}]|project.exs: shape
+[{:b, path: "b", compile: false}]|project.exs: shape
+[{:b, path: "b", manager: :mix}]|project.exs: shape
+[{:b, path: "b", runtime: false}]|project.exs: shape
+[{:b, path: "b", app: false}]|project.exs: shape
+[{:b, path: "b", system_env: [{"A", "1"}]}]|project.exs: shape
+[{:b, path: "b"}, {:c, path: "c"}]|b/project.exs: refused at 0: NotRead
+[{:b, path: "b", env: :prod, runtime: true}]|b/project.exs: refused at 0: NotRead
+"#;
+
+// A root manifest is refused with this status and line.
+fn assert_refused(
+    rt: &impl Abort,
+    alloc: Global,
+    root: &str,
+    code: u8,
+    line: &str,
+) -> Result<(), Fail> {
+    let files = [("project.exs", root), ("b/project.exs", "[app: :b")];
+    let (status, text) = told(alloc, &files, &["deps.compile"])?;
+    let line = format!(in alloc; "mixc: {line}\n")?;
+    assert_eq!(rt; text.as_slice(), line.as_bytes());
+    assert_eq!(rt; status, code);
+    Ok(())
+}
 
 #[test]
-fn the_first_refusal_of_the_input_is_told(rt: HostRuntime) -> Result<(), Fail> {
+fn the_first_refusal_of_a_root_is_told(rt: HostRuntime) -> Result<(), Fail> {
     let (status, text) = told(rt.alloc(), &[], &["deps.compile"])?;
     assert_eq!(rt; status, 9);
     assert_eq!(rt; text.as_slice(), b"mixc: no project\n".as_slice());
-    for (root, code, line) in &REFUSED_ROOTS {
-        let files = [("project.exs", *root), ("b/project.exs", "[app: :b")];
-        let (status, text) = told(rt.alloc(), &files, &["deps.compile"])?;
-        assert_eq!(rt; text.as_slice(), line.as_bytes());
-        assert_eq!(rt; status, *code);
+    for row in REFUSED_ROOTS.lines() {
+        let mut parts = row.split('|');
+        let root = parts.next().unwrap_or("");
+        assert_refused(&rt, rt.alloc(), root, 3, parts.next().unwrap_or(""))?;
     }
     Ok(())
 }
 
 #[test]
-fn a_manifest_of_another_shape_is_refused(rt: HostRuntime) -> Result<(), Fail> {
-    let root = "[app: :demo, version: \"1\", deps: [{:b, path: \"libs/b\"}]]";
+fn the_first_refusal_of_a_declaration_is_told(rt: HostRuntime) -> Result<(), Fail> {
+    let alloc = rt.alloc();
+    for row in REFUSED_DECLARATIONS.lines() {
+        let mut parts = row.split('|');
+        let deps = parts.next().unwrap_or("");
+        let root = format!(in alloc; "[app: :demo, version: \"1.0.0\", deps: {deps}]")?;
+        assert_refused(&rt, alloc, &root, 3, parts.next().unwrap_or(""))?;
+    }
+    let root = "[app: :demo, version: \"1.0.0\", deps: [{:c, path: \"c\"}, {:b, path: \"b\"}]]";
+    assert_refused(&rt, alloc, root, 9, "path missing: c c")
+}
+
+#[test]
+fn manifests_are_keyword_lists_or_maps(rt: HostRuntime) -> Result<(), Fail> {
     let files = [
-        ("project.exs", root),
-        ("libs/b/project.exs", "[app: :b, version: \"1\", deps: []]"),
+        (
+            "project.exs",
+            "%{version: \"0.1.0\", deps: [{:a, path: \"libs/a\"}], other: 1, app: :demo}",
+        ),
+        (
+            "libs/a/project.exs",
+            "[version: \"1.2.0\", elixir: \"~> 1.15\", app: :a, deps: []]",
+        ),
     ];
     let (status, text) = told(rt.alloc(), &files, &["deps.compile"])?;
+    assert_eq!(rt; status, 0);
     assert_eq!(rt;
         text.as_slice(),
-        b"mixc: libs/b/project.exs: shape\n".as_slice()
+        b"==> a 1.2.0 built\n1 dependencies: 1 built, 0 failed, 0 skipped\n".as_slice()
     );
+    Ok(())
+}
+
+#[test]
+fn a_dependency_is_refused_by_its_path(rt: HostRuntime) -> Result<(), Fail> {
+    let files = [
+        ("project.exs", ROOT),
+        (
+            "a/project.exs",
+            "[app: :a, version: \"1.0.0\", deps: [{:b, path: \"b\"}]]",
+        ),
+    ];
+    let (status, text) = told(rt.alloc(), &files, &["deps.compile"])?;
+    assert_eq!(rt; text.as_slice(), b"mixc: a/project.exs: shape\n".as_slice());
     assert_eq!(rt; status, 3);
     let files = [("project.exs", ROOT), ("a/x", "A"), ("c/x", "C")];
     let (status, text) = told(rt.alloc(), &files, &["deps.compile"])?;

@@ -13,3 +13,4 @@ pub mod OneLemmas
 pub mod HeadLemmas
 pub mod Outcomes
 pub mod FileOutcomes
+pub mod Apart

@@ -159,11 +159,11 @@ leads_take text rest (t ∷ front) more l =
 
 -- where a number that is too great is taken
 
-dot_no_digits : (bytes rest : List ℕ) → list_all is_ascii_digit (bytes ++ 46 ∷ rest) ≡ false
+pub dot_no_digits : (bytes rest : List ℕ) → list_all is_ascii_digit (bytes ++ 46 ∷ rest) ≡ false
 dot_no_digits [] rest = refl
 dot_no_digits (byte ∷ bytes) rest = and_right (is_ascii_digit byte) (list_all is_ascii_digit (bytes ++ 46 ∷ rest)) (dot_no_digits bytes rest)
 
-digits_all : (bytes : List ℕ) → are_digits bytes ≡ true → list_all is_ascii_digit bytes ≡ true
+pub digits_all : (bytes : List ℕ) → are_digits bytes ≡ true → list_all is_ascii_digit bytes ≡ true
 digits_all [] h = refl
 digits_all (byte ∷ bytes) h = h
 

@@ -23,7 +23,7 @@ mod unit;
 mod words;
 
 pub use error::{UnitCause, UnitError};
-pub use parse::{one_unit, parse_unit};
+pub use parse::{faults_stand_apart, one_unit, parse_unit};
 pub use token::Token;
 pub use unit::{Expression, Line, Lines, Statement, Unit};
 

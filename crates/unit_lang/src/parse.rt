@@ -1,10 +1,11 @@
 // The reader of a whole unit file.
 ghost use Rattle.std.specs.Prelude.{◌≡◌, ◌+◌, ◌<◌, ◌≤◌, ◌↔◌, [], ◌∷◌, ◌++◌, ℕ, List, length, IsTrue, IfOk, IfErr, IfSome, MatchResult, MatchOption, option_map};
-ghost use Rattle.unit_lang.specs.Faults.{IsFirstFault, AllBlank};
+ghost use Rattle.unit_lang.specs.Faults.{IsFirstFault, FirstFault, AllBlank};
 ghost use Rattle.unit_lang.specs.Gives.{FaultsAs};
 ghost use Rattle.unit_lang.specs.Lexing.{line_len, lines_after, rest_of, rest_size};
 ghost use Rattle.unit_lang.specs.Lines.{IsBlankLine, Says};
 ghost use Rattle.unit_lang.specs.Reading.{LongFault, heading_fault, BodyFaultAs, FileFaultAs, Hears, HearsFault};
+ghost use Rattle.unit_lang.specs.declared.error.UnitCause.{UnitCause as FaultCause};
 ghost use Rattle.unit_lang.specs.declared.error.UnitCause.TheVariants.{OutOfMemory};
 ghost use Rattle.unit_lang.specs.Spells.{Spells, Makes, Body, lines_of, longest_line};
 ghost use Rattle.unit_lang.specs.declared.unit.Unit.{Unit as UnitFile};
@@ -214,4 +215,9 @@ fn line_len(text: &[u8]) -> usize
 /// No text spells two units.
 pub fn one_unit()
     ensures { (text : List ℕ) (unit other : UnitFile) → Spells text unit → Spells text other → unit ≡ other }
+{}
+
+/// No text both spells a unit and has a first fault.
+pub fn faults_stand_apart()
+    ensures { (text : List ℕ) (unit : UnitFile) (at : ℕ) (cause : FaultCause) → Spells text unit → FirstFault text at cause → ⊥ }
 {}

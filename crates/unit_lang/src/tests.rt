@@ -1,6 +1,8 @@
 // Texts that are read, and texts that are refused.
 
-use crate::{Expression, Line, Statement, Unit, UnitCause, one_unit, parse_unit};
+use crate::{
+    Expression, Line, Statement, Unit, UnitCause, faults_stand_apart, one_unit, parse_unit,
+};
 use std::alloc::{AllocError, Global};
 use std::test::Fail;
 
@@ -132,6 +134,7 @@ fn read(alloc: Global, text: &[u8]) -> Result<Vec<u8>, AllocError> {
 #[test]
 fn a_unit_file_is_read(rt: HostRuntime) -> Result<(), Fail> {
     one_unit();
+    faults_stand_apart();
     let alloc = rt.alloc();
     let text = "unit m\nuse b.k\nlet x = 2 * (3 + k.v)\nlet y = 1\nexport x\nwarn mind the gap\n";
     let want =

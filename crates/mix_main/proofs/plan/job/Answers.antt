@@ -3,8 +3,9 @@ use Rattle.compile_model.specs.declared.job.Job.{Job}
 use Rattle.mix_main.specs.declared.plan_fault.PlanFault.{PlanFault}
 use Rattle.mx_base.specs.declared.file.File.{File}
 use Rattle.mx_base.specs.Order.{bytes_at}
-use Rattle.mix_main.specs.Plan.{project_path, manifest_path, version_by, source_at}
-use Rattle.mix_main.specs.PlanFaults.{Says, IsMeant, IsJob}
+use Rattle.project_file.specs.Files.{manifest_at}
+use Rattle.mix_main.specs.Plan.{project_path, version_by, source_at}
+use Rattle.mix_main.specs.PlanFaults.{Says, IsMeantBy, IsJob}
 use Rattle.mix_main.proofs.PlanLemmas.{handed_on, none_listed, some_listed, job_missing, job_says}
 use Rattle.mix_main.proofs.plan.job.Goals as goal
 
@@ -28,8 +29,8 @@ returns-in_err-version-clause-job g c =
     let found : IfSome told (λ files. sources ≡ filter_map (source_at d.dir files) paths.items) =
     subst (λ (o : Option (List File)). IfSome o (λ files. sources ≡ filter_map (source_at d.dir files) paths.items)) c.in_ok-paths.ensures.sources
     (subst (λ (ps : List (List ℕ)). IfSome (g.S.Store.sources c.list.new.self) (λ files. sources ≡ filter_map (source_at d.dir files) ps)) c.deref.ensures.value c.in_ok-sources.ensures.found) in
-    let said : Says (IsMeant (bytes_at project_path sources) (version_by (manifest_path d.dir))) (Err fault) =
-    subst (λ (fs : List File). Says (IsMeant (bytes_at project_path fs) (version_by (manifest_path d.dir))) (Err fault)) c.as_slice.ensures.value c.in_err-version.ensures.meant in
+    let said : IsMeantBy (bytes_at project_path sources) d.dir (version_by (manifest_at d.dir)) (Err fault) =
+    subst (λ (fs : List File). IsMeantBy (bytes_at project_path fs) d.dir (version_by (manifest_at d.dir)) (Err fault)) c.as_slice.ensures.value c.in_err-version.ensures.meant in
     subst (λ (r : Result Job PlanFault). IfSome told (λ files. Says (IsJob files d) r)) (sym (handed_on c.from_residual-in_err-version.result fault c.from_residual-in_err-version.ensures.1))
     (job_says told d paths.items sources (Err fault) some c.in_ok-paths.ensures.found found said)
 
@@ -45,7 +46,7 @@ returns-clause-job g c =
     let found : IfSome told (λ files. sources ≡ filter_map (source_at d.dir files) paths.items) =
     subst (λ (o : Option (List File)). IfSome o (λ files. sources ≡ filter_map (source_at d.dir files) paths.items)) c.in_ok-paths.ensures.sources
     (subst (λ (ps : List (List ℕ)). IfSome (g.S.Store.sources c.list.new.self) (λ files. sources ≡ filter_map (source_at d.dir files) ps)) c.deref.ensures.value c.in_ok-sources.ensures.found) in
-    let said : Says (IsMeant (bytes_at project_path sources) (version_by (manifest_path d.dir))) (Ok version) =
-    subst (λ (fs : List File). Says (IsMeant (bytes_at project_path fs) (version_by (manifest_path d.dir))) (Ok version)) c.as_slice.ensures.value c.in_ok-version.ensures.meant in
+    let said : IsMeantBy (bytes_at project_path sources) d.dir (version_by (manifest_at d.dir)) (Ok version) =
+    subst (λ (fs : List File). IsMeantBy (bytes_at project_path fs) d.dir (version_by (manifest_at d.dir)) (Ok version)) c.as_slice.ensures.value c.in_ok-version.ensures.meant in
     subst (λ (needs : List ℕ). IfSome told (λ files. Says (IsJob files d) (Ok (record { app = d.app; version = version; sources = sources; needs = needs })))) (sym c.new.ensures)
     (job_says told d paths.items sources (Ok version) some c.in_ok-paths.ensures.found found said)

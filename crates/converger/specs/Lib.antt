@@ -1,0 +1,6 @@
+pub mod Reach
+pub mod Divergence
+pub mod Converged
+pub mod Web
+pub mod Walk
+pub mod Cases

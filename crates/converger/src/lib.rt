@@ -1,0 +1,19 @@
+//! The rules by which declarations of one app live together, and what an environment reaches.
+//!
+//! It stands on the rows of `dep_rows`. A layer above may rely on this: `converge` refuses exactly where a rule
+//! meets, with all divergences, and `for_env` lists exactly the winners that an environment reaches.
+#![tactic(auto)]
+
+mod cases;
+mod converged;
+mod divergence;
+mod divergences;
+mod reach;
+mod strays;
+#[cfg(test)]
+mod tests;
+mod walk;
+mod web;
+
+pub use converged::{ConvergeError, Converged, Versions, converge, for_env};
+pub use divergence::{Divergence, Divergences, Rule};

@@ -1,0 +1,4 @@
+pub mod OneLemmas
+pub mod OptionLemmas
+pub mod DeclLemmas
+pub mod Copies

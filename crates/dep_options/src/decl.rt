@@ -1,0 +1,132 @@
+// What a manifest declares.
+
+use mx_base::{AppName, ListOf, RelPath, Text};
+use std::alloc::AllocError;
+use version_req::Requirement;
+
+/// Names of apps or of environments, in their order.
+pub type Names = ListOf<AppName>;
+
+/// Variables and their values, in their order.
+pub type Variables = ListOf<Variable>;
+
+/// A declared dependency.
+#[derive(Debug, Drop)]
+pub struct Decl {
+    pub app: AppName,
+    pub requirement: Option<Requirement>,
+    pub source: DepSource,
+    /// The environments that it is for: all of them where there is no list.
+    pub only: Option<Names>,
+    /// The environment that it is compiled in.
+    pub env: AppName,
+    pub optional: bool,
+    pub override_: bool,
+    pub compile: CompileBy,
+    /// The manager that was written; else it is found by the files.
+    pub manager: Option<Manager>,
+    pub runtime: bool,
+    /// Whether its app file is read.
+    pub app_file: bool,
+    pub system_env: Variables,
+}
+
+impl Clone for Decl {
+    ghost use Rattle.std.specs.Prelude.{◌≡◌};
+
+    ghost is_clone = { λ decl copy. copy ≡ decl };
+
+    fn clone(&self) -> Result<Decl, AllocError> {
+        Ok(Decl {
+            app: self.app.clone()?,
+            requirement: self.requirement.clone()?,
+            source: self.source.clone()?,
+            only: self.only.clone()?,
+            env: self.env.clone()?,
+            optional: self.optional,
+            override_: self.override_,
+            compile: self.compile.clone()?,
+            manager: self.manager,
+            runtime: self.runtime,
+            app_file: self.app_file,
+            system_env: self.system_env.clone()?,
+        })
+    }
+}
+
+/// Where a dependency comes from.
+#[derive(Debug, PartialEq, Eq, Drop)]
+pub enum DepSource {
+    /// A package of the registry.
+    Hex { package: AppName },
+    /// A folder of the project, which is not the root and doesn't lie in `_build`, `deps` or `hex`.
+    Path { dir: RelPath },
+}
+
+impl Clone for DepSource {
+    ghost use Rattle.std.specs.Prelude.{◌≡◌};
+
+    ghost is_clone = { λ source copy. copy ≡ source };
+
+    fn clone(&self) -> Result<DepSource, AllocError> {
+        match self {
+            DepSource::Hex { package } => Ok(DepSource::Hex {
+                package: package.clone()?,
+            }),
+            DepSource::Path { dir } => Ok(DepSource::Path { dir: dir.clone()? }),
+        }
+    }
+}
+
+/// How a dependency is compiled.
+#[derive(Debug, PartialEq, Eq, Drop)]
+pub enum CompileBy {
+    /// As its manager does.
+    Manager,
+    /// By a command.
+    Command(Text),
+    /// Not at all.
+    Nothing,
+}
+
+impl Clone for CompileBy {
+    ghost use Rattle.std.specs.Prelude.{◌≡◌};
+
+    ghost is_clone = { λ compile copy. copy ≡ compile };
+
+    fn clone(&self) -> Result<CompileBy, AllocError> {
+        match self {
+            CompileBy::Manager => Ok(CompileBy::Manager),
+            CompileBy::Command(command) => Ok(CompileBy::Command(command.clone()?)),
+            CompileBy::Nothing => Ok(CompileBy::Nothing),
+        }
+    }
+}
+
+/// The build tool of a dependency.
+#[derive(Clone, Copy, Debug, PartialEq, Eq, Drop)]
+pub enum Manager {
+    Mix,
+    Rebar3,
+    Make,
+}
+
+/// An environment variable for the compiler of a dependency.
+#[derive(Debug, Drop)]
+pub struct Variable {
+    pub name: Text,
+    pub value: Text,
+}
+
+impl Clone for Variable {
+    ghost use Rattle.std.specs.Prelude.{◌≡◌};
+
+    ghost is_clone = { λ variable copy. copy ≡ variable };
+
+    fn clone(&self) -> Result<Variable, AllocError> {
+        Ok(Variable {
+            name: self.name.clone()?,
+            value: self.value.clone()?,
+        })
+    }
+}

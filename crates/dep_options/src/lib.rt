@@ -1,0 +1,20 @@
+//! The declarations of a manifest: what each declares, and which is refused.
+//!
+//! It stands on the terms of `elixir_terms` and the requirements of `version_req`. A layer above may rely on
+//! this: `decls` answers exactly what a term declares, and else the first declaration that is refused and why.
+#![tactic(auto)]
+
+mod decl;
+mod error;
+mod option_name;
+mod option_values;
+mod reading;
+mod stated;
+#[cfg(test)]
+mod tests;
+mod values;
+mod views;
+
+pub use decl::{CompileBy, Decl, DepSource, Manager, Names, Variable, Variables};
+pub use error::{OptionCause, OptionError};
+pub use reading::{decls, one_answer};

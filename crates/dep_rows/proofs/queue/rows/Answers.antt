@@ -1,0 +1,83 @@
+use Rattle.std.proofs.Common.{ℕ, List, ◌<◌, ◌≤◌, length, false, refl, sym, ◌∙◌, subst, arith, IfSome, Option}
+use Rattle.dep_rows.specs.Growing.{BringsIn, Hinders}
+use Rattle.dep_rows.specs.Refusal.{HasCause}
+use Rattle.dep_rows.specs.Rows.{AreRows}
+use Rattle.dep_rows.specs.declared.row.Row.{Row}
+use Rattle.dep_rows.proofs.Asking.{stands_root, winner_within, stands_more, stands_hindered, stands_end, root_many, handed_on}
+use Rattle.dep_rows.proofs.queue.rows.Goals as goal
+
+pub returns-then-root-gt-MOST_ROWS-clause-refused : goal.returns-then-root-gt-MOST_ROWS-clause-refused
+returns-then-root-gt-MOST_ROWS-clause-refused g c =
+    let many = c.if-root-gt-MOST_ROWS.true in
+    root_many g.C.Children.children_of (g.C.Children.meaning c.args.children.now) g.C.Children.is_outside g.C.Children.is_memory c.args.root.now (omega (arith, many))
+
+pub loop-asked-init : goal.loop-asked-init
+loop-asked-init g c =
+    let few = c.if-root-gt-MOST_ROWS.false in
+    record {
+      stands = stands_root g.C.Children.children_of (g.C.Children.meaning c.args.children.now) c.args.root.now c.in_ok-copied.field-0.items c.new-listing.result.rows.items c.add_all.new.self.rows.items c.new-listing.result.winners.items c.add_all.new.self.winners.items c.new-listing.ensures.rows c.new-listing.ensures.winners c.in_ok-copied.ensures c.in_ok-add_all.ensures.rows c.in_ok-add_all.ensures.winners (omega (arith, few));
+      apps = c.in_ok-add_all.ensures.apps;
+      meaning = refl;
+      made_over = refl;
+      faults = refl;
+    }
+
+pub bring_in-requires-clause-within : goal.bring_in-requires-clause-within
+bring_in-requires-clause-within g c =
+    let at = c.loop-asked in
+    let test = c.loop-asked-test.true in
+    let counts = c.len.ensures in
+    let winners_long = at.listing.winners.ok.0 in
+    let rows_long = at.listing.rows.ok.0 in
+    let next : at.asked < length at.listing.winners.items = omega (arith, test, counts, winners_long) in
+    let within = winner_within g.C.Children.children_of (g.C.Children.meaning c.args.children.now) c.args.root.now at.listing.rows.items at.listing.winners.items at.asked c.index-winner.result.now at.invariant.stands next c.index-winner.ensures in
+    omega (arith, within, rows_long)
+
+pub returns-in_err-bring_in-clause-refused : goal.returns-in_err-bring_in-clause-refused
+returns-in_err-bring_in-clause-refused g c =
+    let at = c.loop-asked in
+    let test = c.loop-asked-test.true in
+    let counts = c.len.ensures in
+    let winners_long = at.listing.winners.ok.0 in
+    let next : at.asked < length at.listing.winners.items = omega (arith, test, counts, winners_long) in
+    let error = c.in_err-bring_in.field-0.0 in
+    let rows = at.listing.rows.items in
+    let winner = c.index-winner.result.now in
+    let hindered = subst (λ (o : Option _). IfSome o (λ known. Hinders g.C.Children.is_outside g.C.Children.is_memory (g.C.Children.children_of known) rows winner error)) at.invariant.meaning c.in_err-bring_in.ensures.err in
+    let meaning = g.C.Children.meaning c.args.children.now in
+    handed_on c.from_residual-in_err-bring_in.result error
+    (λ e. IfSome meaning (λ known. HasCause g.C.Children.is_outside g.C.Children.is_memory (g.C.Children.children_of known) c.args.root.now e))
+    c.from_residual-in_err-bring_in.ensures.1
+    (stands_hindered g.C.Children.children_of meaning c.args.root.now rows at.listing.winners.items at.asked winner at.invariant.stands next c.index-winner.ensures g.C.Children.is_outside g.C.Children.is_memory error hindered)
+
+pub loop-asked-preserved : goal.loop-asked-preserved
+loop-asked-preserved g c =
+    let at = c.loop-asked in
+    let test = c.loop-asked-test.true in
+    let counts = c.len.ensures in
+    let winners_long = at.listing.winners.ok.0 in
+    let next : at.asked < length at.listing.winners.items = omega (arith, test, counts, winners_long) in
+    let new = c.bring_in.new.listing in
+    let winner = c.index-winner.result.now in
+    let brings = subst (λ (o : Option _). BringsIn g.C.Children.children_of o winner at.listing.rows.items new.rows.items at.listing.winners.items new.winners.items) at.invariant.meaning c.in_ok-bring_in.ensures.ok in
+    record {
+      stands = stands_more g.C.Children.children_of (g.C.Children.meaning c.args.children.now) c.args.root.now at.listing.rows.items at.listing.winners.items at.asked winner at.invariant.stands next c.index-winner.ensures new.rows.items new.winners.items brings;
+      apps = c.in_ok-bring_in.ensures.apps;
+      meaning = c.in_ok-bring_in.ensures.meaning ∙ at.invariant.meaning;
+      made_over = c.in_ok-bring_in.ensures.made_over ∙ at.invariant.made_over;
+      faults = c.in_ok-bring_in.ensures.cause.kept (refl {a = false}) ∙ at.invariant.faults;
+    }
+
+pub returns-clause-read : goal.returns-clause-read
+returns-clause-read g c =
+    let at = c.loop-asked in
+    let test = c.loop-asked-test.false in
+    let counts = c.len.ensures in
+    let winners_long = at.listing.winners.ok.0 in
+    let past : length at.listing.winners.items ≤ at.asked = omega (arith, test, counts, winners_long) in
+    let meaning = g.C.Children.meaning c.args.children.now in
+    let root = c.args.root.now in
+    let found = c.into_rows.result in
+    subst (λ (rs : List Row). IfSome meaning (λ known. AreRows (g.C.Children.children_of known) root rs found.winners)) (sym c.into_rows.ensures.rows)
+    (subst (λ (ws : List ℕ). IfSome meaning (λ known. AreRows (g.C.Children.children_of known) root at.listing.rows.items ws)) (sym c.into_rows.ensures.winners)
+    (stands_end g.C.Children.children_of meaning root at.listing.rows.items at.listing.winners.items at.asked at.invariant.stands past))

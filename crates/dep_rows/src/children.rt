@@ -1,0 +1,56 @@
+// What the winner of an app declares in turn.
+ghost use Rattle.std.specs.Prelude.{◌≡◌, ℕ, List, Option, Bool, Ok, Err, IfSome, MatchResult, IsFalse};
+ghost use Rattle.mx_base.specs.Causes.{Counted};
+ghost use Rattle.dep_options.specs.declared.decl.Decl.{Decl};
+ghost use Rattle.dep_rows.specs.Children.{fails, MayEndIn};
+ghost use Rattle.dep_rows.specs.Rows.{ChildrenOf, AnswersOnce};
+
+use dep_options::Decl;
+use mx_base::AppName;
+use std::alloc::Global;
+
+/// Knows the children of a winner: what the app declares in turn.
+pub trait Children {
+    type Fault: Drop;
+
+    /// What is known of the apps.
+    ghost Known: { Type 0 };
+
+    /// The children of each winner, or why they can't be had, by what is known.
+    ghost children_of: { Known → ChildrenOf Self.Fault };
+
+    /// What it knows, where it tells that.
+    ghost meaning: { Self → Option Known };
+
+    /// How often the outside failed. The count never falls.
+    ghost faults: { Self → ℕ };
+
+    /// Whether a fault comes from the outside.
+    ghost is_outside: { Self.Fault → Bool };
+
+    /// Whether a fault tells of want of memory.
+    ghost is_memory: { Self.Fault → Bool };
+
+    /// What it was made over.
+    ghost Basis: { Type 0 };
+
+    ghost made_over: { Self → Basis };
+
+    /// The children of the app with this winner.
+    fn children(
+        &mut self,
+        alloc: Global,
+        app: &AppName,
+        winner: &Decl,
+    ) -> Result<Vec<Decl>, Self::Fault>
+        ensures answer { IfSome (meaning self.old) (λ known. MatchResult result (λ decls. children_of known app.now winner.now (Ok decls.items)) (λ fault. MayEndIn is_outside is_memory (children_of known app.now winner.now) fault)) }
+        ensures meaning { meaning self.new ≡ meaning self.old }
+        ensures made_over { made_over self.new ≡ made_over self.old }
+        ensures cause { Counted (faults self.old) (faults self.new) (fails is_outside result) };
+
+    /// Each winner has one answer at most.
+    ghost one: { (object : Self) → IfSome (meaning object) (λ known. AnswersOnce (children_of known)) };
+
+    /// A fault that is told is neither one of the outside nor want of memory.
+    ghost told: { (object : Self) (app : List ℕ) (winner : Decl) (fault : Self.Fault) → IfSome (meaning object) (λ known. children_of known app winner (Err fault) → IsFalse (is_outside fault) × IsFalse (is_memory fault)) };
+}

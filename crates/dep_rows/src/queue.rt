@@ -1,0 +1,72 @@
+// Each winner, in the order of its place, is asked for its children, whose rows come at the end.
+ghost use Rattle.std.specs.Prelude.{◌≡◌, ◌≤◌, ◌<◌, IfOk, OnOk, IfErr, IfSome, vec_len};
+ghost use Rattle.mx_base.specs.Causes.{Counted};
+ghost use Rattle.dep_rows.specs.Children.{fails};
+ghost use Rattle.dep_rows.specs.Growing.{BringsIn, Hinders, HasRequiredApps};
+ghost use Rattle.dep_rows.specs.Listed.{IsWithinLimit};
+ghost use Rattle.dep_rows.specs.Refusal.{HasCause, is_child_fault};
+ghost use Rattle.dep_rows.specs.Rows.{AreRows, most_rows};
+
+use crate::children::Children;
+use crate::decls::copied;
+use crate::error::RowsError;
+use crate::list::Rows;
+use crate::listing::{Listing, MOST_ROWS};
+use dep_options::Decl;
+use std::alloc::Global;
+
+/// The rows of the root and of all that its winners bring in.
+pub fn rows<C: Children>(
+    alloc: Global,
+    root: &[Decl],
+    children: &mut C,
+) -> Result<Rows, RowsError<C::Fault>>
+    ensures read { IfOk result (λ answer. IfSome (C.meaning children.old) (λ known. AreRows (C.children_of known) root.now answer.rows answer.winners)) }
+    ensures within { IfOk result (λ answer. IsWithinLimit answer) }
+    ensures refused { IfErr result (λ error. IfSome (C.meaning children.old) (λ known. HasCause C.is_outside C.is_memory (C.children_of known) root.now error)) }
+    ensures meaning { C.meaning children.new ≡ C.meaning children.old }
+    ensures made_over { C.made_over children.new ≡ C.made_over children.old }
+    ensures cause { Counted (C.faults children.old) (C.faults children.new) (fails (is_child_fault C.is_outside) result) }
+{
+    if root.len() > MOST_ROWS {
+        return Err(RowsError::TooManyRows);
+    }
+    let mut listing = Listing::new(alloc);
+    listing.add_all(None, copied(alloc, root)?)?;
+    let mut asked = 0;
+    while asked < listing.winners.len() {
+        let winner = listing.winners[asked];
+        bring_in(alloc, &mut listing, winner, children)?;
+        asked += 1;
+    }
+    Ok(listing.into_rows())
+}
+
+/// Asks a winner for its children, and adds their rows.
+fn bring_in<C: Children>(
+    alloc: Global,
+    listing: &mut Listing,
+    winner: u32,
+    children: &mut C,
+) -> Result<(), RowsError<C::Fault>>
+    requires within { winner < vec_len listing.old.rows }
+    requires few { vec_len listing.old.rows ≤ most_rows }
+    requires apps { HasRequiredApps listing.old.apps listing.old.rows.items }
+    ensures ok { OnOk result (BringsIn C.children_of (C.meaning children.old) winner listing.old.rows.items listing.new.rows.items listing.old.winners.items listing.new.winners.items) }
+    ensures apps { OnOk result (HasRequiredApps listing.new.apps listing.new.rows.items) }
+    ensures err { IfErr result (λ error. IfSome (C.meaning children.old) (λ known. Hinders C.is_outside C.is_memory (C.children_of known) listing.old.rows.items winner error)) }
+    ensures meaning { C.meaning children.new ≡ C.meaning children.old }
+    ensures made_over { C.made_over children.new ≡ C.made_over children.old }
+    ensures cause { Counted (C.faults children.old) (C.faults children.new) (fails (is_child_fault C.is_outside) result) }
+{
+    let row = &listing.rows[winner as usize];
+    let decls = match children.children(alloc, &row.app, &row.decl) {
+        Ok(decls) => decls,
+        Err(fault) => return Err(RowsError::Children(fault)),
+    };
+    if decls.len() > MOST_ROWS - listing.rows.len() {
+        return Err(RowsError::TooManyRows);
+    }
+    listing.add_all(Some(winner), decls)?;
+    Ok(())
+}

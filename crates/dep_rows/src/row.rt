@@ -1,0 +1,23 @@
+// A declaration and where it stands.
+
+use dep_options::Decl;
+use mx_base::{AppName, ListOf};
+
+/// Places in the list of rows.
+pub type Places = ListOf<u32>;
+
+/// Rows in their order.
+pub type RowList = ListOf<Row>;
+
+/// A declaration, and where it stands.
+#[derive(Clone, Debug, Drop)]
+pub struct Row {
+    pub app: AppName,
+    /// The place of the row whose child it is, and none for the root's.
+    pub by: Option<u32>,
+    /// Its place among the declarations of that manifest, from 0.
+    pub index: u32,
+    pub decl: Decl,
+    /// Whether it brings its app in: not where it is optional and stands outside the root.
+    pub required: bool,
+}

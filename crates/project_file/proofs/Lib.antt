@@ -1,0 +1,8 @@
+pub mod EntryLemmas
+pub mod FileLemmas
+pub mod OneLemmas
+pub mod PathLemmas
+pub mod ProjectLemmas
+pub mod SettingsLemmas
+pub mod ToldLemmas
+pub mod VersionLemmas

@@ -1,0 +1,8 @@
+use Rattle.std.proofs.Common.{◌≡◌, drop}
+use Rattle.std.specs.List.{list_all}
+use Rattle.project_file.specs.Compilers.{is_compiler}
+use Rattle.project_file.specs.Entries.{named}
+use Rattle.project_file.proofs.compilers.are_compilers.Given as goal
+
+abbrev pub invariant-loop-name : goal.invariant-loop-name
+invariant-loop-name l = list_all is_compiler (named (drop l.name-index l.entries)) ≡ list_all is_compiler (named l.entries)

@@ -1,0 +1,5 @@
+use Rattle.project_file.proofs.OneLemmas.{settings_law}
+use Rattle.project_file.proofs.laws.one_settings.Goals as goal
+
+pub returns : goal.returns
+returns c = settings_law c.one_reading.ensures

@@ -1,0 +1,5 @@
+pub mod Manifest
+pub mod Compilers
+pub mod Files
+pub mod Entries
+pub mod Refusals

@@ -1,0 +1,42 @@
+-- What the refusals of inner calls become, and what a refusal says.
+use Rattle.std.specs.Prelude.{ℕ, List, Err, if◌then◌else◌}
+use Rattle.elixir_terms.specs.declared.error.TermError.{TermError}
+use Rattle.elixir_terms.specs.declared.term.Term.{Term}
+use Rattle.elixir_terms.specs.Refused.{is_memory}
+use Rattle.dep_options.specs.declared.error.OptionError.{OptionError}
+use Rattle.dep_options.specs.Values.{is_memory as options_memory}
+use Rattle.tree_store.specs.declared.store.StoreFault.{StoreFault}
+use Rattle.tree_store.specs.declared.store.StoreFault.TheVariants as store
+use Rattle.project_file.specs.declared.error.ProjectError.{ProjectError}
+use Rattle.project_file.specs.declared.error.ProjectError.TheVariants as project
+use Rattle.project_file.specs.declared.error.SettingsError.{SettingsError}
+use Rattle.project_file.specs.declared.error.SettingsError.TheVariants as settings
+use Rattle.project_file.specs.Files.{IsReadAs, IsRefusedText}
+use Rattle.project_file.specs.Manifest.{IsProject}
+
+-- a manifest that is refused as a text
+abbrev pub term_refused : TermError → ProjectError
+term_refused error = if is_memory error.cause then project.OutOfMemory else project.Term error
+
+-- a manifest whose declarations are refused
+abbrev pub options_refused : OptionError → ProjectError
+options_refused error = if options_memory error.cause then project.OutOfMemory else project.Options error
+
+-- a manifest that a store doesn't give
+abbrev pub project_fault : StoreFault → ProjectError
+project_fault store.Failed = project.Read
+project_fault store.OutOfMemory = project.OutOfMemory
+
+-- settings that are refused as a text
+abbrev pub settings_term_refused : TermError → SettingsError
+settings_term_refused error = if is_memory error.cause then settings.OutOfMemory else settings.Term error
+
+-- settings that a store doesn't give
+abbrev pub settings_fault : StoreFault → SettingsError
+settings_fault store.Failed = settings.Read
+settings_fault store.OutOfMemory = settings.OutOfMemory
+
+-- why the text of a manifest in this folder is refused
+pub data IsRefusedManifest (dir text : List ℕ) : ProjectError → Type 0 where
+  unread : {error : TermError} → IsRefusedText text error → IsRefusedManifest dir text (project.Term error)
+  refused : (t : Term) {error : ProjectError} → IsReadAs text t → IsProject dir t (Err error) → IsRefusedManifest dir text error

@@ -1,0 +1,127 @@
+// Why a file of a project is refused.
+
+use dep_options::{OptionCause, OptionError};
+use elixir_terms::{TermCause, TermError};
+use std::alloc::{AllocError, AllocFailed};
+use tree_store::StoreFault;
+
+/// Why a manifest is refused.
+#[derive(Debug, Drop)]
+pub enum ProjectError {
+    /// The store failed, and counted it.
+    Read,
+    /// The text spells no term within the limits.
+    Term(TermError),
+    /// The term is no manifest.
+    Shape,
+    /// A declaration is refused.
+    Options(OptionError),
+    /// There was not enough memory. This says nothing of the file.
+    OutOfMemory,
+}
+
+/// Why the settings are refused.
+#[derive(Debug, Drop)]
+pub enum SettingsError {
+    /// The store failed, and counted it.
+    Read,
+    /// The text spells no term within the limits.
+    Term(TermError),
+    /// The term is none of settings.
+    Shape,
+    /// There was not enough memory. This says nothing of the file.
+    OutOfMemory,
+}
+
+impl From<AllocError> for ProjectError {
+    ghost use Rattle.std.specs.Prelude.{◌≡◌};
+    ghost use Rattle.project_file.specs.declared.error.ProjectError.TheVariants.{OutOfMemory};
+
+    ghost from_gives = { λ _ e. e ≡ OutOfMemory };
+
+    fn from(_: AllocError) -> ProjectError {
+        ProjectError::OutOfMemory
+    }
+}
+
+impl From<TermError> for ProjectError {
+    ghost use Rattle.std.specs.Prelude.{◌≡◌};
+    ghost use Rattle.project_file.specs.Refusals.{term_refused};
+
+    ghost from_gives = { λ error e. e ≡ term_refused error };
+
+    fn from(error: TermError) -> ProjectError {
+        match error.cause {
+            TermCause::NotRead => ProjectError::Term(error),
+            TermCause::OutOfMemory => ProjectError::OutOfMemory,
+        }
+    }
+}
+
+impl From<OptionError> for ProjectError {
+    ghost use Rattle.std.specs.Prelude.{◌≡◌};
+    ghost use Rattle.project_file.specs.Refusals.{options_refused};
+
+    ghost from_gives = { λ error e. e ≡ options_refused error };
+
+    fn from(error: OptionError) -> ProjectError {
+        if matches!(&error.cause, OptionCause::OutOfMemory) {
+            ProjectError::OutOfMemory
+        } else {
+            ProjectError::Options(error)
+        }
+    }
+}
+
+impl From<StoreFault> for ProjectError {
+    ghost use Rattle.std.specs.Prelude.{◌≡◌};
+    ghost use Rattle.project_file.specs.Refusals.{project_fault};
+
+    ghost from_gives = { λ fault e. e ≡ project_fault fault };
+
+    fn from(fault: StoreFault) -> ProjectError {
+        match fault {
+            StoreFault::Failed => ProjectError::Read,
+            StoreFault::OutOfMemory => ProjectError::OutOfMemory,
+        }
+    }
+}
+
+impl From<AllocError> for SettingsError {
+    ghost use Rattle.std.specs.Prelude.{◌≡◌};
+    ghost use Rattle.project_file.specs.declared.error.SettingsError.TheVariants.{OutOfMemory};
+
+    ghost from_gives = { λ _ e. e ≡ OutOfMemory };
+
+    fn from(_: AllocError) -> SettingsError {
+        SettingsError::OutOfMemory
+    }
+}
+
+impl From<TermError> for SettingsError {
+    ghost use Rattle.std.specs.Prelude.{◌≡◌};
+    ghost use Rattle.project_file.specs.Refusals.{settings_term_refused};
+
+    ghost from_gives = { λ error e. e ≡ settings_term_refused error };
+
+    fn from(error: TermError) -> SettingsError {
+        match error.cause {
+            TermCause::NotRead => SettingsError::Term(error),
+            TermCause::OutOfMemory => SettingsError::OutOfMemory,
+        }
+    }
+}
+
+impl From<StoreFault> for SettingsError {
+    ghost use Rattle.std.specs.Prelude.{◌≡◌};
+    ghost use Rattle.project_file.specs.Refusals.{settings_fault};
+
+    ghost from_gives = { λ fault e. e ≡ settings_fault fault };
+
+    fn from(fault: StoreFault) -> SettingsError {
+        match fault {
+            StoreFault::Failed => SettingsError::Read,
+            StoreFault::OutOfMemory => SettingsError::OutOfMemory,
+        }
+    }
+}

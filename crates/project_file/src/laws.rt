@@ -1,0 +1,26 @@
+// What the definitions imply.
+ghost use Rattle.std.specs.Prelude.{◌≡◌, ℕ, List, Option, Result};
+ghost use Rattle.mx_base.specs.declared.file.File.{File};
+ghost use Rattle.project_file.specs.declared.error.ProjectError.{ProjectError};
+ghost use Rattle.project_file.specs.declared.error.SettingsError.{SettingsError};
+ghost use Rattle.project_file.specs.declared.project.Project.{Project};
+ghost use Rattle.project_file.specs.declared.settings.Settings.{Settings};
+ghost use Rattle.project_file.specs.Files.{IsLoaded, AreSettings};
+
+use dep_options::one_answer;
+use elixir_terms::one_reading;
+
+/// The manifest in a folder says one thing, or is refused in one way.
+pub fn one_project()
+    ensures { (files : List File) (dir : List ℕ) (answer other : Result (Option Project) ProjectError) → IsLoaded files dir answer → IsLoaded files dir other → answer ≡ other }
+{
+    one_reading();
+    one_answer();
+}
+
+/// The files of a project have one meaning as settings, or are refused in one way.
+pub fn one_settings()
+    ensures { (files : List File) (answer other : Result Settings SettingsError) → AreSettings files answer → AreSettings files other → answer ≡ other }
+{
+    one_reading();
+}

@@ -1,0 +1,159 @@
+// What the term of a manifest says.
+ghost use Rattle.std.specs.Prelude.{◌≡◌, Ok, Err, IfOk, IfErr, IsFalse, option_map, option_and_then, codes};
+ghost use Rattle.std.specs.Option.{option_copied};
+ghost use Rattle.dep_options.specs.Options.{first_of};
+ghost use Rattle.dep_options.specs.Views.{app_of};
+ghost use Rattle.project_file.specs.Entries.{named, stated_in};
+ghost use Rattle.project_file.specs.Files.{is_outside, is_read};
+ghost use Rattle.project_file.specs.Manifest.{is_version, version_of, deps_in, stated_by, stated_of, IsProject};
+
+use crate::entries::{entries, first};
+use crate::error::ProjectError;
+use crate::project::{Decls, Project};
+use crate::views::{atom, list, string};
+use dep_options::decls;
+use elixir_terms::Term;
+use mx_base::{AppName, NameError, RelPath, Text};
+use semver::{Error, Version};
+use std::alloc::{AllocError, Global};
+use std::str;
+
+/// What a manifest states, where its declarations were not read yet.
+#[derive(Drop)]
+pub(crate) struct Header<'a> {
+    pub(crate) app: AppName,
+    pub(crate) version: Text,
+    pub(crate) deps: Option<&'a Term>,
+}
+
+/// What the term of a manifest in a folder says.
+pub(crate) fn project_in(alloc: Global, dir: &RelPath, term: &Term) -> Result<Project, ProjectError>
+    ensures ok { IfOk result (λ p. IsProject dir.now term.now (Ok p)) }
+    ensures refused { IfErr result (λ e. IsFalse (is_outside e) → IsProject dir.now term.now (Err e)) }
+    ensures own { IsFalse (is_read result) }
+{
+    let Some(header) = stated(alloc, term)? else {
+        return Err(ProjectError::Shape);
+    };
+    let Header { app, version, deps } = header;
+    let Some(deps) = deps else {
+        return Ok(Project {
+            app,
+            version,
+            decls: Decls::new(alloc),
+        });
+    };
+    let decls = decls(alloc, dir, deps)?;
+    Ok(Project {
+        app,
+        version,
+        decls: Decls::from_vec(decls),
+    })
+}
+
+// What a manifest states, where the term is one.
+fn stated(alloc: Global, term: &Term) -> Result<Option<Header<'_>>, AllocError>
+    ensures { IfOk result (λ found. option_map stated_in found ≡ stated_of term.now) }
+{
+    match entries(alloc, term)? {
+        Some(entries) => stated_by(alloc, &entries),
+        None => Ok(None),
+    }
+}
+
+// What these entries state.
+fn stated_by<'a>(
+    alloc: Global,
+    entries: &[(&'a Text, &'a Term)],
+) -> Result<Option<Header<'a>>, AllocError>
+    ensures { IfOk result (λ found. option_map stated_in found ≡ stated_by (named entries.now)) }
+{
+    let Some(app) = app_in(alloc, entries)? else {
+        return Ok(None);
+    };
+    let Some(version) = version_in(alloc, entries)? else {
+        return Ok(None);
+    };
+    match deps_in(entries) {
+        Some(deps) => Ok(Some(Header { app, version, deps })),
+        None => Ok(None),
+    }
+}
+
+fn app_in(alloc: Global, entries: &[(&Text, &Term)]) -> Result<Option<AppName>, AllocError>
+    ensures { IfOk result (λ found. found ≡ option_and_then app_of (first_of (codes "app") (named entries.now))) }
+{
+    match first(entries, b"app") {
+        Some(term) => app_of(alloc, term),
+        None => Ok(None),
+    }
+}
+
+fn version_in(alloc: Global, entries: &[(&Text, &Term)]) -> Result<Option<Text>, AllocError>
+    ensures { IfOk result (λ found. found ≡ option_and_then version_of (first_of (codes "version") (named entries.now))) }
+{
+    match first(entries, b"version") {
+        Some(term) => version_of(alloc, term),
+        None => Ok(None),
+    }
+}
+
+// The list of declarations, where one is written.
+fn deps_in<'a>(entries: &[(&'a Text, &'a Term)]) -> Option<Option<&'a Term>>
+    ensures { option_map (λ deps. option_copied deps) result ≡ deps_in (first_of (codes "deps") (named entries.now)) }
+{
+    match first(entries, b"deps") {
+        Some(term) => match list(term) {
+            Some(_) => Some(Some(term)),
+            None => None,
+        },
+        None => Some(None),
+    }
+}
+
+// An atom that is the name of an app.
+fn app_of(alloc: Global, term: &Term) -> Result<Option<AppName>, AllocError>
+    ensures { IfOk result (λ found. found ≡ app_of term.now) }
+{
+    let Some(name) = atom(term) else {
+        return Ok(None);
+    };
+    match AppName::of(alloc, name.as_slice()) {
+        Ok(name) => Ok(Some(name)),
+        Err(NameError::OutOfMemory) => Err(AllocError),
+        Err(_) => Ok(None),
+    }
+}
+
+// A string that is a version.
+fn version_of(alloc: Global, term: &Term) -> Result<Option<Text>, AllocError>
+    ensures { IfOk result (λ found. found ≡ version_of term.now) }
+{
+    let Some(text) = string(term) else {
+        return Ok(None);
+    };
+    if is_version(alloc, text.as_slice())? {
+        Ok(Some(Text::from_slice(alloc, text.as_slice())?))
+    } else {
+        Ok(None)
+    }
+}
+
+#[tactic(auto, using(crate::proofs::VersionLemmas::text_is_utf8, crate::proofs::VersionLemmas::no_text))]
+fn is_version(alloc: Global, text: &[u8]) -> Result<bool, AllocError>
+    ensures { IfOk result (λ is. is ≡ is_version text.now) }
+{
+    let Ok(text) = str::from_utf8(text) else {
+        return Ok(false);
+    };
+    match Version::parse(alloc, text) {
+        Ok(_) => Ok(true),
+        Err(error) => {
+            if error == Error::from(AllocError) {
+                Err(AllocError)
+            } else {
+                Ok(false)
+            }
+        }
+    }
+}

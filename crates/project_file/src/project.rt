@@ -1,0 +1,16 @@
+// What a manifest says.
+
+use dep_options::Decl;
+use mx_base::{AppName, ListOf, Text};
+
+/// Declarations in their order.
+pub type Decls = ListOf<Decl>;
+
+/// What the manifest `project.exs` of a folder says.
+#[derive(Debug, Drop)]
+pub struct Project {
+    pub app: AppName,
+    /// A version of Semantic Versioning 2.0.0, as it was written.
+    pub version: Text,
+    pub decls: Decls,
+}
