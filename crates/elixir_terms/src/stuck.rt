@@ -2,7 +2,7 @@
 ghost use Rattle.std.specs.Prelude.{◌≡◌, ◌<◌, ◌++◌, ◌∷◌, ◌&&◌, [], IfOk, option_map, length};
 ghost use Rattle.std.specs.Char.{is_digit, digit_value};
 ghost use Rattle.std.specs.Str.{is_utf8};
-ghost use Rattle.elixir_terms.specs.Lexed.{can_become, some_low, stuck_digit, stuck_letter, stuck_item, stuck_at};
+ghost use Rattle.elixir_terms.specs.Lexed.{can_become, some_low, kept, stuck_digit, stuck_letter, stuck_item, stuck_at};
 
 use crate::scalars::is_utf8;
 use crate::strings::{next, push};
@@ -21,14 +21,22 @@ pub fn stuck(alloc: Global, text: &[u8]) -> Result<Option<&[u8]>, AllocError>
         push(&mut bytes, value)?;
         if !can_become(alloc, bytes.as_slice())? {
             bytes.truncate(len);
-            return Ok(Some(stuck_item(alloc, bytes.as_slice(), rest)?));
+            let place = stuck_item(alloc, bytes.as_slice(), rest)?;
+            return Ok(Some(place));
         }
-        if is_utf8(bytes.as_slice()) {
-            bytes.clear();
-        }
+        forget_whole(&mut bytes);
         rest = after;
     }
     Ok(None)
+}
+
+/// Forgets bytes that are whole characters.
+fn forget_whole(bytes: &mut Vec<u8>)
+    ensures { bytes.new.items ≡ kept bytes.old.items }
+{
+    if is_utf8(bytes.as_slice()) {
+        bytes.clear();
+    }
 }
 
 /// The text from that byte on, where a byte or an escape is the first with which nothing may follow the bytes.
@@ -89,6 +97,7 @@ fn goes_on(alloc: Global, bytes: &[u8], high: u8) -> Result<bool, AllocError>
     }
 }
 
+/// The same of a high digit and any low one.
 fn some_low(alloc: Global, bytes: &[u8], high: u8) -> Result<bool, AllocError>
     requires { high < 16 }
     ensures { IfOk result (λ some. some ≡ some_low bytes.now high 16) }
@@ -103,6 +112,7 @@ fn some_low(alloc: Global, bytes: &[u8], high: u8) -> Result<bool, AllocError>
     Ok(false)
 }
 
+/// The byte may follow the bytes.
 fn may_follow(alloc: Global, bytes: &[u8], byte: u8) -> Result<bool, AllocError>
     ensures { IfOk result (λ can. can ≡ can_become (bytes.now ++ byte ∷ [])) }
 {
@@ -124,6 +134,7 @@ fn can_become(alloc: Global, bytes: &[u8]) -> Result<bool, AllocError>
         || ends_utf8(alloc, bytes, &[0x90, 0x80, 0x80])?)
 }
 
+/// The bytes with this end are UTF-8.
 fn ends_utf8(alloc: Global, bytes: &[u8], end: &[u8]) -> Result<bool, AllocError>
     ensures { IfOk result (λ whole. whole ≡ is_utf8 (bytes.now ++ end.now)) }
 {
