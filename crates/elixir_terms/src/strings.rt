@@ -1,7 +1,7 @@
 // Strings between quotes, and their escapes.
 ghost use Rattle.std.specs.Prelude.{◌≡◌, Err, ◌+◌, ◌++◌, ◌<◌, ◌≤◌, IsTrue, IfOk, IfSome, OnOk, length, option_map};
 ghost use Rattle.std.specs.Str.Parse.{digits_value};
-ghost use Rattle.elixir_terms.specs.Lexed.{LexedBy, broken, spelt_at, stuck_at, stopped, is_no_key, quoted_stop, is_heredoc, no_quoted_key, closed_lexed, string_lexed};
+ghost use Rattle.elixir_terms.specs.Lexed.{LexedBy, broken, spelt_at, stuck_at, stopped, is_no_key, quoted_stop, is_heredoc, no_quoted_key, closed_lexed, string_stop, string_lexed};
 ghost use Rattle.elixir_terms.specs.Lexing.{after_colon, escape_at, byte_escape_at, scalar_of, scalar_only, spelled, hex_len, after_escape, next_at, utf8_only};
 ghost use Rattle.elixir_terms.specs.Strings.{are_hex, letter_escape};
 
@@ -50,12 +50,24 @@ pub fn string<'a>(
 ) -> Result<(Token, &'a [u8]), Fault>
     ensures { LexedBy (λ found. (found.0, found.1.now)) result (string_lexed expected text.now inside.now) }
 {
-    if !expected.term && !expected.key {
-        return Err(Fault::before(text, TermCause::Unexpected));
+    if !(expected.term || expected.key) {
+        Err(Fault::before(text, TermCause::Unexpected))
+    } else if expected.term && is_heredoc(inside) {
+        Err(Fault::before(text, TermCause::Unsupported(Feature::Heredoc)))
+    } else {
+        quoted(alloc, text, inside, expected)
     }
-    if expected.term && is_heredoc(inside) {
-        return Err(Fault::before(text, TermCause::Unsupported(Feature::Heredoc)));
-    }
+}
+
+/// The same where a string or a quoted key may begin and no heredoc does.
+fn quoted<'a>(
+    alloc: Global,
+    text: &'a [u8],
+    inside: &'a [u8],
+    expected: Expected,
+) -> Result<(Token, &'a [u8]), Fault>
+    ensures { LexedBy (λ found. (found.0, found.1.now)) result (string_stop expected text.now (spelt_at inside.now).0 (spelt_at inside.now).1 (stuck_at inside.now)) }
+{
     let (bytes, rest) = spelt(alloc, inside)?;
     match rest {
         [] => stopped(alloc, inside, expected.term, rest, TermCause::Unclosed),
