@@ -1,8 +1,8 @@
 -- Atoms with a colon, and their first faults.
-use Rattle.std.specs.Prelude.{IsTrue, IsFalse, option_map, Ok, Err}
-use Rattle.std.proofs.Common.{◌≡◌, ℕ, suc, ◌+◌, ◌<◌, ◌≤◌, Bool, true, false, ◌&&◌, ◌||◌, ◌⊎◌, inl, inr, List, [], ◌∷◌, ◌++◌, Option, Some, None, length, take, drop, cond, eqb, refl, sym, ap, ◌∙◌, arith, subst, append_assoc, eq-eqb, ⊎_elim}
-use Rattle.std.proofs.lemmas.Bool.{and_right, eqb-true, true≢false, false≢true}
-use Rattle.std.proofs.lemmas.List.{take-append-drop, append-nil, length-append}
+use Rattle.std.specs.Prelude.{option_map, Ok, Err}
+use Rattle.std.proofs.Common.{◌≡◌, ℕ, suc, ◌+◌, ◌<◌, ◌≤◌, Bool, true, false, ◌⊎◌, inl, inr, List, [], ◌∷◌, ◌++◌, Option, Some, None, length, take, drop, cond, eqb, refl, sym, ap, ◌∙◌, arith, subst, append_assoc, eq-eqb, ⊎_elim}
+use Rattle.std.proofs.lemmas.Bool.{eqb-true, true≢false}
+use Rattle.std.proofs.lemmas.List.{append-nil, length-append}
 use Rattle.std.specs.Str.{IsUtf8}
 use Rattle.elixir_terms.specs.declared.error.Feature.TheVariants.{Interpolation}
 use Rattle.elixir_terms.specs.declared.error.TermCause.{TermCause}
@@ -11,15 +11,15 @@ use Rattle.elixir_terms.specs.declared.expected.Expected.{Expected}
 use Rattle.elixir_terms.specs.declared.token.Token.{Token}
 use Rattle.elixir_terms.specs.declared.token.Token.TheVariants.{Atom}
 use Rattle.elixir_terms.specs.Lexed.{broken, spelt_at, stuck_at, stopped, quoted_only, quoted_stop, name_atom_lexed, after_colon_lexed, atom_lexed}
-use Rattle.elixir_terms.specs.Lexing.{Found, first_token, next_at, utf8_only, quoted_at, quoted_atom_of, name_len, name_rest_len, name_atom_of, atom_at, escape_at}
-use Rattle.elixir_terms.specs.Local.{rank, starts_with, takes, IsPart, IsShut, IsOpening, Locally, interpolation, escape, atom_utf8}
+use Rattle.elixir_terms.specs.Lexing.{Found, next_at, utf8_only, quoted_at, quoted_atom_of, name_len, name_rest_len, name_atom_of, atom_at, escape_at}
+use Rattle.elixir_terms.specs.Local.{rank, takes, IsPart, IsShut, IsOpening, Locally, interpolation, escape, atom_utf8}
 use Rattle.elixir_terms.specs.Names.{is_name_start}
 use Rattle.elixir_terms.specs.Strings.{Quoted, opens_interpolation}
-use Rattle.elixir_terms.specs.Tokens.{Begins, quoted_atom}
-use Rattle.elixir_terms.proofs.FaultLemmas.{Right, Late, Least, IsNone, IsBroken, ColonMark, colon_broken, colon_utf8, first_by, unexpected_at, unclosed_at, at_once, shut_none, shut_taken, broken_by_slash, broken_by_opening, opens_found, broken_one, broken_some, broken_no_quote}
+use Rattle.elixir_terms.specs.Tokens.{quoted_atom}
+use Rattle.elixir_terms.proofs.FaultLemmas.{Right, IsNone, IsBroken, ColonMark, colon_broken, colon_utf8, first_by, unexpected_at, unclosed_at, at_once, shut_none, shut_taken, broken_by_slash, broken_by_opening, opens_found, broken_one, broken_some, broken_no_quote}
 use Rattle.elixir_terms.proofs.OptionLemmas.{none_some, some_same, map_some}
-use Rattle.elixir_terms.proofs.StringLemmas.{IsSpelt, spelt_sound, broken_stop, no_escape, utf8_found, utf8_kept, quoted_is_spelt, quoted_from_spelt}
-use Rattle.elixir_terms.proofs.StuckLemmas.{Opens, Never, Stuck, Free, Walked, walked, free_front}
+use Rattle.elixir_terms.proofs.StringLemmas.{spelt_sound, broken_stop, no_escape, utf8_found, utf8_kept, quoted_is_spelt, quoted_from_spelt}
+use Rattle.elixir_terms.proofs.StuckLemmas.{Opens, Never, Stuck, Walked, walked, free_front}
 use Rattle.elixir_terms.proofs.TokenLemmas.{begins_first, first_begins, name_atom_more}
 
 -- the token is an atom
@@ -114,7 +114,7 @@ stuck_right e inside bytes rest place t f ends w =
     (unexpected_at e (58 ∷ 34 ∷ inside) (58 ∷ 34 ∷ w.front) w.after w.byte (ap (λ l. 58 ∷ 34 ∷ l) w.split) (open_part e inside w.front t w.opens) (never_shut e (w.front ++ w.byte ∷ []) w.shut)
     (λ k other m. ⊎_elim (λ x. omega (arith, x.1, w.early, ap length w.here, ap length w.split, length-append w.front (w.byte ∷ w.after), ap (λ s. length s.1) f)) (λ x. absurd (ends x.3.0 x.3.1)) (quoted_mark e inside bytes rest f m)))
 
-stopped_right : (e : Expected) (inside bytes rest : List ℕ) (why : TermCause) → e.term ≡ true → spelt_at inside ≡ (bytes, rest) → ((more : List ℕ) → rest ≡ 34 ∷ more → ⊥) → ((front : List ℕ) → inside ≡ front ++ (spelt_at inside).1 → IsPart e (58 ∷ 34 ∷ front)→ Right e (58 ∷ 34 ∷ inside) (Err (rest, why))) → (front : List ℕ) → inside ≡ front ++ (spelt_at inside).1 → (o : Option (List ℕ)) → Walked [] inside o → Right e (58 ∷ 34 ∷ inside) (stopped false o (Err (rest, why)))
+stopped_right : (e : Expected) (inside bytes rest : List ℕ) (why : TermCause) → e.term ≡ true → spelt_at inside ≡ (bytes, rest) → ((more : List ℕ) → rest ≡ 34 ∷ more → ⊥) → ((front : List ℕ) → inside ≡ front ++ (spelt_at inside).1 → IsPart e (58 ∷ 34 ∷ front) → Right e (58 ∷ 34 ∷ inside) (Err (rest, why))) → (front : List ℕ) → inside ≡ front ++ (spelt_at inside).1 → (o : Option (List ℕ)) → Walked [] inside o → Right e (58 ∷ 34 ∷ inside) (stopped false o (Err (rest, why)))
 stopped_right e inside bytes rest why t f ends good front s None w = good front s (open_part e inside front t (free_front inside front w s))
 stopped_right e inside bytes rest why t f ends good front s (Some place) w = stuck_right e inside bytes rest place t f ends w
 

@@ -1,27 +1,27 @@
 -- Strings and quoted keys, and their first faults.
 use Rattle.std.specs.Prelude.{IsTrue, IsFalse, not, option_map, Ok, Err}
-use Rattle.std.proofs.Common.{◌≡◌, ℕ, suc, ◌+◌, ◌<◌, ◌≤◌, Bool, true, false, ◌&&◌, ◌||◌, ◌⊎◌, inl, inr, List, [], ◌∷◌, ◌++◌, Option, Some, None, length, take, drop, cond, eqb, refl, sym, ap, ◌∙◌, arith, subst, append_assoc, eq-eqb, ⊎_elim}
-use Rattle.std.proofs.lemmas.Bool.{not-true, and_parts, and_from, and_right, or_parts, or_cases, eqb-true, true≢false, false≢true}
-use Rattle.std.proofs.lemmas.List.{take-append-drop, append-nil, length-append}
+use Rattle.std.proofs.Common.{◌≡◌, ℕ, suc, ◌+◌, ◌<◌, ◌≤◌, Bool, true, false, ◌&&◌, ◌||◌, ◌⊎◌, inl, inr, List, [], ◌∷◌, ◌++◌, Option, Some, None, length, cond, eqb, refl, sym, ap, ◌∙◌, arith, subst, append_assoc, eq-eqb, ⊎_elim}
+use Rattle.std.proofs.lemmas.Bool.{not-true, and_parts, and_from, or_parts, or_cases, eqb-true, true≢false, false≢true}
+use Rattle.std.proofs.lemmas.List.{append-nil, length-append}
 use Rattle.std.proofs.lemmas.Str.{IsUtf8-from_is_utf8, is_utf8-from_IsUtf8}
 use Rattle.std.specs.Str.{IsUtf8, is_utf8}
-use Rattle.elixir_terms.specs.declared.error.Feature.TheVariants.{Heredoc, Interpolation}
+use Rattle.elixir_terms.specs.declared.error.Feature.TheVariants.{Heredoc}
 use Rattle.elixir_terms.specs.declared.error.TermCause.{TermCause}
-use Rattle.elixir_terms.specs.declared.error.TermCause.TheVariants.{Unsupported, BadEscape, BadUtf8, TrailingText, Unclosed, Unexpected}
+use Rattle.elixir_terms.specs.declared.error.TermCause.TheVariants.{Unsupported, BadUtf8, TrailingText, Unclosed, Unexpected}
 use Rattle.elixir_terms.specs.declared.expected.Expected.{Expected}
 use Rattle.elixir_terms.specs.declared.token.Token.{Token}
 use Rattle.elixir_terms.specs.declared.token.Token.TheVariants.{Str, Key}
 use Rattle.elixir_terms.specs.Lexed.{cut_off, stray_colon, broken, spelt_at, stuck_at, stopped, is_no_key, key_only, colon_lexed, no_quoted_key, closed_lexed, string_stop, is_heredoc, string_lexed}
-use Rattle.elixir_terms.specs.Lexing.{Found, first_token, next_at, utf8_only, quoted_at, after_colon, key_or_string, string_of, string_at}
-use Rattle.elixir_terms.specs.Local.{rank, starts_with, is_plain, IsFree, takes, IsPart, IsShut, IsOpening, Locally, heredoc, key_utf8, colon_after}
+use Rattle.elixir_terms.specs.Lexing.{Found, next_at, utf8_only, quoted_at, after_colon, key_or_string, string_of, string_at}
+use Rattle.elixir_terms.specs.Local.{rank, starts_with, is_plain, IsFree, takes, IsPart, IsShut, Locally, heredoc, key_utf8, colon_after}
 use Rattle.elixir_terms.specs.Names.{is_blank}
 use Rattle.elixir_terms.specs.Strings.{Quoted}
 use Rattle.elixir_terms.specs.Tokens.{Begins, string, quoted_key}
 use Rattle.elixir_terms.proofs.AtomFaults.{low, stop_broken, holds_broken}
-use Rattle.elixir_terms.proofs.FaultLemmas.{Right, Late, Least, IsNone, IsBroken, QuoteMark, quote_heredoc, quote_broken, quote_key, quote_colon, first_by, unexpected_at, unclosed_at, cut_right, at_once, shut_taken, broken_one, broken_some, broken_no_quote, broken_no_brace}
+use Rattle.elixir_terms.proofs.FaultLemmas.{Right, Least, IsNone, IsBroken, QuoteMark, quote_heredoc, quote_broken, quote_key, quote_colon, first_by, unexpected_at, unclosed_at, cut_right, at_once, shut_taken, broken_one, broken_some, broken_no_quote, broken_no_brace}
 use Rattle.elixir_terms.proofs.OptionLemmas.{none_some, some_same, map_some}
-use Rattle.elixir_terms.proofs.StringLemmas.{IsSpelt, spelt_sound, spelt_complete, quoted_complete, utf8_found, utf8_kept, quoted_is_spelt, quoted_from_spelt}
-use Rattle.elixir_terms.proofs.StuckLemmas.{Opens, Never, Stuck, Free, Walked, walked, free_front}
+use Rattle.elixir_terms.proofs.StringLemmas.{spelt_sound, spelt_complete, quoted_complete, utf8_found, utf8_kept, quoted_is_spelt, quoted_from_spelt}
+use Rattle.elixir_terms.proofs.StuckLemmas.{Opens, Never, Stuck, Walked, walked, free_front}
 use Rattle.elixir_terms.proofs.TokenLemmas.{begins_first, first_begins, colon_found}
 
 -- the token is a string or a key, as its quotes and its colon say

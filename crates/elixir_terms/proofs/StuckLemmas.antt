@@ -1,6 +1,6 @@
 -- Where what stands between quotes can no more become UTF-8.
 use lib.Utf8.{encode}
-use Rattle.std.proofs.Common.{◌≡◌, ℕ, zero, suc, ◌+◌, ◌*◌, ◌<◌, ◌≤◌, Bool, true, false, ◌&&◌, ◌||◌, ◌⊎◌, inl, inr, List, [], ◌∷◌, ◌++◌, Option, Some, None, length, take, drop, cond, eqb, refl, sym, ap, ◌∙◌, arith, subst, append_assoc, lt-ltb, ⊎_elim}
+use Rattle.std.proofs.Common.{◌≡◌, ℕ, zero, suc, ◌+◌, ◌*◌, ◌<◌, ◌≤◌, Bool, true, false, ◌&&◌, ◌||◌, List, [], ◌∷◌, ◌++◌, Option, Some, None, length, take, drop, cond, eqb, refl, sym, ap, ◌∙◌, arith, subst, append_assoc, lt-ltb, ⊎_elim}
 use Rattle.std.proofs.lemmas.Bool.{and_parts, and_from, and_right, or_parts, or_from, not_from_false, cases_lt, eqb-true, ltb-true, true≢false}
 use Rattle.std.proofs.lemmas.List.{take_at, drop_at, append-nil, length-append}
 use Rattle.std.proofs.lemmas.Str.{IsUtf8-nil, IsUtf8-append, IsUtf8-encode, IsUtf8-from_is_utf8, digit_value-digit_char}
@@ -8,13 +8,13 @@ use Rattle.std.specs.Char.{is_digit, digit_value, digit_char, IsScalar}
 use Rattle.std.specs.Prelude.{nat_lt}
 use Rattle.std.specs.Str.{IsUtf8, is_utf8}
 use Rattle.std.specs.Str.Parse.{digits_value}
-use Rattle.elixir_terms.specs.Lexed.{can_become, spelt_at, item_at, some_low, stuck_digit, stuck_letter, stuck_item, kept, after_item, stuck_past, stuck_at}
-use Rattle.elixir_terms.specs.Lexing.{Found, escape_at, byte_escape_at, after_escape, next_at, before, escaped, quoted_past, quoted_at}
+use Rattle.elixir_terms.specs.Lexed.{can_become, spelt_at, some_low, stuck_digit, stuck_letter, stuck_item, kept, after_item, stuck_past, stuck_at}
+use Rattle.elixir_terms.specs.Lexing.{escape_at, after_escape, next_at, before, escaped, quoted_past, quoted_at}
 use Rattle.elixir_terms.specs.Local.{starts_with}
 use Rattle.elixir_terms.specs.Strings.{are_hex, letter_escape, Escape, by_letter, by_byte, by_scalar, opens_interpolation, Quoted, literal, escape}
 use Rattle.elixir_terms.proofs.OptionLemmas.{none_some, some_same, map_some}
-use Rattle.elixir_terms.proofs.StringLemmas.{Becomes, becomes, IsEscape, escape_sound, escape_complete, letter_not, quoted_drop, spelt_next, spelt_stop, IsSpelt, spelt_sound}
-use Rattle.elixir_terms.proofs.Utf8Lemmas.{front_can, never, utf8_after, utf8_before, cut_again}
+use Rattle.elixir_terms.proofs.StringLemmas.{becomes, escape_sound, escape_complete, letter_not, quoted_drop, spelt_next, spelt_stop, spelt_sound}
+use Rattle.elixir_terms.proofs.Utf8Lemmas.{front_can, never, utf8_after, utf8_before}
 
 -- what may come after the front makes it, after the bytes, a whole inside that is UTF-8
 pub record Opens (bytes text front : List ℕ) : Type 0 where

@@ -14,10 +14,10 @@ use Rattle.elixir_terms.specs.declared.token.Token.{Token}
 use Rattle.elixir_terms.specs.declared.token.Token.TheVariants.{Atom, Int, Str, Words, Key, Open, Close, Comma, Arrow}
 use Rattle.elixir_terms.specs.Lexing.{name_len, after_colon, utf8_only, escape_at, base_of, signed, inside_len, kind_of, word_term, words_from}
 use Rattle.elixir_terms.specs.Local.{starts_with, is_closing}
-use Rattle.elixir_terms.specs.Names.{is_from, is_name_start, is_name_byte, is_bare_atom}
+use Rattle.elixir_terms.specs.Names.{is_from, is_name_start, is_bare_atom}
 use Rattle.elixir_terms.specs.Refused.{is_memory}
 use Rattle.elixir_terms.specs.Strings.{opens_interpolation}
-use Rattle.elixir_terms.specs.Tokens.{ends_integer, is_colon}
+use Rattle.elixir_terms.specs.Tokens.{ends_integer}
 
 -- a token and the text after it, or the text from where the lexer stops on, and why it stops
 abbrev pub Lexed : Type 0

@@ -1,11 +1,10 @@
 -- The first token of a text, as a function. What a token is is said without it (Tokens.antt).
-use Rattle.std.specs.Prelude.{◌≡◌, ℕ, zero, suc, ◌+◌, ◌^◌, Bool, true, false, ◌&&◌, ◌||◌, ◌==◌, nat_lt, List, [], ◌∷◌, ◌++◌, map, take, drop, Option, Some, None, option_map, if◌then◌else◌, IsFalse, encode_utf8, ℤ, pos, neg_ℤ, ◌≤ℤ◌, ◌<ℤ◌, Result, Ok, Err}
+use Rattle.std.specs.Prelude.{ℕ, zero, suc, ◌+◌, ◌^◌, Bool, true, false, ◌&&◌, ◌||◌, ◌==◌, nat_lt, List, [], ◌∷◌, ◌++◌, map, take, drop, Option, Some, None, option_map, if◌then◌else◌, encode_utf8, ℤ, pos, neg_ℤ, ◌≤ℤ◌, ◌<ℤ◌}
 use Rattle.std.specs.Char.{is_digit}
 use Rattle.std.specs.List.{list_all}
 use Rattle.std.specs.Str.{is_utf8, all_scalars}
 use Rattle.std.specs.Str.Parse.{digits_value}
 use Rattle.elixir_terms.specs.declared.bracket.Bracket.TheVariants as bracket
-use Rattle.elixir_terms.specs.declared.error.TermError.{TermError}
 use Rattle.elixir_terms.specs.declared.term.Term.{Term}
 use Rattle.elixir_terms.specs.declared.term.Term.TheVariants as term
 use Rattle.elixir_terms.specs.declared.token.Closing.TheVariants.{Square, Curly}
@@ -16,7 +15,6 @@ use Rattle.elixir_terms.specs.declared.strings.Spelled.TheVariants.{Byte, Scalar
 use Rattle.elixir_terms.specs.declared.words.WordKind.{WordKind}
 use Rattle.elixir_terms.specs.declared.words.WordKind.TheVariants.{Strings, Atoms}
 use Rattle.elixir_terms.specs.Names.{is_name_start, is_name_byte, is_name_mark, is_bare_atom, is_blank}
-use Rattle.elixir_terms.specs.Refused.{is_memory, not_read}
 use Rattle.elixir_terms.specs.Strings.{letter_escape, are_hex, opens_interpolation}
 use Rattle.elixir_terms.specs.Tokens.{line_end}
 

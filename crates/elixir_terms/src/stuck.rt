@@ -40,11 +40,7 @@ fn forget_whole(bytes: &mut Vec<u8>)
 }
 
 /// The text from that byte on, where a byte or an escape is the first with which nothing may follow the bytes.
-fn stuck_item<'a>(
-    alloc: Global,
-    bytes: &[u8],
-    text: &'a [u8],
-) -> Result<&'a [u8], AllocError>
+fn stuck_item<'a>(alloc: Global, bytes: &[u8], text: &'a [u8]) -> Result<&'a [u8], AllocError>
     ensures { IfOk result (λ rest. rest.now ≡ stuck_item bytes.now text.now) }
 {
     match text {
@@ -54,11 +50,7 @@ fn stuck_item<'a>(
 }
 
 /// The same after a backslash.
-fn stuck_letter<'a>(
-    alloc: Global,
-    bytes: &[u8],
-    text: &'a [u8],
-) -> Result<&'a [u8], AllocError>
+fn stuck_letter<'a>(alloc: Global, bytes: &[u8], text: &'a [u8]) -> Result<&'a [u8], AllocError>
     ensures { IfOk result (λ rest. rest.now ≡ stuck_letter bytes.now text.now) }
 {
     match text {
@@ -68,11 +60,7 @@ fn stuck_letter<'a>(
 }
 
 /// The same after `\x`.
-fn stuck_digit<'a>(
-    alloc: Global,
-    bytes: &[u8],
-    text: &'a [u8],
-) -> Result<&'a [u8], AllocError>
+fn stuck_digit<'a>(alloc: Global, bytes: &[u8], text: &'a [u8]) -> Result<&'a [u8], AllocError>
     ensures { IfOk result (λ rest. rest.now ≡ stuck_digit bytes.now text.now) }
 {
     match text {
@@ -126,12 +114,14 @@ fn may_follow(alloc: Global, bytes: &[u8], byte: u8) -> Result<bool, AllocError>
 fn can_become(alloc: Global, bytes: &[u8]) -> Result<bool, AllocError>
     ensures { IfOk result (λ can. can ≡ can_become bytes.now) }
 {
-    Ok(is_utf8(bytes)
-        || ends_utf8(alloc, bytes, &[0x80])?
-        || ends_utf8(alloc, bytes, &[0x80, 0x80])?
-        || ends_utf8(alloc, bytes, &[0x80, 0x80, 0x80])?
-        || ends_utf8(alloc, bytes, &[0xA0, 0x80])?
-        || ends_utf8(alloc, bytes, &[0x90, 0x80, 0x80])?)
+    Ok(
+        is_utf8(bytes)
+            || ends_utf8(alloc, bytes, &[0x80])?
+            || ends_utf8(alloc, bytes, &[0x80, 0x80])?
+            || ends_utf8(alloc, bytes, &[0x80, 0x80, 0x80])?
+            || ends_utf8(alloc, bytes, &[0xA0, 0x80])?
+            || ends_utf8(alloc, bytes, &[0x90, 0x80, 0x80])?,
+    )
 }
 
 /// The bytes with this end are UTF-8.

@@ -21,7 +21,7 @@ returns-then-not-branch c =
     let bytes = c.loop-value.bytes.items in
     let value = spelled c.in-Some.value in
     let back : c.as_slice-then-not-branch.result.now ≡ bytes =
-        c.as_slice-then-not-branch.ensures.value ∙ c.truncate.ensures.items ∙ ap (take c.len-len.result) c.in_ok-push.ensures ∙ take_at bytes value c.len-len.result (sym (c.len-len.ensures ∙ c.loop-value.bytes.ok.0)) in
+    c.as_slice-then-not-branch.ensures.value ∙ c.truncate.ensures.items ∙ ap (take c.len-len.result) c.in_ok-push.ensures ∙ take_at bytes value c.len-len.result (sym (c.len-len.ensures ∙ c.loop-value.bytes.ok.0)) in
     let more : c.as_slice.result.now ≡ bytes ++ value = c.as_slice.ensures.value ∙ c.in_ok-push.ensures in
     ap Some (c.in_ok-place.ensures ∙ ap (λ l. stuck_item l c.loop-value.rest.now) back)
     ∙ sym (stops c.loop-value.rest.now value c.in-Some.after.now bytes c.as_slice.result.now (sym c.in-Some.ensures.value) more (sym c.in_ok-can_become.ensures ∙ c.if-not-branch.true))
