@@ -2,7 +2,9 @@
 ghost use Rattle.std.specs.Prelude.{◌≡◌, ◌≢◌, [], ℕ, length, IfOk};
 ghost use Rattle.mx_base.specs.Causes.{Counted};
 ghost use Rattle.mx_base.specs.Order.{AreInOrder};
-ghost use Rattle.compile_model.specs.Content.{Content, content_of};
+ghost use Rattle.compile_model.specs.Content.{Content, content_of, empty_outcome};
+ghost use Rattle.compile_model.specs.Planned.{IsNamed};
+ghost use Rattle.compile_model.specs.declared.how.How.TheVariants.{Nothing};
 ghost use Rattle.compile_model.specs.Faults.{is_died};
 ghost use Rattle.compile_model.specs.declared.outcome.Outcome.{Outcome};
 
@@ -61,6 +63,9 @@ pub trait Meaning {
 
     /// An outcome of another status than 0 has no files.
     ghost failed_is_bare: { (content : Content) → (compile_of content).status ≢ 0 → (compile_of content).files ≡ [] };
+
+    /// What isn't compiled has the empty outcome.
+    ghost nothing_is_empty: { (content : Content) → content.how ≡ Nothing → compile_of content ≡ empty_outcome };
 }
 
 /// Compiles jobs, and may die on the way.
@@ -70,7 +75,8 @@ pub trait Compiler: Meaning {
 
     /// The outcome that the input's content means. `Died` says that the compiler ended before it answered.
     fn compile(&mut self, alloc: Global, input: &Input) -> Result<Outcome, CompileFault>
-        requires { length input.now.needs.now ≡ length input.now.job.now.needs }
+        requires needs { length input.now.needs.now ≡ length input.now.job.now.needs }
+        requires named { IsNamed input.now.job.now }
         ensures meaning { IfOk result (λ outcome. outcome ≡ Self.compile_of (content_of input.now.job.now input.now.needs.now)) }
         ensures cause { Counted (deaths self.old) (deaths self.new) (is_died result) };
 }

@@ -2,9 +2,10 @@
 ghost use Rattle.std.specs.Prelude.{◌≡◌, [], ◌∷◌, ◌++◌, IfOk, OnOk, find, flat_map, filter};
 ghost use Rattle.std.specs.Option.{option_copied};
 ghost use Rattle.compile_model.specs.Content.{content_of};
-ghost use Rattle.compile_model.specs.Echo.{echo_of, echo_file, echo_bytes, is_named, is_copied, bytes_of, echo_failed_is_bare, echo_files_in_order};
+ghost use Rattle.compile_model.specs.Echo.{echo_of, echo_file, echo_bytes, is_named, is_copied, bytes_of, echo_failed_is_bare, echo_files_in_order, echo_nothing_is_empty};
 
 use crate::compiler::{CompileFault, Compiler, Input, Meaning};
+use crate::how::How;
 use crate::outcome::Outcome;
 use mx_base::{Bytes, File, Files, RelPath};
 use std::alloc::{AllocError, Global};
@@ -22,12 +23,21 @@ impl Meaning for EchoCompiler {
     ghost files_in_order = { echo_files_in_order };
 
     ghost failed_is_bare = { echo_failed_is_bare };
+
+    ghost nothing_is_empty = { echo_nothing_is_empty };
 }
 
 impl Compiler for EchoCompiler {
     ghost deaths = { λ _. 0 };
 
     fn compile(&mut self, alloc: Global, input: &Input) -> Result<Outcome, CompileFault> {
+        if let How::Nothing = &input.job.how {
+            return Ok(Outcome {
+                status: 0,
+                text: Bytes::new(alloc),
+                files: Files::new(alloc),
+            });
+        }
         let sources = input.job.sources.as_slice();
         if let Some(file) = named(sources, "fail") {
             return Ok(Outcome {

@@ -1,18 +1,38 @@
 // What is to be compiled.
-use mx_base::{AppName, Files, ListOf, Text};
+use crate::how::How;
+use mx_base::{AppName, Bytes, Files, ListOf, Names, RelPath, Text, Variables};
 
 /// Places of jobs in a plan, from 0.
 pub type Places = ListOf<u32>;
+
+/// Where the sources of a dependency come from.
+#[derive(Debug, Drop)]
+pub enum Origin {
+    /// A folder of the project.
+    Path,
+    /// A package of the registry.
+    Hex { package: AppName },
+}
 
 /// A dependency that is to be compiled.
 #[derive(Debug, Drop)]
 pub struct Job {
     pub app: AppName,
     pub version: Text,
-    /// The source files, with their paths below the dependency's folder.
+    pub origin: Origin,
+    /// All that its declaration says of how it is compiled, as a text.
+    pub options: Bytes,
+    pub how: How,
+    /// Variables for a program that compiles it.
+    pub system_env: Variables,
+    /// Its folder.
+    pub dir: RelPath,
+    /// The source files, with their paths below its folder.
     pub sources: Files,
     /// The jobs that have to be built before.
     pub needs: Places,
+    /// The apps of these jobs.
+    pub need_apps: Names,
 }
 
 /// Jobs, in the order in which they are compiled.

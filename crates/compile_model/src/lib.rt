@@ -11,7 +11,7 @@ mod seq;
 pub use compiler::{CompileFault, Compiler, Input, Meaning};
 pub use echo::EchoCompiler;
 pub use how::{How, Texts};
-pub use job::{Job, Jobs, Places, Plan};
+pub use job::{Job, Jobs, Origin, Places, Plan};
 pub use outcome::{Fate, Outcome};
 pub use seq::{SeqFault, seq_build};
 

@@ -1,7 +1,9 @@
 // Compiling one job after another.
 ghost use Rattle.std.specs.Prelude.{◌≡◌, ◌≤◌, None, IsTrue, IfOk, IfErr, length, vec_len};
 ghost use Rattle.mx_base.specs.Causes.{Counted};
+ghost use Rattle.std.specs.List.{All};
 ghost use Rattle.compile_model.specs.Faults.{is_died};
+ghost use Rattle.compile_model.specs.Planned.{IsNamed};
 ghost use Rattle.compile_model.specs.Seq.{seq, first_unbuilt, outcome_at, outcomes_of, fate_of, DiedAt};
 ghost use Rattle.std.specs.Option.{option_copied};
 
@@ -48,6 +50,7 @@ pub fn seq_build<C: Compiler>(
     plan: &Plan,
     compiler: &mut C,
 ) -> Result<Vec<Fate>, SeqFault>
+    requires { All IsNamed plan.now.jobs }
     ensures fates { IfOk result (λ fates. fates.items ≡ seq C.compile_of plan.now.jobs) }
     ensures length { IfOk result (λ fates. vec_len fates ≡ length plan.now.jobs) }
     ensures died { IfErr result (DiedAt C.compile_of plan.now.jobs (C.deaths compiler.old) (C.deaths compiler.new)) }
@@ -73,6 +76,7 @@ fn fate<C: Compiler>(
     job: &Job,
     compiler: &mut C,
 ) -> Result<Fate, CompileFault>
+    requires { IsNamed job.now }
     ensures fate { IfOk result (λ fate. fate ≡ fate_of C.compile_of fates.now job.now) }
     ensures started { IsTrue (is_died result) → first_unbuilt fates.now job.now.needs ≡ None }
     ensures cause { Counted (C.deaths compiler.old) (C.deaths compiler.new) (is_died result) }

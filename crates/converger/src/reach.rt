@@ -7,8 +7,7 @@ ghost use Rattle.converger.specs.Web.{IsWeb, IsReachedAt, Starts};
 
 use crate::walk::reached;
 use crate::web::Web;
-use dep_options::Names;
-use mx_base::AppName;
+use mx_base::{AppName, Names};
 use std::alloc::{AllocError, Global};
 
 /// Marks the winners that are reached in the environment.

@@ -9,9 +9,8 @@ ghost use Rattle.converger.specs.Web.{IsWeb, IsReachedAt, IsStray, AreNamed, is_
 
 use crate::reach::{admits, reach};
 use crate::web::Web;
-use dep_options::Names;
 use dep_rows::Row;
-use mx_base::AppName;
+use mx_base::{AppName, Names};
 use std::alloc::{AllocError, Global};
 use std::collections::BTreeSet;
 

@@ -1,9 +1,9 @@
 // Declarations worked by hand.
 
 use crate::{ConvergeError, Divergences, Versions, converge, for_env};
-use dep_options::{CompileBy, Decl, DepSource, Names, Variables};
+use dep_options::{CompileBy, Decl, DepSource};
 use dep_rows::{ListAnswer, ListAnswers, ListChildren, Rows, rows};
-use mx_base::{AppName, ListOf, NoFaults, RelPath};
+use mx_base::{AppName, ListOf, Names, NoFaults, RelPath, Variables};
 use semver::Version;
 use std::alloc::{AllocError, Global};
 use std::process::Abort;

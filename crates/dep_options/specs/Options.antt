@@ -10,7 +10,7 @@ use Rattle.dep_options.specs.declared.decl.CompileBy.{CompileBy}
 use Rattle.dep_options.specs.declared.decl.CompileBy.TheVariants as by
 use Rattle.dep_options.specs.declared.decl.Manager.{Manager}
 use Rattle.dep_options.specs.declared.decl.Manager.TheVariants as manager
-use Rattle.dep_options.specs.declared.decl.Variable.{Variable}
+use Rattle.mx_base.specs.declared.variable.Variable.{Variable}
 use Rattle.dep_options.specs.declared.error.OptionCause.{OptionCause}
 use Rattle.dep_options.specs.declared.error.OptionCause.TheVariants.{UnknownOption, UnsupportedSource, BadValue}
 use Rattle.dep_options.specs.Views.{atom_of, string_of, list_of, map_of, pair_of, all_of, if_app, app_of, Named}

@@ -6,7 +6,7 @@ use Rattle.dep_options.specs.declared.decl.Decl.{Decl}
 use Rattle.dep_options.specs.declared.decl.DepSource.{DepSource}
 use Rattle.dep_options.specs.declared.decl.DepSource.TheVariants.{Hex, Path}
 use Rattle.dep_options.specs.declared.decl.CompileBy.TheVariants as by
-use Rattle.dep_options.specs.declared.decl.Variable.{Variable}
+use Rattle.mx_base.specs.declared.variable.Variable.{Variable}
 use Rattle.dep_options.specs.declared.error.OptionCause.{OptionCause}
 use Rattle.dep_options.specs.declared.error.OptionCause.TheVariants as cause
 use Rattle.dep_options.specs.declared.option_name.OptionName.{OptionName}

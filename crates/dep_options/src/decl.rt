@@ -1,14 +1,8 @@
 // What a manifest declares.
 
-use mx_base::{AppName, ListOf, RelPath, Text};
+use mx_base::{AppName, Names, RelPath, Text, Variables};
 use std::alloc::AllocError;
 use version_req::Requirement;
-
-/// Names of apps or of environments, in their order.
-pub type Names = ListOf<AppName>;
-
-/// Variables and their values, in their order.
-pub type Variables = ListOf<Variable>;
 
 /// A declared dependency.
 #[derive(Debug, Drop)]
@@ -109,24 +103,4 @@ pub enum Manager {
     Mix,
     Rebar3,
     Make,
-}
-
-/// An environment variable for the compiler of a dependency.
-#[derive(Debug, Drop)]
-pub struct Variable {
-    pub name: Text,
-    pub value: Text,
-}
-
-impl Clone for Variable {
-    ghost use Rattle.std.specs.Prelude.{◌≡◌};
-
-    ghost is_clone = { λ variable copy. copy ≡ variable };
-
-    fn clone(&self) -> Result<Variable, AllocError> {
-        Ok(Variable {
-            name: self.name.clone()?,
-            value: self.value.clone()?,
-        })
-    }
 }

@@ -15,6 +15,6 @@ mod tests;
 mod values;
 mod views;
 
-pub use decl::{CompileBy, Decl, DepSource, Manager, Names, Variable, Variables};
+pub use decl::{CompileBy, Decl, DepSource, Manager};
 pub use error::{OptionCause, OptionError};
 pub use reading::{decls, one_answer};

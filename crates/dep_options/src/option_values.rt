@@ -3,7 +3,7 @@ ghost use Rattle.std.specs.Prelude.{◌≡◌, ◌||◌, [], map, codes, is_some
 ghost use Rattle.dep_options.specs.Options.{fault_of, first_fault};
 ghost use Rattle.dep_options.specs.Values.{is_memory, no_values, with_option, values_of, option_or, source_by, decl_by, registry_fault};
 
-use crate::decl::{CompileBy, Decl, DepSource, Manager, Names, Variables};
+use crate::decl::{CompileBy, Decl, DepSource, Manager};
 use crate::error::OptionCause;
 use crate::option_name::{OptionName, option_named};
 use crate::values::{
@@ -11,7 +11,7 @@ use crate::values::{
 };
 use crate::views::{is_word, string};
 use elixir_terms::Term;
-use mx_base::{AppName, ListOf, RelPath, Text, copy_text};
+use mx_base::{AppName, ListOf, Names, RelPath, Text, Variables, copy_text};
 use std::alloc::{AllocError, Global};
 use std::collections::BTreeSet;
 use version_req::Requirement;

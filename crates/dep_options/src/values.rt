@@ -7,10 +7,10 @@ ghost use Rattle.dep_options.specs.Views.{app_of, all_of};
 ghost use Rattle.dep_options.specs.Options.{truth_of, environments_of, compile_of, is_kept_apart, folder_of, package_of, manager_of, variable_of, variables_of};
 ghost use Rattle.dep_options.specs.Values.{tuple_variable_of};
 
-use crate::decl::{CompileBy, Manager, Names, Variable, Variables};
+use crate::decl::{CompileBy, Manager};
 use crate::views::{atom, is_word, list, pair, string};
 use elixir_terms::Term;
-use mx_base::{AppName, ListOf, NameError, PathError, RelPath, Text};
+use mx_base::{AppName, ListOf, NameError, Names, PathError, RelPath, Text, Variable, Variables};
 use std::alloc::{AllocError, Global};
 
 // The name of an app, where the text is one.

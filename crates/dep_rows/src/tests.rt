@@ -4,8 +4,8 @@ use crate::{
     Children, ListAnswer, ListAnswers, ListChildren, ListFault, Rows, RowsError, one_list,
     one_outcome, rows,
 };
-use dep_options::{CompileBy, Decl, DepSource, Variables};
-use mx_base::{AppName, FaultPlan, ListOf, NoFaults};
+use dep_options::{CompileBy, Decl, DepSource};
+use mx_base::{AppName, FaultPlan, ListOf, NoFaults, Variables};
 use std::alloc::Global;
 use std::process::Abort;
 use std::test::Fail;

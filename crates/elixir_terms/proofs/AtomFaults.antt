@@ -1,8 +1,8 @@
 -- Atoms with a colon, and their first faults.
-use Rattle.std.specs.Prelude.{IsTrue, IsFalse, option_map, Ok, Err}
-use Rattle.std.proofs.Common.{◌≡◌, ℕ, suc, ◌+◌, ◌<◌, ◌≤◌, Bool, true, false, ◌&&◌, ◌||◌, ◌⊎◌, inl, inr, List, [], ◌∷◌, ◌++◌, Option, Some, None, length, take, drop, cond, eqb, refl, sym, ap, ◌∙◌, arith, subst, append_assoc, eq-eqb, ⊎_elim}
-use Rattle.std.proofs.lemmas.Bool.{and_right, eqb-true, true≢false, false≢true}
-use Rattle.std.proofs.lemmas.List.{take-append-drop, append-nil, length-append}
+use Rattle.std.specs.Prelude.{option_map, Ok, Err}
+use Rattle.std.proofs.Common.{◌≡◌, ℕ, suc, ◌+◌, ◌<◌, ◌≤◌, Bool, true, false, ◌⊎◌, inl, inr, List, [], ◌∷◌, ◌++◌, Option, Some, None, length, take, drop, cond, eqb, refl, sym, ap, ◌∙◌, arith, subst, append_assoc, eq-eqb, ⊎_elim}
+use Rattle.std.proofs.lemmas.Bool.{eqb-true, true≢false}
+use Rattle.std.proofs.lemmas.List.{append-nil, length-append}
 use Rattle.std.specs.Str.{IsUtf8}
 use Rattle.elixir_terms.specs.declared.error.Feature.TheVariants.{Interpolation}
 use Rattle.elixir_terms.specs.declared.error.TermCause.{TermCause}
@@ -10,15 +10,16 @@ use Rattle.elixir_terms.specs.declared.error.TermCause.TheVariants.{Unsupported,
 use Rattle.elixir_terms.specs.declared.expected.Expected.{Expected}
 use Rattle.elixir_terms.specs.declared.token.Token.{Token}
 use Rattle.elixir_terms.specs.declared.token.Token.TheVariants.{Atom}
-use Rattle.elixir_terms.specs.Lexed.{broken, can_become, spelt_at, quoted_only, quoted_stop, name_atom_lexed, after_colon_lexed, atom_lexed}
-use Rattle.elixir_terms.specs.Lexing.{Found, first_token, next_at, utf8_only, quoted_at, quoted_atom_of, name_len, name_rest_len, name_atom_of, atom_at, escape_at}
-use Rattle.elixir_terms.specs.Local.{rank, starts_with, takes, IsPart, IsShut, IsOpening, Locally, interpolation, escape, atom_utf8}
+use Rattle.elixir_terms.specs.Lexed.{broken, spelt_at, stuck_at, stopped, quoted_only, quoted_stop, name_atom_lexed, after_colon_lexed, atom_lexed}
+use Rattle.elixir_terms.specs.Lexing.{Found, next_at, utf8_only, quoted_at, quoted_atom_of, name_len, name_rest_len, name_atom_of, atom_at, escape_at}
+use Rattle.elixir_terms.specs.Local.{rank, takes, IsPart, IsShut, IsOpening, Locally, interpolation, escape, atom_utf8}
 use Rattle.elixir_terms.specs.Names.{is_name_start}
 use Rattle.elixir_terms.specs.Strings.{Quoted, opens_interpolation}
-use Rattle.elixir_terms.specs.Tokens.{Begins, quoted_atom}
-use Rattle.elixir_terms.proofs.FaultLemmas.{Right, Late, Least, IsNone, IsBroken, ColonMark, colon_broken, colon_utf8, first_by, unexpected_at, unclosed_at, at_once, shut_none, shut_taken, broken_by_slash, broken_by_opening, opens_found, broken_one, broken_some, broken_no_quote}
+use Rattle.elixir_terms.specs.Tokens.{quoted_atom}
+use Rattle.elixir_terms.proofs.FaultLemmas.{Right, IsNone, IsBroken, ColonMark, colon_broken, colon_utf8, first_by, unexpected_at, unclosed_at, at_once, shut_none, shut_taken, broken_by_slash, broken_by_opening, opens_found, broken_one, broken_some, broken_no_quote}
 use Rattle.elixir_terms.proofs.OptionLemmas.{none_some, some_same, map_some}
-use Rattle.elixir_terms.proofs.StringLemmas.{Becomes, becomes, quoted_append, IsSpelt, spelt_sound, broken_stop, no_escape, utf8_found, utf8_kept, quoted_is_spelt, quoted_from_spelt}
+use Rattle.elixir_terms.proofs.StringLemmas.{spelt_sound, broken_stop, no_escape, utf8_found, utf8_kept, quoted_is_spelt, quoted_from_spelt}
+use Rattle.elixir_terms.proofs.StuckLemmas.{Opens, Never, Stuck, Walked, walked, free_front}
 use Rattle.elixir_terms.proofs.TokenLemmas.{begins_first, first_begins, name_atom_more}
 
 -- the token is an atom
@@ -54,15 +55,17 @@ late e after (colon_utf8 inside bytes more t s f u) = omega arith
 
 -- quoted atoms
 
-quoted_part_by : (e : Expected) (inside bytes : List ℕ) → e.term ≡ true → Quoted inside bytes → Becomes bytes → IsPart e (58 ∷ 34 ∷ inside)
-quoted_part_by e inside bytes t q b = inr (Atom (bytes ++ b.end), b.end ++ 34 ∷ [], quoted_atom (quoted_append q b.quoted b.clear) b.utf8 (ap (λ l. 58 ∷ 34 ∷ l) (sym (append_assoc inside b.end (34 ∷ [])))), t)
+open_part : (e : Expected) (text inside : List ℕ) → e.term ≡ true → Opens [] text inside → IsPart e (58 ∷ 34 ∷ inside)
+open_part e text inside t o = inr (Atom o.spelled, o.more ++ 34 ∷ [], quoted_atom o.quoted o.utf8 (ap (λ l. 58 ∷ 34 ∷ l) (sym (append_assoc inside o.more (34 ∷ [])))), t)
 
--- the bytes of quotes that are not closed can become UTF-8
-atom_becomes : (bytes : List ℕ) → can_become bytes ≡ true
-atom_becomes bytes = ?
-
-quoted_part : (e : Expected) (inside bytes : List ℕ) → e.term ≡ true → Quoted inside bytes → IsPart e (58 ∷ 34 ∷ inside)
-quoted_part e inside bytes t q = quoted_part_by e inside bytes t q (becomes bytes (atom_becomes bytes))
+never_shut : (e : Expected) (part : List ℕ) → Never [] part → IsShut e (58 ∷ 34 ∷ part)
+never_shut e part n more tok after b t f = by (quoted_at (part ++ more)) refl (begins_first b)
+  where
+    by : (o : Found (List ℕ)) → quoted_at (part ++ more) ≡ o → quoted_atom_of o ≡ Some (tok, after) → ⊥
+    by None q h = none_some h
+    by (Some found) q h =
+        let m = map_some (λ name. (Atom name, found.1)) (utf8_only found.0) (tok, after) h in
+        n more found q (utf8_found found.0 m.0 m.1).0
 
 -- the mark where the quoted inside ends there
 quoted_mark : (e : Expected) (inside bytes rest : List ℕ) {place : ℕ} {why : TermCause} → spelt_at inside ≡ (bytes, rest) → ColonMark e (34 ∷ inside) place why → (IsBroken rest why × (place + length rest ≡ suc (suc (length inside)))) ⊎ ((place ≡ 1) × (why ≡ BadUtf8) × (IsUtf8 bytes → ⊥) × ((more : List ℕ) × (rest ≡ 34 ∷ more)))
@@ -104,13 +107,26 @@ holds_broken e text opening inside bytes byte after t o q n c s = ⊎_elim slash
     opens : (eqb byte 92 ≡ false) × (opens_interpolation byte after ≡ true) → Locally e text (length opening + length inside) (broken byte)
     opens x = let f = opens_found byte after x.1 in subst (λ c. Locally e text (length opening + length inside) c) (sym (ap (λ b. cond b BadEscape (Unsupported Interpolation)) x.0)) (interpolation f.0 t o q (s ∙ ap (λ l. opening ++ (inside ++ l)) f.1))
 
-stop_right : (e : Expected) (inside bytes rest : List ℕ) → e.term ≡ true → spelt_at inside ≡ (bytes, rest) → Right e (58 ∷ 34 ∷ inside) (quoted_stop (34 ∷ inside) bytes rest)
-stop_right e inside bytes [] t f =
-    let r = spelt_sound inside in
-    let whole : r.inside ≡ inside = sym (append-nil r.inside) ∙ ap (λ x. r.inside ++ x) (sym (ap (λ x. x.1) f)) ∙ sym r.split in
-    unclosed_at e (58 ∷ 34 ∷ inside) (quoted_part e inside (spelt_at inside).0 t (subst (λ l. Quoted l (spelt_at inside).0) whole r.quoted))
-    (open_none e inside bytes [] f (λ more h. cc))
-    (λ place other m. absurd (⊎_elim (λ x. broken_some [] other x.0 refl) (λ x. let h : ◌≡◌ {A = List ℕ} [] (34 ∷ x.3.0) = x.3.1 in cc) (quoted_mark e inside bytes [] f m)))
+-- what stands between the quotes can become UTF-8 no more before they stop
+stuck_right : (e : Expected) (inside bytes rest place : List ℕ) → e.term ≡ true → spelt_at inside ≡ (bytes, rest) → ((more : List ℕ) → rest ≡ 34 ∷ more → ⊥) → Stuck [] inside place → Right e (58 ∷ 34 ∷ inside) (Err (place, Unexpected))
+stuck_right e inside bytes rest place t f ends w =
+    subst (λ l. Right e (58 ∷ 34 ∷ inside) (Err (l, Unexpected))) (sym w.here)
+    (unexpected_at e (58 ∷ 34 ∷ inside) (58 ∷ 34 ∷ w.front) w.after w.byte (ap (λ l. 58 ∷ 34 ∷ l) w.split) (open_part e inside w.front t w.opens) (never_shut e (w.front ++ w.byte ∷ []) w.shut)
+    (λ k other m. ⊎_elim (λ x. omega (arith, x.1, w.early, ap length w.here, ap length w.split, length-append w.front (w.byte ∷ w.after), ap (λ s. length s.1) f)) (λ x. absurd (ends x.3.0 x.3.1)) (quoted_mark e inside bytes rest f m)))
+
+stopped_right : (e : Expected) (inside bytes rest : List ℕ) (why : TermCause) → e.term ≡ true → spelt_at inside ≡ (bytes, rest) → ((more : List ℕ) → rest ≡ 34 ∷ more → ⊥) → ((front : List ℕ) → inside ≡ front ++ (spelt_at inside).1 → IsPart e (58 ∷ 34 ∷ front) → Right e (58 ∷ 34 ∷ inside) (Err (rest, why))) → (front : List ℕ) → inside ≡ front ++ (spelt_at inside).1 → (o : Option (List ℕ)) → Walked [] inside o → Right e (58 ∷ 34 ∷ inside) (stopped false o (Err (rest, why)))
+stopped_right e inside bytes rest why t f ends good front s None w = good front s (open_part e inside front t (free_front inside front w s))
+stopped_right e inside bytes rest why t f ends good front s (Some place) w = stuck_right e inside bytes rest place t f ends w
+
+stop_right : (e : Expected) (inside bytes rest : List ℕ) → e.term ≡ true → spelt_at inside ≡ (bytes, rest) → Right e (58 ∷ 34 ∷ inside) (quoted_stop (34 ∷ inside) bytes rest (stuck_at inside))
+stop_right e inside bytes [] t f = stopped_right e inside bytes [] Unclosed t f (λ more h. cc) ended (spelt_sound inside).inside (spelt_sound inside).split (stuck_at inside) (walked inside)
+  where
+    ended : (front : List ℕ) → inside ≡ front ++ (spelt_at inside).1 → IsPart e (58 ∷ 34 ∷ front) → Right e (58 ∷ 34 ∷ inside) (Err ([], Unclosed))
+    ended front s part =
+        let whole : front ≡ inside = sym (append-nil front) ∙ ap (λ x. front ++ x) (sym (ap (λ x. x.1) f)) ∙ sym s in
+        unclosed_at e (58 ∷ 34 ∷ inside) (subst (λ l. IsPart e (58 ∷ 34 ∷ l)) whole part)
+        (open_none e inside bytes [] f (λ more h. cc))
+        (λ place other m. absurd (⊎_elim (λ x. broken_some [] other x.0 refl) (λ x. let h : ◌≡◌ {A = List ℕ} [] (34 ∷ x.3.0) = x.3.1 in cc) (quoted_mark e inside bytes [] f m)))
 stop_right e inside bytes (byte ∷ after) t f = by (eqb byte 34) refl
   where
     bad : eqb byte 34 ≡ true → utf8_only bytes ≡ None → Right e (58 ∷ 34 ∷ inside) (Err (34 ∷ inside, BadUtf8))
@@ -131,17 +147,24 @@ stop_right e inside bytes (byte ∷ after) t f = by (eqb byte 34) refl
     only q None u = bad q u
     only q (Some name) u = good q name u
 
-    by : (quote : Bool) → eqb byte 34 ≡ quote → Right e (58 ∷ 34 ∷ inside) (cond quote (quoted_only (34 ∷ inside) after (utf8_only bytes)) (Err (byte ∷ after, broken byte)))
-    by true q = only q (utf8_only bytes) refl
-    by false q =
+    opened : eqb byte 34 ≡ false → (more : List ℕ) → byte ∷ after ≡ 34 ∷ more → ⊥
+    opened q more h = let b : byte ≡ 34 = cc in true≢false (sym (eq-eqb byte 34 b) ∙ q)
+
+    broke : eqb byte 34 ≡ false → (front : List ℕ) → inside ≡ front ++ (spelt_at inside).1 → IsPart e (58 ∷ 34 ∷ front) → Right e (58 ∷ 34 ∷ inside) (Err (byte ∷ after, broken byte))
+    broke q front whole part =
         let r = spelt_sound inside in
         let rest : (spelt_at inside).1 ≡ byte ∷ after = ap (λ x. x.1) f in
-        let split : inside ≡ r.inside ++ byte ∷ after = r.split ∙ ap (λ l. r.inside ++ l) rest in
+        let split : inside ≡ front ++ byte ∷ after = whole ∙ ap (λ l. front ++ l) rest in
+        let long : length front ≡ length r.inside = omega (arith, ap length whole, ap length r.split, length-append front (spelt_at inside).1, length-append r.inside (spelt_at inside).1) in
         let n : next_at (byte ∷ after) ≡ None = ap next_at (sym rest) ∙ r.stops in
-        let place : length (58 ∷ 34 ∷ r.inside) ≡ 2 + length r.inside = omega arith in
-        first_by e (58 ∷ 34 ∷ inside) (58 ∷ 34 ∷ r.inside) (byte ∷ after) (broken byte) (ap (λ l. 58 ∷ 34 ∷ l) split) (quoted_part e r.inside (spelt_at inside).0 t r.quoted) (low byte) (λ h. cc)
-        (subst (λ k. Locally e (58 ∷ 34 ∷ inside) k (broken byte)) (sym place) (holds_broken e (58 ∷ 34 ∷ inside) (58 ∷ 34 ∷ []) r.inside (spelt_at inside).0 byte after (inl t) (inr refl) r.quoted n q (ap (λ l. 58 ∷ 34 ∷ l) split)))
-        (λ place other m. ⊎_elim (λ x. inr (omega (arith, x.1, ap length split, length-append r.inside (byte ∷ after)), omega (arith, ap rank (broken_one (byte ∷ after) other byte after x.0 refl)))) (λ x. let h : byte ∷ after ≡ 34 ∷ x.3.0 = x.3.1 in let b : byte ≡ 34 = cc in absurd (true≢false (sym (eq-eqb byte 34 b) ∙ q))) (quoted_mark e inside bytes (byte ∷ after) f m))
+        let place : length (58 ∷ 34 ∷ front) ≡ 2 + length r.inside = omega (arith, long) in
+        first_by e (58 ∷ 34 ∷ inside) (58 ∷ 34 ∷ front) (byte ∷ after) (broken byte) (ap (λ l. 58 ∷ 34 ∷ l) split) part (low byte) (λ h. cc)
+        (subst (λ k. Locally e (58 ∷ 34 ∷ inside) k (broken byte)) (sym place) (holds_broken e (58 ∷ 34 ∷ inside) (58 ∷ 34 ∷ []) r.inside (spelt_at inside).0 byte after (inl t) (inr refl) r.quoted n q (ap (λ l. 58 ∷ 34 ∷ l) (r.split ∙ ap (λ l. r.inside ++ l) rest))))
+        (λ place other m. ⊎_elim (λ x. inr (omega (arith, x.1, ap length split, length-append front (byte ∷ after)), omega (arith, ap rank (broken_one (byte ∷ after) other byte after x.0 refl)))) (λ x. absurd (opened q x.3.0 x.3.1)) (quoted_mark e inside bytes (byte ∷ after) f m))
+
+    by : (quote : Bool) → eqb byte 34 ≡ quote → Right e (58 ∷ 34 ∷ inside) (cond quote (quoted_only (34 ∷ inside) after (utf8_only bytes)) (stopped false (stuck_at inside) (Err (byte ∷ after, broken byte))))
+    by true q = only q (utf8_only bytes) refl
+    by false q = stopped_right e inside bytes (byte ∷ after) (broken byte) t f (opened q) (broke q) (spelt_sound inside).inside (spelt_sound inside).split (stuck_at inside) (walked inside)
 
 -- after the colon
 
@@ -168,8 +191,8 @@ after_right : (e : Expected) (text : List ℕ) → e.term ≡ true → Right e (
 after_right e [] t = unclosed_at e (58 ∷ []) (colon_part e t) (λ tok after b u f. none_some (begins_first b)) (λ place other m. absurd (empty_mark e m))
 after_right e (byte ∷ text) t = by (eqb byte 34) (is_name_start byte) refl refl
   where
-    by : (quote start : Bool) → eqb byte 34 ≡ quote → is_name_start byte ≡ start → Right e (58 ∷ byte ∷ text) (cond quote (quoted_stop (byte ∷ text) (spelt_at text).0 (spelt_at text).1) (cond start (name_atom_lexed (byte ∷ text)) (Err (byte ∷ text, Unexpected))))
-    by true start q s = subst (λ b. Right e (58 ∷ b ∷ text) (quoted_stop (b ∷ text) (spelt_at text).0 (spelt_at text).1)) (sym (eqb-true byte 34 q)) (stop_right e text (spelt_at text).0 (spelt_at text).1 t refl)
+    by : (quote start : Bool) → eqb byte 34 ≡ quote → is_name_start byte ≡ start → Right e (58 ∷ byte ∷ text) (cond quote (quoted_stop (byte ∷ text) (spelt_at text).0 (spelt_at text).1 (stuck_at text)) (cond start (name_atom_lexed (byte ∷ text)) (Err (byte ∷ text, Unexpected))))
+    by true start q s = subst (λ b. Right e (58 ∷ b ∷ text) (quoted_stop (b ∷ text) (spelt_at text).0 (spelt_at text).1 (stuck_at text))) (sym (eqb-true byte 34 q)) (stop_right e text (spelt_at text).0 (spelt_at text).1 t refl)
     by false true q s = (first_begins (58 ∷ byte ∷ text) (Atom (take (name_len (byte ∷ text)) (byte ∷ text)), drop (name_len (byte ∷ text)) (byte ∷ text)) (named_atom byte text q s), t, tt, refl, λ place why m. no_quote e byte text q m)
     by false false q s = unexpected_at e (58 ∷ byte ∷ text) (58 ∷ []) text byte refl (colon_part e t) (shut_none e (58 ∷ byte ∷ []) (λ more. not_name byte more q s)) (λ place other m. absurd (no_quote e byte text q m))
 

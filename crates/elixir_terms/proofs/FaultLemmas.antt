@@ -1,8 +1,8 @@
 -- The first fault of a text.
-use Rattle.std.specs.Prelude.{IsTrue, IsFalse, not, ℤ, Result, Ok, Err}
-use Rattle.std.proofs.Common.{◌≡◌, ℕ, zero, suc, ◌+◌, ◌<◌, ◌≤◌, Bool, true, false, ◌&&◌, ◌||◌, ◌⊎◌, inl, inr, List, [], ◌∷◌, ◌++◌, Some, None, length, take, drop, cond, eqb, refl, sym, ap, ◌∙◌, arith, subst, append_assoc, ⊎_elim}
+use Rattle.std.specs.Prelude.{IsTrue, IsFalse, not, ℤ, Ok, Err}
+use Rattle.std.proofs.Common.{◌≡◌, ℕ, suc, ◌+◌, ◌<◌, ◌≤◌, Bool, true, false, ◌||◌, ◌⊎◌, inl, inr, List, [], ◌∷◌, ◌++◌, Some, None, length, take, drop, cond, eqb, refl, sym, ap, ◌∙◌, arith, subst, append_assoc, ⊎_elim}
 use Rattle.std.proofs.lemmas.Bool.{cases_lt, and_parts, and_right, or_left, or_right, or_from, eqb-true, ne_eqb, ltb-true, true≢false, false≢true}
-use Rattle.std.proofs.lemmas.List.{take_at, drop_at, take-append-drop, take-append-le, append-nil, length-append}
+use Rattle.std.proofs.lemmas.List.{take_at, take-append-drop, take-append-le, append-nil, length-append}
 use Rattle.std.proofs.lemmas.Str.Parse.{digit_from_value}
 use Rattle.std.specs.Char.{is_digit, digit_value, is_ascii_digit}
 use Rattle.std.specs.Str.{IsUtf8}
@@ -21,9 +21,9 @@ use Rattle.elixir_terms.specs.Strings.{Quoted, opens_interpolation}
 use Rattle.elixir_terms.specs.Tokens.{ends_name, is_colon, Begins, bare_atom, atom, quoted_atom, integer, string, words, key, quoted_key, opens, closes, comma, arrow}
 use Rattle.elixir_terms.specs.Words.{is_inside}
 use Rattle.elixir_terms.proofs.IntegerLemmas.{numeral_first}
-use Rattle.elixir_terms.proofs.OptionLemmas.{none_some, some_same}
+use Rattle.elixir_terms.proofs.OptionLemmas.{none_some}
 use Rattle.elixir_terms.proofs.StringLemmas.{spelt_complete, slash_stops}
-use Rattle.elixir_terms.proofs.TokenLemmas.{begins_first, first_begins, start_not, start_no_digit, bare_named}
+use Rattle.elixir_terms.proofs.TokenLemmas.{begins_first, start_not, start_no_digit, bare_named}
 
 -- one place and cause comes before another, or is the same
 abbrev pub Least : ℕ → TermCause → ℕ → TermCause → Type 0

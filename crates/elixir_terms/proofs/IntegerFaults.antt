@@ -1,27 +1,25 @@
 -- Integers, and their first faults.
-use Rattle.std.specs.Prelude.{IsTrue, IsFalse, not, nat_eq, ℤ, pos, neg_ℤ, Ok, Err}
-use Rattle.std.proofs.Common.{◌≡◌, ℕ, suc, ◌+◌, ◌<◌, ◌≤◌, Bool, true, false, ◌&&◌, ◌||◌, ◌⊎◌, inl, inr, List, [], ◌∷◌, ◌++◌, Option, Some, None, length, take, drop, cond, eqb, refl, sym, ap, ◌∙◌, arith, subst, append_assoc, eq-eqb, ⊎_elim}
-use Rattle.std.proofs.lemmas.Bool.{not-true, and_parts, and_from, and_right, or_right, or_cases, eqb-true, ne_eqb, true≢false, false≢true, ltb-true}
+use Rattle.std.specs.Prelude.{IsTrue, not, ℤ, Ok, Err}
+use Rattle.std.proofs.Common.{◌≡◌, ℕ, ◌+◌, ◌<◌, Bool, true, false, ◌&&◌, ◌||◌, ◌⊎◌, inl, inr, List, [], ◌∷◌, ◌++◌, Some, length, cond, eqb, refl, sym, ap, ◌∙◌, arith, subst, append_assoc, ⊎_elim}
+use Rattle.std.proofs.lemmas.Bool.{and_parts, and_from, or_cases, eqb-true, ne_eqb, true≢false, false≢true}
 use Rattle.std.proofs.lemmas.List.{append-nil, length-append}
 use Rattle.std.specs.Char.{is_digit, is_ascii_digit}
 use Rattle.std.specs.Str.Parse.{digits_value}
 use Rattle.elixir_terms.specs.declared.error.Feature.TheVariants.{Float}
 use Rattle.elixir_terms.specs.declared.error.TermCause.{TermCause}
-use Rattle.elixir_terms.specs.declared.error.TermCause.TheVariants.{Unsupported, NumberTooBig, Unclosed, Unexpected}
+use Rattle.elixir_terms.specs.declared.error.TermCause.TheVariants.{Unsupported, NumberTooBig, Unexpected}
 use Rattle.elixir_terms.specs.declared.expected.Expected.{Expected}
 use Rattle.elixir_terms.specs.declared.token.Token.{Token}
 use Rattle.elixir_terms.specs.declared.token.Token.TheVariants.{Int}
-use Rattle.elixir_terms.specs.Lexed.{Scanned, cut_off, measured, scanned, opens_fraction, is_narrow, integer_end, integer_stop, numeral_lexed, signed_lexed, integer_lexed}
-use Rattle.elixir_terms.specs.Lexing.{first_token, base_of, signed, minus, integer_of, IsNarrow, IsWide}
-use Rattle.elixir_terms.specs.Local.{rank, IsFree, takes, IsPart, IsShut, IsDecimal, Locally, float, number}
-use Rattle.elixir_terms.specs.Names.{is_name_start, is_name_byte}
+use Rattle.elixir_terms.specs.Lexed.{Scanned, cut_off, scanned, opens_fraction, is_narrow, integer_end, integer_stop, numeral_lexed, signed_lexed, integer_lexed}
+use Rattle.elixir_terms.specs.Lexing.{first_token, base_of, signed, minus, integer_of, IsNarrow}
+use Rattle.elixir_terms.specs.Local.{IsFree, takes, IsPart, IsShut, IsDecimal, float, number}
 use Rattle.elixir_terms.specs.Numbers.{Grouped, last, next, mark, Numeral, decimal, hexadecimal, octal, binary, Integer, plain, negative}
 use Rattle.elixir_terms.specs.Tokens.{ends_integer, Begins, integer}
-use Rattle.elixir_terms.proofs.FaultLemmas.{Right, Late, Least, IsNone, lead, at_number, digit_lead, Marked, NumberMark, number_float, number_wide, first_by, cut_right, at_once, shut_taken}
-use Rattle.elixir_terms.proofs.IntegerLemmas.{integer_sound, numeral_first}
-use Rattle.elixir_terms.proofs.OptionLemmas.{none_some, some_same, map_some}
-use Rattle.elixir_terms.proofs.ScanLemmas.{Scan, scan_start, NumeralScan, numeral_scan, narrow_true, wide_false, base_ends, scan_complete}
-use Rattle.elixir_terms.proofs.TokenLemmas.{begins_first, first_begins, digit_first}
+use Rattle.elixir_terms.proofs.FaultLemmas.{Right, Least, IsNone, lead, at_number, digit_lead, Marked, NumberMark, number_float, number_wide, first_by, cut_right, at_once, shut_taken}
+use Rattle.elixir_terms.proofs.IntegerLemmas.{integer_sound}
+use Rattle.elixir_terms.proofs.ScanLemmas.{scan_start, numeral_scan, narrow_true, wide_false, base_ends, scan_complete}
+use Rattle.elixir_terms.proofs.TokenLemmas.{begins_first, digit_first}
 
 -- the base and the digits of a numeral, and the text after them
 abbrev Scans : Type 0

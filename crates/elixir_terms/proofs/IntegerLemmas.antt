@@ -1,6 +1,6 @@
 -- The integer that a text begins with.
-use Rattle.std.specs.Prelude.{option_map, nat_lt, nat_le, ℤ, pos, neg_ℤ}
-use Rattle.std.proofs.Common.{◌≡◌, ℕ, suc, ◌-◌, ◌<◌, ◌≤◌, Bool, true, false, ◌&&◌, List, [], ◌∷◌, ◌++◌, Option, Some, None, length, take, drop, cond, eqb, refl, sym, ap, ◌∙◌, arith, subst}
+use Rattle.std.specs.Prelude.{option_map, nat_lt, nat_le, pos, neg_ℤ}
+use Rattle.std.proofs.Common.{◌≡◌, ℕ, suc, ◌-◌, ◌<◌, ◌≤◌, Bool, true, false, ◌&&◌, List, [], ◌∷◌, ◌++◌, Some, None, length, take, drop, cond, eqb, refl, sym, ap, ◌∙◌, arith, subst}
 use Rattle.std.proofs.lemmas.Bool.{not-true, not_from_false, and_parts, and_from, and_right, or_left, or_right, eqb-true, ne_eqb, true≢false, false≢true, ltb-false, ltb-true, le-leb}
 use Rattle.std.proofs.lemmas.List.{take_at, drop_at, take-append-drop}
 use Rattle.std.specs.Char.{is_digit, digit_value}
@@ -11,10 +11,8 @@ use Rattle.elixir_terms.specs.declared.token.Token.TheVariants.{Int}
 use Rattle.elixir_terms.specs.Names.{is_name_byte}
 use Rattle.elixir_terms.specs.Numbers.{Grouped, last, next, mark, Numeral, decimal, hexadecimal, octal, binary}
 use Rattle.elixir_terms.specs.Tokens.{ends_integer}
-use Rattle.elixir_terms.specs.Lexing.{run_len, base_of, digits_from, numeral_of, signed, minus, are_digits, are_signed_digits, signed_value, integer_of, IsNarrow}
-use Rattle.std.proofs.lemmas.Int.{to_z-of_z}
-use Rattle.std.specs.Int.{w128, cast_signed as to_z, cast_unsigned as of_z}
-use Rattle.elixir_terms.proofs.NumberLemmas.{digit_not, fits_from_narrow}
+use Rattle.elixir_terms.specs.Lexing.{run_len, base_of, digits_from, numeral_of, signed, minus, are_digits, are_signed_digits, signed_value, integer_of}
+use Rattle.elixir_terms.proofs.NumberLemmas.{digit_not}
 use Rattle.elixir_terms.proofs.OptionLemmas.{none_some, some_same, cond_some, map_some}
 
 -- digits with single `_` between some of them

@@ -1,6 +1,7 @@
 pub mod OptionLemmas
 pub mod BlankLemmas
 pub mod NameLemmas
+pub mod Utf8Lemmas
 pub mod StringLemmas
 pub mod NumberLemmas
 pub mod IntegerLemmas
@@ -41,6 +42,7 @@ pub mod SnagLemmas
 pub mod RefuseLemmas
 pub mod FaultLemmas
 pub mod SignFaults
+pub mod StuckLemmas
 pub mod AtomFaults
 pub mod StringFaults
 pub mod WordFaults

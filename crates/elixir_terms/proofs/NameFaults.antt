@@ -1,24 +1,24 @@
 -- Names, and their first faults.
 use Rattle.std.specs.Prelude.{IsTrue, IsFalse, not, codes, Ok, Err}
-use Rattle.std.proofs.Common.{◌≡◌, ℕ, suc, ◌<◌, ◌≤◌, Bool, true, false, ◌&&◌, ◌||◌, ◌⊎◌, inl, inr, List, [], ◌∷◌, ◌++◌, Option, Some, None, length, take, drop, cond, eqb, refl, sym, ap, ◌∙◌, arith, subst, append_assoc, eq-eqb, ⊎_elim}
-use Rattle.std.proofs.lemmas.Bool.{and_parts, and_from, and_right, or_cases, eqb-true, ne_eqb, true≢false, false≢true}
-use Rattle.std.proofs.lemmas.List.{take_at, drop_at, take-append-drop, append-nil, length-append}
+use Rattle.std.proofs.Common.{◌≡◌, ℕ, suc, ◌<◌, Bool, true, false, ◌&&◌, ◌||◌, ◌⊎◌, inl, inr, List, [], ◌∷◌, ◌++◌, Option, Some, None, length, take, drop, cond, eqb, refl, sym, ap, ◌∙◌, arith, subst, append_assoc, eq-eqb, ⊎_elim}
+use Rattle.std.proofs.lemmas.Bool.{and_parts, and_from, and_right, or_cases, eqb-true, true≢false, false≢true}
+use Rattle.std.proofs.lemmas.List.{take_at, take-append-drop, append-nil}
 use Rattle.std.specs.Str.{bytes_eq}
 use Rattle.elixir_terms.specs.declared.error.Feature.TheVariants.{Alias}
 use Rattle.elixir_terms.specs.declared.error.TermCause.{TermCause}
-use Rattle.elixir_terms.specs.declared.error.TermCause.TheVariants.{Unsupported, TrailingText, Unclosed, Unexpected}
+use Rattle.elixir_terms.specs.declared.error.TermCause.TheVariants.{Unsupported, TrailingText, Unexpected}
 use Rattle.elixir_terms.specs.declared.expected.Expected.{Expected}
 use Rattle.elixir_terms.specs.declared.token.Token.{Token}
 use Rattle.elixir_terms.specs.declared.token.Token.TheVariants.{Atom, Key}
 use Rattle.elixir_terms.specs.Lexed.{cut_off, stray_colon, is_capital, bare_word, after_common, after_bare, no_key, key_lexed, bare_lexed, named, name_lexed}
-use Rattle.elixir_terms.specs.Lexing.{first_token, after_colon, key_or_atom, name_len, name_rest_len, name_of, name_at}
+use Rattle.elixir_terms.specs.Lexing.{first_token, after_colon, key_or_atom, name_len, name_rest_len}
 use Rattle.elixir_terms.specs.Local.{rank, starts_with, is_plain, IsFree, takes, IsPart, IsShut, alias, alias_alone, colon_after}
-use Rattle.elixir_terms.specs.Names.{is_from, is_name_start, is_name_rest, is_name, is_bare_atom, is_blank}
+use Rattle.elixir_terms.specs.Names.{is_name_start, is_name_rest, is_name, is_bare_atom, is_blank}
 use Rattle.elixir_terms.specs.Tokens.{Begins, bare_atom, key}
-use Rattle.elixir_terms.proofs.FaultLemmas.{Right, Late, Least, IsNone, lead, at_name, start_lead, NameMark, name_alone, name_alias, name_colon, Marked, first_by, unexpected_at, cut_right, at_once, shut_taken}
+use Rattle.elixir_terms.proofs.FaultLemmas.{Right, Late, Least, IsNone, lead, start_lead, NameMark, name_alone, name_alias, name_colon, Marked, first_by, unexpected_at, cut_right, at_once, shut_taken}
 use Rattle.elixir_terms.proofs.NameLemmas.{EndsName, ends_from_test, test_from_ends, name_sound, name_complete, colon_ends}
 use Rattle.elixir_terms.proofs.OptionLemmas.{none_some, some_same, cond_some}
-use Rattle.elixir_terms.proofs.TokenLemmas.{begins_first, first_begins, start_not, start_is_name, name_first, bare_named, bytes_same, none_colon, colon_none}
+use Rattle.elixir_terms.proofs.TokenLemmas.{begins_first, first_begins, start_not, name_first, bare_named, bytes_same, none_colon, colon_none}
 
 -- what begins with a name
 

@@ -1,22 +1,21 @@
 -- The digits of a numeral, with single `_` between some of them, up to where they stop.
-use Rattle.std.specs.Prelude.{not, nat_lt, ℤ, pos, negsuc, neg_ℤ, Ok, Err}
-use Rattle.std.proofs.Common.{◌≡◌, ℕ, suc, ◌^◌, ◌<◌, ◌≤◌, Bool, true, false, ◌&&◌, ◌||◌, List, [], ◌∷◌, ◌++◌, Some, length, cond, eqb, refl, sym, ap, ◌∙◌, arith, subst, append_assoc, eq-eqb}
-use Rattle.std.proofs.lemmas.Bool.{not-true, and_parts, and_from, and_right, eqb-true, ne_eqb, true≢false, false≢true, false_from_ne_true, ltb-true, lt-ltb}
+use Rattle.std.specs.Prelude.{not, ℤ, pos, negsuc, Ok, Err}
+use Rattle.std.proofs.Common.{◌≡◌, ℕ, ◌^◌, ◌≤◌, Bool, true, false, ◌&&◌, List, [], ◌∷◌, ◌++◌, cond, eqb, refl, sym, ap, ◌∙◌, arith, subst}
+use Rattle.std.proofs.lemmas.Bool.{not-true, and_right, eqb-true, ne_eqb, true≢false, false≢true, false_from_ne_true, ltb-true, lt-ltb}
 use Rattle.std.proofs.lemmas.Int.{ints, to_z-of_z}
 use Rattle.std.specs.Int.{w128, cast_signed as to_z, cast_unsigned as of_z}
 use Rattle.std.specs.Char.{is_digit}
-use Rattle.std.specs.List.{list_all}
 use Rattle.std.specs.Str.Parse.{digits_value}
 use Rattle.elixir_terms.specs.declared.error.Feature.TheVariants.{Float}
 use Rattle.elixir_terms.specs.declared.error.TermCause.TheVariants.{Unsupported, NumberTooBig}
 use Rattle.elixir_terms.specs.declared.token.Token.TheVariants.{Int}
 use Rattle.elixir_terms.specs.Lexed.{Scanned, with_digits, scanned, is_narrow, cut_off, opens_fraction, integer_end, integer_stop, numeral_lexed}
-use Rattle.elixir_terms.specs.Lexing.{base_of, signed, minus, are_digits, are_signed_digits, signed_value, IsNarrow}
+use Rattle.elixir_terms.specs.Lexing.{base_of, signed, minus, are_signed_digits, signed_value, IsNarrow}
 use Rattle.elixir_terms.specs.Names.{is_name_byte}
 use Rattle.elixir_terms.specs.Numbers.{Grouped, last, next, mark, Numeral, decimal, hexadecimal, octal, binary}
 use Rattle.elixir_terms.specs.Tokens.{ends_integer}
 use Rattle.elixir_terms.proofs.NumberLemmas.{fits_from_narrow}
-use Rattle.elixir_terms.proofs.IntegerLemmas.{digit_named, grouped_digits, decimal_second, base_decimal, signed_digits}
+use Rattle.elixir_terms.proofs.IntegerLemmas.{digit_named, grouped_digits, decimal_second, signed_digits}
 
 -- an integer of 128 bits
 

@@ -1,21 +1,21 @@
 -- Signs, and their first faults.
-use Rattle.std.specs.Prelude.{IsTrue, IsFalse, Ok, Err}
-use Rattle.std.proofs.Common.{◌≡◌, ℕ, suc, ◌<◌, ◌≤◌, Bool, true, false, ◌&&◌, ◌||◌, ◌⊎◌, inl, inr, List, [], ◌∷◌, ◌++◌, Some, None, cond, eqb, refl, sym, ap, ◌∙◌, arith, subst, ⊎_elim}
+use Rattle.std.specs.Prelude.{Ok, Err}
+use Rattle.std.proofs.Common.{◌≡◌, ℕ, Bool, true, false, ◌&&◌, ◌||◌, inl, inr, List, [], ◌∷◌, Some, None, cond, eqb, refl, sym, ap, ◌∙◌, arith, subst}
 use Rattle.std.proofs.lemmas.Bool.{eqb-true, true≢false, false≢true}
 use Rattle.std.specs.Char.{is_digit}
 use Rattle.elixir_terms.specs.declared.bracket.Bracket.TheVariants as bracket
 use Rattle.elixir_terms.specs.declared.error.Feature.TheVariants.{Charlist, Bits}
 use Rattle.elixir_terms.specs.declared.error.TermCause.{TermCause}
-use Rattle.elixir_terms.specs.declared.error.TermCause.TheVariants.{Unsupported, Unclosed, Unexpected}
+use Rattle.elixir_terms.specs.declared.error.TermCause.TheVariants.{Unsupported, Unexpected}
 use Rattle.elixir_terms.specs.declared.expected.Expected.{Expected}
 use Rattle.elixir_terms.specs.declared.token.Closing.TheVariants.{Square, Curly}
 use Rattle.elixir_terms.specs.declared.token.Token.{Token}
 use Rattle.elixir_terms.specs.declared.token.Token.TheVariants.{Open, Close, Comma, Arrow}
 use Rattle.elixir_terms.specs.Lexed.{second_lexed, sign_lexed}
 use Rattle.elixir_terms.specs.Lexing.{first_token, sign_or_name, IsNarrow}
-use Rattle.elixir_terms.specs.Local.{starts_with, is_plain, is_closing, takes, IsPart, IsShut, Locally, charlist, bits}
+use Rattle.elixir_terms.specs.Local.{starts_with, is_plain, is_closing, takes, IsShut, Locally, charlist, bits}
 use Rattle.elixir_terms.specs.Names.{is_name_start}
-use Rattle.elixir_terms.proofs.FaultLemmas.{Right, Late, lead, at_sign, SignMark, sign_charlist, sign_bits, Marked, Least, first_by, unexpected_at, unclosed_at, at_once, shut_none, shut_taken}
+use Rattle.elixir_terms.proofs.FaultLemmas.{Right, lead, at_sign, SignMark, sign_charlist, sign_bits, Marked, Least, first_by, unexpected_at, unclosed_at, at_once, shut_none, shut_taken}
 use Rattle.elixir_terms.proofs.OptionLemmas.{none_some, some_same}
 use Rattle.elixir_terms.proofs.TokenLemmas.{begins_first, first_begins}
 

@@ -1,26 +1,27 @@
 -- Strings and quoted keys, and their first faults.
-use Rattle.std.specs.Prelude.{IsTrue, IsFalse, option_map, Ok, Err}
-use Rattle.std.proofs.Common.{◌≡◌, ℕ, suc, ◌+◌, ◌<◌, ◌≤◌, Bool, true, false, ◌&&◌, ◌||◌, ◌⊎◌, inl, inr, List, [], ◌∷◌, ◌++◌, Option, Some, None, length, take, drop, cond, eqb, refl, sym, ap, ◌∙◌, arith, subst, append_assoc, eq-eqb, ⊎_elim}
-use Rattle.std.proofs.lemmas.Bool.{and_parts, and_from, and_right, or_parts, or_cases, eqb-true, true≢false, false≢true}
-use Rattle.std.proofs.lemmas.List.{take-append-drop, append-nil, length-append}
+use Rattle.std.specs.Prelude.{IsTrue, IsFalse, not, option_map, Ok, Err}
+use Rattle.std.proofs.Common.{◌≡◌, ℕ, suc, ◌+◌, ◌<◌, ◌≤◌, Bool, true, false, ◌&&◌, ◌||◌, ◌⊎◌, inl, inr, List, [], ◌∷◌, ◌++◌, Option, Some, None, length, cond, eqb, refl, sym, ap, ◌∙◌, arith, subst, append_assoc, eq-eqb, ⊎_elim}
+use Rattle.std.proofs.lemmas.Bool.{not-true, and_parts, and_from, or_parts, or_cases, eqb-true, true≢false, false≢true}
+use Rattle.std.proofs.lemmas.List.{append-nil, length-append}
 use Rattle.std.proofs.lemmas.Str.{IsUtf8-from_is_utf8, is_utf8-from_IsUtf8}
 use Rattle.std.specs.Str.{IsUtf8, is_utf8}
-use Rattle.elixir_terms.specs.declared.error.Feature.TheVariants.{Heredoc, Interpolation}
+use Rattle.elixir_terms.specs.declared.error.Feature.TheVariants.{Heredoc}
 use Rattle.elixir_terms.specs.declared.error.TermCause.{TermCause}
-use Rattle.elixir_terms.specs.declared.error.TermCause.TheVariants.{Unsupported, BadEscape, BadUtf8, TrailingText, Unclosed, Unexpected}
+use Rattle.elixir_terms.specs.declared.error.TermCause.TheVariants.{Unsupported, BadUtf8, TrailingText, Unclosed, Unexpected}
 use Rattle.elixir_terms.specs.declared.expected.Expected.{Expected}
 use Rattle.elixir_terms.specs.declared.token.Token.{Token}
 use Rattle.elixir_terms.specs.declared.token.Token.TheVariants.{Str, Key}
-use Rattle.elixir_terms.specs.Lexed.{can_become, cut_off, stray_colon, broken, spelt_at, key_only, colon_lexed, no_quoted_key, closed_lexed, string_stop, is_heredoc, string_lexed}
-use Rattle.elixir_terms.specs.Lexing.{Found, first_token, next_at, utf8_only, quoted_at, after_colon, key_or_string, string_of, string_at}
-use Rattle.elixir_terms.specs.Local.{rank, starts_with, is_plain, IsFree, takes, IsPart, IsShut, IsOpening, Locally, heredoc, key_utf8, colon_after}
+use Rattle.elixir_terms.specs.Lexed.{cut_off, stray_colon, broken, spelt_at, stuck_at, stopped, is_no_key, key_only, colon_lexed, no_quoted_key, closed_lexed, string_stop, is_heredoc, string_lexed}
+use Rattle.elixir_terms.specs.Lexing.{Found, next_at, utf8_only, quoted_at, after_colon, key_or_string, string_of, string_at}
+use Rattle.elixir_terms.specs.Local.{rank, starts_with, is_plain, IsFree, takes, IsPart, IsShut, Locally, heredoc, key_utf8, colon_after}
 use Rattle.elixir_terms.specs.Names.{is_blank}
 use Rattle.elixir_terms.specs.Strings.{Quoted}
 use Rattle.elixir_terms.specs.Tokens.{Begins, string, quoted_key}
 use Rattle.elixir_terms.proofs.AtomFaults.{low, stop_broken, holds_broken}
-use Rattle.elixir_terms.proofs.FaultLemmas.{Right, Late, Least, IsNone, IsBroken, QuoteMark, quote_heredoc, quote_broken, quote_key, quote_colon, first_by, unexpected_at, unclosed_at, cut_right, at_once, shut_taken, broken_one, broken_some, broken_no_quote, broken_no_brace}
+use Rattle.elixir_terms.proofs.FaultLemmas.{Right, Least, IsNone, IsBroken, QuoteMark, quote_heredoc, quote_broken, quote_key, quote_colon, first_by, unexpected_at, unclosed_at, cut_right, at_once, shut_taken, broken_one, broken_some, broken_no_quote, broken_no_brace}
 use Rattle.elixir_terms.proofs.OptionLemmas.{none_some, some_same, map_some}
-use Rattle.elixir_terms.proofs.StringLemmas.{Becomes, becomes, quoted_append, IsSpelt, spelt_sound, spelt_complete, quoted_complete, utf8_found, utf8_kept, quoted_is_spelt, quoted_from_spelt}
+use Rattle.elixir_terms.proofs.StringLemmas.{spelt_sound, spelt_complete, quoted_complete, utf8_found, utf8_kept, quoted_is_spelt, quoted_from_spelt}
+use Rattle.elixir_terms.proofs.StuckLemmas.{Opens, Never, Stuck, Walked, walked, free_front}
 use Rattle.elixir_terms.proofs.TokenLemmas.{begins_first, first_begins, colon_found}
 
 -- the token is a string or a key, as its quotes and its colon say
@@ -98,37 +99,23 @@ closed_key_part e inside bytes k q u = inr (Key bytes, 58 ∷ 32 ∷ [], quoted_
 colon_part : (e : Expected) (inside bytes : List ℕ) → e.key ≡ true → Quoted inside bytes → IsUtf8 bytes → IsPart e (34 ∷ inside ++ 34 ∷ 58 ∷ [])
 colon_part e inside bytes k q u = inr (Key bytes, 32 ∷ [], quoted_key 32 q u refl (append_assoc (34 ∷ inside) (34 ∷ 58 ∷ []) (32 ∷ [])), k)
 
-key_part_by : (e : Expected) (inside bytes : List ℕ) → e.key ≡ true → Quoted inside bytes → Becomes bytes → IsPart e (34 ∷ inside)
-key_part_by e inside bytes k q b = inr (Key (bytes ++ b.end), b.end ++ 34 ∷ 58 ∷ 32 ∷ [], quoted_key 32 (quoted_append q b.quoted b.clear) b.utf8 refl (ap (λ l. 34 ∷ l) (sym (append_assoc inside b.end (34 ∷ 58 ∷ 32 ∷ [])))), k)
-
--- the bytes of quotes that are not closed can become UTF-8
-key_becomes : (bytes : List ℕ) → can_become bytes ≡ true
-key_becomes bytes = ?
-
-key_part : (e : Expected) (inside bytes : List ℕ) → e.term ≡ false → e.key ≡ true → Quoted inside bytes → IsPart e (34 ∷ inside)
-key_part e inside bytes t k q = key_part_by e inside bytes k q (becomes bytes (key_becomes bytes))
-
--- the bytes are UTF-8
-key_only_part : (e : Expected) (inside bytes : List ℕ) → e.term ≡ false → e.key ≡ true → Quoted inside bytes → is_utf8 bytes ≡ false → IsPart e (34 ∷ inside ++ 34 ∷ [])
-key_only_part e inside bytes t k q u = ?
+key_part : (e : Expected) (text inside : List ℕ) → e.key ≡ true → Opens [] text inside → IsPart e (34 ∷ inside)
+key_part e text inside k o = inr (Key o.spelled, o.more ++ 34 ∷ 58 ∷ 32 ∷ [], quoted_key 32 o.quoted o.utf8 refl (ap (λ l. 34 ∷ l) (sym (append_assoc inside o.more (34 ∷ 58 ∷ 32 ∷ [])))), k)
 
 other_key : (e : Expected) → (e.term || e.key) ≡ true → e.term ≡ false → e.key ≡ true
 other_key e o t = ⊎_elim (λ x. absurd (true≢false (sym x ∙ t))) (λ k. k) (or_cases e.term e.key o)
 
-open_part : (e : Expected) (inside bytes : List ℕ) → (e.term || e.key) ≡ true → Quoted inside bytes → IsPart e (34 ∷ inside)
-open_part e inside bytes o q = by e.term refl
+end_part : (e : Expected) (inside bytes : List ℕ) → (e.term || e.key) ≡ true → Quoted inside bytes → (e.term ≡ false → IsUtf8 bytes) → IsPart e (34 ∷ inside ++ 34 ∷ [])
+end_part e inside bytes o q fit = by e.term refl
   where
-    by : (term : Bool) → e.term ≡ term → IsPart e (34 ∷ inside)
-    by true t = string_part e inside bytes t q
-    by false t = key_part e inside bytes t (other_key e o t) q
+    by : (term : Bool) → e.term ≡ term → IsPart e (34 ∷ inside ++ 34 ∷ [])
+    by true t = closed_part e inside bytes t q
+    by false t = closed_key_part e inside bytes (other_key e o t) q (fit t)
 
-end_part : (e : Expected) (inside bytes : List ℕ) → (e.term || e.key) ≡ true → Quoted inside bytes → IsPart e (34 ∷ inside ++ 34 ∷ [])
-end_part e inside bytes o q = by e.term (is_utf8 bytes) refl refl
-  where
-    by : (term utf8 : Bool) → e.term ≡ term → is_utf8 bytes ≡ utf8 → IsPart e (34 ∷ inside ++ 34 ∷ [])
-    by true utf8 t u = closed_part e inside bytes t q
-    by false true t u = closed_key_part e inside bytes (other_key e o t) q (IsUtf8-from_is_utf8 bytes u)
-    by false false t u = key_only_part e inside bytes t (other_key e o t) q u
+never_shut : (e : Expected) (part : List ℕ) → e.term ≡ false → Never [] part → IsShut e (34 ∷ part)
+never_shut e part t n more tok after b u f =
+    let c = string_closed (part ++ more) (tok, after) (begins_first b) in
+    ⊎_elim (λ x. true≢false (sym u ∙ ap (λ g. takes e g.0) x.0 ∙ t)) (λ x. n more (c.0, c.1) (quoted_from_spelt (part ++ more) c.0 c.1 c.2) x.2) c.3
 
 -- after the closing quote
 
@@ -180,9 +167,9 @@ module _ (e : Expected) (inside bytes after : List ℕ) (q : Quoted inside bytes
   late_plain c (says_key blank more s k b u) = let same : after ≡ 58 ∷ blank ∷ more = cc in true≢false (sym (ap (starts_with 58) same) ∙ c)
   late_plain c (says_colon more s p r) = let same : after ≡ 58 ∷ more = cc in true≢false (sym (ap (starts_with 58) same) ∙ c)
 
-  plain_right : starts_with 58 after ≡ false → (term : Bool) → e.term ≡ term → Right e (34 ∷ inside ++ 34 ∷ after) (cond term (Ok (Str bytes, after)) (cut_off after))
-  plain_right c true t = (first_begins (34 ∷ inside ++ 34 ∷ after) (Str bytes, after) (ap string_of (quoted_complete q after) ∙ ap (key_or_string bytes after) (no_colon_at after c)), t, tt, c, λ place why m. late_plain c (marked m))
-  plain_right c false t = cut_right e (34 ∷ inside ++ 34 ∷ after) (34 ∷ inside ++ 34 ∷ []) after split_end (end_part e inside bytes o q)
+  plain_right : (e.term ≡ false → IsUtf8 bytes) → starts_with 58 after ≡ false → (term : Bool) → e.term ≡ term → Right e (34 ∷ inside ++ 34 ∷ after) (cond term (Ok (Str bytes, after)) (cut_off after))
+  plain_right fit c true t = (first_begins (34 ∷ inside ++ 34 ∷ after) (Str bytes, after) (ap string_of (quoted_complete q after) ∙ ap (key_or_string bytes after) (no_colon_at after c)), t, tt, c, λ place why m. late_plain c (marked m))
+  plain_right fit c false t = cut_right e (34 ∷ inside ++ 34 ∷ after) (34 ∷ inside ++ 34 ∷ []) after split_end (end_part e inside bytes o q fit)
       (λ none. none_bad e inside bytes after q t (no_colon_at after c)) shut (λ place other m. absurd (late_plain c (marked m)))
     where
       shut : (byte : ℕ) (more : List ℕ) → after ≡ byte ∷ more → IsShut e ((34 ∷ inside ++ 34 ∷ []) ++ byte ∷ [])
@@ -201,11 +188,11 @@ module _ (e : Expected) (inside bytes rest : List ℕ) (q : Quoted inside bytes)
       let same : rest ≡ more = cc in
       (p, omega (arith, r, ap length same, length-append inside (34 ∷ 58 ∷ rest), length-append inside (34 ∷ [])), refl)
 
-  stray_right : (e.key ≡ false) ⊎ (IsUtf8 bytes → ⊥) → (out : Bool) → e.outermost ≡ out → Right e (34 ∷ inside ++ 34 ∷ 58 ∷ rest) (Err (58 ∷ rest, cond out TrailingText Unexpected))
-  stray_right n true p = first_by e (34 ∷ inside ++ 34 ∷ 58 ∷ rest) (34 ∷ inside ++ 34 ∷ []) (58 ∷ rest) TrailingText split_colon (end_part e inside bytes o q) (omega arith) (λ x. cc)
+  stray_right : (e.term ≡ false → IsUtf8 bytes) → (e.key ≡ false) ⊎ (IsUtf8 bytes → ⊥) → (out : Bool) → e.outermost ≡ out → Right e (34 ∷ inside ++ 34 ∷ 58 ∷ rest) (Err (58 ∷ rest, cond out TrailingText Unexpected))
+  stray_right fit n true p = first_by e (34 ∷ inside ++ 34 ∷ 58 ∷ rest) (34 ∷ inside ++ 34 ∷ []) (58 ∷ rest) TrailingText split_colon (end_part e inside bytes o q fit) (omega arith) (λ x. cc)
       (colon_after rest {token = Str bytes} p (string q refl refl) refl split_colon)
       (λ place other m. let x = only_stray (marked e inside bytes (58 ∷ rest) q o h outer m) in inr (sym x.1, omega (arith, ap rank x.2)))
-  stray_right n false p = unexpected_at e (34 ∷ inside ++ 34 ∷ 58 ∷ rest) (34 ∷ inside ++ 34 ∷ []) rest 58 split_colon (end_part e inside bytes o q) shut
+  stray_right fit n false p = unexpected_at e (34 ∷ inside ++ 34 ∷ 58 ∷ rest) (34 ∷ inside ++ 34 ∷ []) rest 58 split_colon (end_part e inside bytes o q fit) shut
       (λ place other m. let x = only_stray (marked e inside bytes (58 ∷ rest) q o h outer m) in absurd (true≢false (sym x.0 ∙ p)))
     where
       no_more : (more : List ℕ) → NoKey e bytes (58 ∷ more)
@@ -236,24 +223,24 @@ module _ (e : Expected) (inside bytes rest : List ℕ) (q : Quoted inside bytes)
           let n : after_colon (58 ∷ byte ∷ more2) ≡ None = same_blank byte more more2 (ap (λ l. after_colon (58 ∷ l)) (sym s) ∙ c) in
           colon_bad e inside bytes (byte ∷ more2) q (inr (inl n)) tok rest2 (subst (λ l. Begins l tok rest2) joined b) u (subst (λ l. IsFree l tok rest2) joined f)
 
-  colon_right : Right e (34 ∷ inside ++ 34 ∷ 58 ∷ rest) (colon_lexed e bytes (58 ∷ rest))
-  colon_right = by e.key (is_utf8 bytes) refl refl
+  colon_right : (e.term ≡ false → IsUtf8 bytes) → Right e (34 ∷ inside ++ 34 ∷ 58 ∷ rest) (colon_lexed e bytes (58 ∷ rest))
+  colon_right fit = by e.key (is_utf8 bytes) refl refl
     where
       by : (key utf8 : Bool) → e.key ≡ key → is_utf8 bytes ≡ utf8 → Right e (34 ∷ inside ++ 34 ∷ 58 ∷ rest) (cond (key && utf8) (cut_off rest) (stray_colon e (58 ∷ rest)))
       by true true k u = after_key k (IsUtf8-from_is_utf8 bytes u)
-      by true false k u = stray_right (inr (λ v. true≢false (sym (is_utf8-from_IsUtf8 bytes v) ∙ u))) e.outermost refl
-      by false utf8 k u = stray_right (inl k) e.outermost refl
+      by true false k u = stray_right fit (inr (λ v. true≢false (sym (is_utf8-from_IsUtf8 bytes v) ∙ u))) e.outermost refl
+      by false utf8 k u = stray_right fit (inl k) e.outermost refl
 
-no_quoted_right : (e : Expected) (inside bytes after : List ℕ) → Quoted inside bytes → (e.term || e.key) ≡ true → (e.term && is_heredoc (inside ++ 34 ∷ after)) ≡ false → (IsTrue e.outermost → IsFalse e.key) → (e.key ≡ false) ⊎ (after_colon after ≡ None) → Right e (34 ∷ inside ++ 34 ∷ after) (no_quoted_key e bytes after)
-no_quoted_right e inside bytes [] q o h outer why = plain_right e inside bytes [] q o h outer refl e.term refl
-no_quoted_right e inside bytes (first ∷ rest) q o h outer why = by (eqb first 58) refl
+no_quoted_right : (e : Expected) (inside bytes after : List ℕ) → Quoted inside bytes → (e.term || e.key) ≡ true → (e.term && is_heredoc (inside ++ 34 ∷ after)) ≡ false → (IsTrue e.outermost → IsFalse e.key) → (e.key ≡ false) ⊎ (after_colon after ≡ None) → (e.term ≡ false → IsUtf8 bytes) → Right e (34 ∷ inside ++ 34 ∷ after) (no_quoted_key e bytes after)
+no_quoted_right e inside bytes [] q o h outer why fit = plain_right e inside bytes [] q o h outer fit refl e.term refl
+no_quoted_right e inside bytes (first ∷ rest) q o h outer why fit = by (eqb first 58) refl
   where
     by : (colon : Bool) → eqb first 58 ≡ colon → Right e (34 ∷ inside ++ 34 ∷ first ∷ rest) (cond colon (colon_lexed e bytes (first ∷ rest)) (cond e.term (Ok (Str bytes, first ∷ rest)) (cut_off (first ∷ rest))))
     by true c =
         let s = eqb-true first 58 c in
         subst (λ b. Right e (34 ∷ inside ++ 34 ∷ b ∷ rest) (colon_lexed e bytes (b ∷ rest))) (sym s)
-        (colon_right e inside bytes rest q o (subst (λ b. (e.term && is_heredoc (inside ++ 34 ∷ b ∷ rest)) ≡ false) s h) outer (subst (λ b. (e.key ≡ false) ⊎ (after_colon (b ∷ rest) ≡ None)) s why))
-    by false c = plain_right e inside bytes (first ∷ rest) q o h outer c e.term refl
+        (colon_right e inside bytes rest q o (subst (λ b. (e.term && is_heredoc (inside ++ 34 ∷ b ∷ rest)) ≡ false) s h) outer (subst (λ b. (e.key ≡ false) ⊎ (after_colon (b ∷ rest) ≡ None)) s why) fit)
+    by false c = plain_right e inside bytes (first ∷ rest) q o h outer fit c e.term refl
 
 -- a quoted key
 whole_key : (e : Expected) (inside bytes after rest : List ℕ) → Quoted inside bytes → (e.term || e.key) ≡ true → (e.term && is_heredoc (inside ++ 34 ∷ after)) ≡ false → (IsTrue e.outermost → IsFalse e.key) → e.key ≡ true → after_colon after ≡ Some rest → (u : Option (List ℕ)) → utf8_only bytes ≡ u → Right e (34 ∷ inside ++ 34 ∷ after) (key_only (34 ∷ inside ++ 34 ∷ after) rest u)
@@ -276,13 +263,13 @@ whole_key e inside bytes after rest q o h outer k c (Some name) u =
     at v (says_key blank more s key b n) = n v
     at v (says_colon more s p r) = true≢false (sym k ∙ outer p)
 
-closed_right : (e : Expected) (inside bytes after : List ℕ) → Quoted inside bytes → (e.term || e.key) ≡ true → (e.term && is_heredoc (inside ++ 34 ∷ after)) ≡ false → (IsTrue e.outermost → IsFalse e.key) → (c : Option (List ℕ)) → after_colon after ≡ c → Right e (34 ∷ inside ++ 34 ∷ after) (closed_lexed e (34 ∷ inside ++ 34 ∷ after) bytes after c)
-closed_right e inside bytes after q o h outer None c = no_quoted_right e inside bytes after q o h outer (inr c)
-closed_right e inside bytes after q o h outer (Some rest) c = by e.key refl
+closed_right : (e : Expected) (inside bytes after : List ℕ) → Quoted inside bytes → (e.term || e.key) ≡ true → (e.term && is_heredoc (inside ++ 34 ∷ after)) ≡ false → (IsTrue e.outermost → IsFalse e.key) → (e.term ≡ false → after_colon after ≡ None → IsUtf8 bytes) → (c : Option (List ℕ)) → after_colon after ≡ c → Right e (34 ∷ inside ++ 34 ∷ after) (closed_lexed e (34 ∷ inside ++ 34 ∷ after) bytes after c)
+closed_right e inside bytes after q o h outer fit None c = no_quoted_right e inside bytes after q o h outer (inr c) (λ t. fit t c)
+closed_right e inside bytes after q o h outer fit (Some rest) c = by e.key refl
   where
     by : (key : Bool) → e.key ≡ key → Right e (34 ∷ inside ++ 34 ∷ after) (cond key (key_only (34 ∷ inside ++ 34 ∷ after) rest (utf8_only bytes)) (no_quoted_key e bytes after))
     by true k = whole_key e inside bytes after rest q o h outer k c (utf8_only bytes) refl
-    by false k = no_quoted_right e inside bytes after q o h outer (inl k)
+    by false k = no_quoted_right e inside bytes after q o h outer (inl k) (λ t. absurd (true≢false (sym (other_key e o t) ∙ k)))
 
 -- where the quotes are not closed
 
@@ -291,22 +278,22 @@ open_none e inside bytes rest f closes tok after b t g =
     let c = string_closed inside (tok, after) (begins_first b) in
     closes c.1 (ap (λ x. x.1) (sym f ∙ c.2))
 
-ended_right : (e : Expected) (inside bytes : List ℕ) → Quoted inside bytes → (e.term || e.key) ≡ true → (e.term && is_heredoc inside) ≡ false → Right e (34 ∷ inside) (Err ([], Unclosed))
-ended_right e inside bytes q o h =
+ended_right : (e : Expected) (inside bytes : List ℕ) → Quoted inside bytes → (e.term && is_heredoc inside) ≡ false → IsPart e (34 ∷ inside) → Right e (34 ∷ inside) (Err ([], Unclosed))
+ended_right e inside bytes q h part =
     let f : spelt_at inside ≡ (bytes, []) = ap spelt_at (sym (append-nil inside)) ∙ spelt_complete q [] refl refl in
-    unclosed_at e (34 ∷ inside) (open_part e inside bytes o q) (open_none e inside bytes [] f (λ more x. cc)) (λ place other m. absurd (at (says e inside bytes [] f h m)))
+    unclosed_at e (34 ∷ inside) part (open_none e inside bytes [] f (λ more x. cc)) (λ place other m. absurd (at (says e inside bytes [] f h m)))
   where
     at : {place : ℕ} {other : TermCause} → Says e inside bytes [] place other → ⊥
     at {other = other} (says_broken b p) = broken_some [] other b refl
     at (says_key blank more s k b u) = cc
     at (says_colon more s p r) = cc
 
-broken_right : (e : Expected) (inside bytes : List ℕ) (byte : ℕ) (after : List ℕ) → Quoted inside bytes → next_at (byte ∷ after) ≡ None → eqb byte 34 ≡ false → (e.term || e.key) ≡ true → (e.term && is_heredoc (inside ++ byte ∷ after)) ≡ false → Right e (34 ∷ inside ++ byte ∷ after) (Err (byte ∷ after, broken byte))
-broken_right e inside bytes byte after q n c o h =
+broken_right : (e : Expected) (inside bytes : List ℕ) (byte : ℕ) (after : List ℕ) → Quoted inside bytes → next_at (byte ∷ after) ≡ None → eqb byte 34 ≡ false → (e.term || e.key) ≡ true → (e.term && is_heredoc (inside ++ byte ∷ after)) ≡ false → IsPart e (34 ∷ inside) → Right e (34 ∷ inside ++ byte ∷ after) (Err (byte ∷ after, broken byte))
+broken_right e inside bytes byte after q n c o h part =
     let b = stop_broken byte after n c in
     let f = spelt_complete q (byte ∷ after) n (broken_no_brace (byte ∷ after) (broken byte) b) in
     let place : length (34 ∷ inside) ≡ 1 + length inside = omega arith in
-    first_by e (34 ∷ inside ++ byte ∷ after) (34 ∷ inside) (byte ∷ after) (broken byte) refl (open_part e inside bytes o q) (low byte) (λ x. cc)
+    first_by e (34 ∷ inside ++ byte ∷ after) (34 ∷ inside) (byte ∷ after) (broken byte) refl part (low byte) (λ x. cc)
     (subst (λ k. Locally e (34 ∷ inside ++ byte ∷ after) k (broken byte)) (sym place) (holds_broken e (34 ∷ inside ++ byte ∷ after) (34 ∷ []) inside bytes byte after (or_cases e.term e.key o) (inl refl) q n c refl))
     (λ place other m. at (says e (inside ++ byte ∷ after) bytes (byte ∷ after) f h m))
   where
@@ -315,18 +302,92 @@ broken_right e inside bytes byte after q n c o h =
     at (says_key blank more s k b u) = let x : byte ≡ 34 = cc in absurd (true≢false (sym (eq-eqb byte 34 x) ∙ c))
     at (says_colon more s p r) = let x : byte ≡ 34 = cc in absurd (true≢false (sym (eq-eqb byte 34 x) ∙ c))
 
-stop_right : (e : Expected) (inside bytes rest : List ℕ) → Quoted inside bytes → next_at rest ≡ None → (e.term || e.key) ≡ true → (e.term && is_heredoc (inside ++ rest)) ≡ false → (IsTrue e.outermost → IsFalse e.key) → Right e (34 ∷ inside ++ rest) (string_stop e (34 ∷ inside ++ rest) bytes rest)
-stop_right e inside bytes [] q n o h outer =
-    let s = append-nil inside in
-    subst (λ l. Right e (34 ∷ l) (Err ([], Unclosed))) (sym s) (ended_right e inside bytes q o (subst (λ l. (e.term && is_heredoc l) ≡ false) s h))
-stop_right e inside bytes (byte ∷ after) q n o h outer = by (eqb byte 34) refl
+-- no keyword's colon follows the closing quote
+abbrev NoColon : List ℕ → Type 0
+NoColon rest = (blank : ℕ) (more : List ℕ) → rest ≡ 34 ∷ 58 ∷ blank ∷ more → is_blank blank ≡ true → ⊥
+
+-- a key that can become UTF-8 no more before its quotes stop
+stuck_right : (e : Expected) (inside bytes rest place : List ℕ) → e.term ≡ false → e.key ≡ true → (IsTrue e.outermost → IsFalse e.key) → spelt_at inside ≡ (bytes, rest) → NoColon rest → Stuck [] inside place → Right e (34 ∷ inside) (Err (place, Unexpected))
+stuck_right e inside bytes rest place t k outer f ends w =
+    subst (λ l. Right e (34 ∷ inside) (Err (l, Unexpected))) (sym w.here)
+    (unexpected_at e (34 ∷ inside) (34 ∷ w.front) w.after w.byte (ap (λ l. 34 ∷ l) w.split) (key_part e inside w.front k w.opens) (never_shut e (w.front ++ w.byte ∷ []) t w.shut)
+    (λ place other m. at (says e inside bytes rest f (ap (λ x. x && is_heredoc inside) t) m)))
   where
-    by : (quote : Bool) → eqb byte 34 ≡ quote → Right e (34 ∷ inside ++ byte ∷ after) (cond quote (closed_lexed e (34 ∷ inside ++ byte ∷ after) bytes after (after_colon after)) (Err (byte ∷ after, broken byte)))
+    at : {place : ℕ} {other : TermCause} → Says e inside bytes rest place other → length (34 ∷ w.front) < place
+    at (says_broken b p) = omega (arith, p, w.early, ap length w.here, ap length w.split, length-append w.front (w.byte ∷ w.after), ap (λ s. length s.1) f)
+    at (says_key blank more s key b u) = absurd (ends blank more s b)
+    at (says_colon more s p r) = absurd (true≢false (sym k ∙ outer p))
+
+stopped_right : (e : Expected) (inside bytes rest : List ℕ) (why : TermCause) → Quoted inside bytes → (e.term || e.key) ≡ true → (IsTrue e.outermost → IsFalse e.key) → spelt_at (inside ++ rest) ≡ (bytes, rest) → NoColon rest → (IsPart e (34 ∷ inside) → Right e (34 ∷ inside ++ rest) (Err (rest, why))) → Right e (34 ∷ inside ++ rest) (stopped e.term (stuck_at (inside ++ rest)) (Err (rest, why)))
+stopped_right e inside bytes rest why q o outer f ends good = by e.term refl
+  where
+    walk : e.term ≡ false → (s : Option (List ℕ)) → Walked [] (inside ++ rest) s → Right e (34 ∷ inside ++ rest) (stopped false s (Err (rest, why)))
+    walk t None w = good (key_part e (inside ++ rest) inside (other_key e o t) (free_front (inside ++ rest) inside w (ap (λ l. inside ++ l) (sym (ap (λ x. x.1) f)))))
+    walk t (Some place) w = stuck_right e (inside ++ rest) bytes rest place t (other_key e o t) outer f ends w
+
+    by : (term : Bool) → e.term ≡ term → Right e (34 ∷ inside ++ rest) (stopped term (stuck_at (inside ++ rest)) (Err (rest, why)))
+    by true t = good (string_part e inside bytes t q)
+    by false t = walk t (stuck_at (inside ++ rest)) (walked (inside ++ rest))
+
+-- a string where only a key may begin
+no_key_means : (e : Expected) (bytes : List ℕ) (c : Option (List ℕ)) → is_no_key e bytes c ≡ true → (c ≡ None) × (e.term ≡ false) × (is_utf8 bytes ≡ false)
+no_key_means e bytes None h = let p = or_parts e.term (is_utf8 bytes) (not-true (e.term || is_utf8 bytes) h) in (refl, p.0, p.1)
+no_key_means e bytes (Some after) h = absurd (false≢true h)
+
+key_fits : (e : Expected) (bytes : List ℕ) (c : Option (List ℕ)) → is_no_key e bytes c ≡ false → e.term ≡ false → c ≡ None → IsUtf8 bytes
+key_fits e bytes (Some after) h t n = absurd (none_some (sym n))
+key_fits e bytes None h t n = by (is_utf8 bytes) refl
+  where
+    by : (whole : Bool) → is_utf8 bytes ≡ whole → IsUtf8 bytes
+    by true u = IsUtf8-from_is_utf8 bytes u
+    by false u = let k : is_no_key e bytes None ≡ true = (λ i. not (t i || u i)) in absurd (true≢false (sym k ∙ h))
+
+no_key_right : (e : Expected) (inside bytes after : List ℕ) → Quoted inside bytes → (e.term || e.key) ≡ true → (e.term && is_heredoc (inside ++ 34 ∷ after)) ≡ false → (IsTrue e.outermost → IsFalse e.key) → is_no_key e bytes (after_colon after) ≡ true → Right e (34 ∷ inside ++ 34 ∷ after) (stopped e.term (stuck_at (inside ++ 34 ∷ after)) (Err (34 ∷ after, Unexpected)))
+no_key_right e inside bytes after q o h outer n = stopped_right e inside bytes (34 ∷ after) Unexpected q o outer (spelt_complete q (34 ∷ after) refl refl) ends
+    (λ part. unexpected_at e (34 ∷ inside ++ 34 ∷ after) (34 ∷ inside) after 34 refl part shut (λ place other m. absurd (at (marked e inside bytes after q o h outer m))))
+  where
+    bad : IsUtf8 bytes → ⊥
+    bad v = true≢false (sym (is_utf8-from_IsUtf8 bytes v) ∙ (no_key_means e bytes (after_colon after) n).2)
+
+    ends : NoColon (34 ∷ after)
+    ends blank more s b = blank_found blank more (34 ∷ after) s b refl (no_key_means e bytes (after_colon after) n).0
+
+    shut : IsShut e ((34 ∷ inside) ++ 34 ∷ [])
+    shut more tok rest b u f =
+        ⊎_elim (λ x. true≢false (sym u ∙ ap (λ g. takes e g.0) x.0 ∙ (no_key_means e bytes (after_colon after) n).1)) (λ x. bad x.2)
+        (closed_found inside bytes more tok rest q (subst (λ l. Begins l tok rest) (append_assoc (34 ∷ inside) (34 ∷ []) more) b))
+
+    at : {place : ℕ} {other : TermCause} → Says e (inside ++ 34 ∷ after) bytes (34 ∷ after) place other → ⊥
+    at {other = other} (says_broken b p) = broken_no_quote (34 ∷ after) other after b refl
+    at (says_key blank more s key b u) = ends blank more s b
+    at (says_colon more s p r) = true≢false (sym (other_key e o (no_key_means e bytes (after_colon after) n).1) ∙ outer p)
+
+stop_right : (e : Expected) (inside bytes rest : List ℕ) → Quoted inside bytes → next_at rest ≡ None → starts_with 123 rest ≡ false → (e.term || e.key) ≡ true → (e.term && is_heredoc (inside ++ rest)) ≡ false → (IsTrue e.outermost → IsFalse e.key) → Right e (34 ∷ inside ++ rest) (string_stop e (34 ∷ inside ++ rest) bytes rest (stuck_at (inside ++ rest)))
+stop_right e inside bytes [] q n brace o h outer =
+    let s = append-nil inside in
+    stopped_right e inside bytes [] Unclosed q o outer (spelt_complete q [] refl refl) (λ blank more s b. cc)
+    (λ part. subst (λ l. Right e (34 ∷ l) (Err ([], Unclosed))) (sym s) (ended_right e inside bytes q (subst (λ l. (e.term && is_heredoc l) ≡ false) s h) part))
+stop_right e inside bytes (byte ∷ after) q n brace o h outer = by (eqb byte 34) refl
+  where
+    quoted : (bad : Bool) → is_no_key e bytes (after_colon after) ≡ bad → (e.term && is_heredoc (inside ++ 34 ∷ after)) ≡ false → Right e (34 ∷ inside ++ 34 ∷ after) (cond bad (stopped e.term (stuck_at (inside ++ 34 ∷ after)) (Err (34 ∷ after, Unexpected))) (closed_lexed e (34 ∷ inside ++ 34 ∷ after) bytes after (after_colon after)))
+    quoted true k h = no_key_right e inside bytes after q o h outer k
+    quoted false k h = closed_right e inside bytes after q o h outer (key_fits e bytes (after_colon after) k) (after_colon after) refl
+
+    by : (quote : Bool) → eqb byte 34 ≡ quote → Right e (34 ∷ inside ++ byte ∷ after) (cond quote (cond (is_no_key e bytes (after_colon after)) (stopped e.term (stuck_at (inside ++ byte ∷ after)) (Err (byte ∷ after, Unexpected))) (closed_lexed e (34 ∷ inside ++ byte ∷ after) bytes after (after_colon after))) (stopped e.term (stuck_at (inside ++ byte ∷ after)) (Err (byte ∷ after, broken byte))))
     by true c =
         let s = eqb-true byte 34 c in
-        subst (λ b. Right e (34 ∷ inside ++ b ∷ after) (closed_lexed e (34 ∷ inside ++ b ∷ after) bytes after (after_colon after))) (sym s)
-        (closed_right e inside bytes after q o (subst (λ b. (e.term && is_heredoc (inside ++ b ∷ after)) ≡ false) s h) outer (after_colon after) refl)
-    by false c = broken_right e inside bytes byte after q n c o h
+        subst (λ b. Right e (34 ∷ inside ++ b ∷ after) (cond (is_no_key e bytes (after_colon after)) (stopped e.term (stuck_at (inside ++ b ∷ after)) (Err (b ∷ after, Unexpected))) (closed_lexed e (34 ∷ inside ++ b ∷ after) bytes after (after_colon after)))) (sym s)
+        (quoted (is_no_key e bytes (after_colon after)) refl (subst (λ b. (e.term && is_heredoc (inside ++ b ∷ after)) ≡ false) s h))
+    by false c = stopped_right e inside bytes (byte ∷ after) (broken byte) q o outer (spelt_complete q (byte ∷ after) n brace) (λ blank more s b. let x : byte ≡ 34 = cc in true≢false (sym (eq-eqb byte 34 x) ∙ c)) (broken_right e inside bytes byte after q n c o h)
+
+-- what stops a string is no brace
+stop_brace : (rest : List ℕ) → next_at rest ≡ None → starts_with 123 rest ≡ false
+stop_brace [] n = refl
+stop_brace (byte ∷ after) n = by (eqb byte 34) refl
+  where
+    by : (quote : Bool) → eqb byte 34 ≡ quote → starts_with 123 (byte ∷ after) ≡ false
+    by true c = ap (λ b. starts_with 123 (b ∷ after)) (eqb-true byte 34 c)
+    by false c = broken_no_brace (byte ∷ after) (broken byte) (stop_broken byte after n c)
 
 -- a string or a quoted key is read or refused as it is to be
 pub string_right : (e : Expected) (text : List ℕ) → (IsTrue e.outermost → IsFalse e.key) → Right e (34 ∷ text) (string_lexed e (34 ∷ text) text)
@@ -346,16 +407,16 @@ string_right e text outer = by (e.term || e.key) refl
         (subst (λ l. Locally e (34 ∷ l) 0 (Unsupported Heredoc)) (sym s.1) (heredoc p.0))
         (λ place other m. ⊎_elim (λ x. inl x) (λ x. inr (sym x.0, ⊎_elim (λ y. omega (arith, ap rank y.1)) (λ y. omega (arith, ap rank y.1)) x.1)) (first_mark e text m))
 
-    inner : (e.term || e.key) ≡ true → (e.term && is_heredoc text) ≡ false → Right e (34 ∷ text) (string_stop e (34 ∷ text) (spelt_at text).0 (spelt_at text).1)
+    inner : (e.term || e.key) ≡ true → (e.term && is_heredoc text) ≡ false → Right e (34 ∷ text) (string_stop e (34 ∷ text) (spelt_at text).0 (spelt_at text).1 (stuck_at text))
     inner o h =
         let r = spelt_sound text in
-        subst (λ l. Right e (34 ∷ l) (string_stop e (34 ∷ l) (spelt_at text).0 (spelt_at text).1)) (sym r.split)
-        (stop_right e r.inside (spelt_at text).0 (spelt_at text).1 r.quoted r.stops o (subst (λ l. (e.term && is_heredoc l) ≡ false) r.split h) outer)
+        subst (λ l. Right e (34 ∷ l) (string_stop e (34 ∷ l) (spelt_at text).0 (spelt_at text).1 (stuck_at l))) (sym r.split)
+        (stop_right e r.inside (spelt_at text).0 (spelt_at text).1 r.quoted r.stops (stop_brace (spelt_at text).1 r.stops) o (subst (λ l. (e.term && is_heredoc l) ≡ false) r.split h) outer)
 
-    either : (three : Bool) → (e.term && is_heredoc text) ≡ three → (e.term || e.key) ≡ true → Right e (34 ∷ text) (cond three (Err (34 ∷ text, Unsupported Heredoc)) (string_stop e (34 ∷ text) (spelt_at text).0 (spelt_at text).1))
+    either : (three : Bool) → (e.term && is_heredoc text) ≡ three → (e.term || e.key) ≡ true → Right e (34 ∷ text) (cond three (Err (34 ∷ text, Unsupported Heredoc)) (string_stop e (34 ∷ text) (spelt_at text).0 (spelt_at text).1 (stuck_at text)))
     either true h o = three h
     either false h o = inner o h
 
-    by : (some : Bool) → (e.term || e.key) ≡ some → Right e (34 ∷ text) (cond some (cond (e.term && is_heredoc text) (Err (34 ∷ text, Unsupported Heredoc)) (string_stop e (34 ∷ text) (spelt_at text).0 (spelt_at text).1)) (Err (34 ∷ text, Unexpected)))
+    by : (some : Bool) → (e.term || e.key) ≡ some → Right e (34 ∷ text) (cond some (cond (e.term && is_heredoc text) (Err (34 ∷ text, Unsupported Heredoc)) (string_stop e (34 ∷ text) (spelt_at text).0 (spelt_at text).1 (stuck_at text))) (Err (34 ∷ text, Unexpected)))
     by true o = either (e.term && is_heredoc text) refl o
     by false o = neither o

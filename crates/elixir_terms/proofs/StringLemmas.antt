@@ -3,7 +3,7 @@ use Rattle.std.specs.Prelude.{not, option_map, encode_utf8, nat_lt}
 use Rattle.std.proofs.Common.{◌≡◌, ℕ, zero, suc, ◌+◌, ◌≤◌, Bool, true, false, ◌||◌, ◌⊎◌, inl, inr, List, [], ◌∷◌, ◌++◌, Option, Some, None, length, take, drop, cond, eqb, refl, sym, ap, ◌∙◌, arith, subst, append_assoc}
 use Rattle.std.proofs.lemmas.Bool.{not-true, not_from_false, and_parts, and_from, or_parts, or_from, and_right, eqb-true, ne_eqb, true≢false, false_from_ne_true, ltb-false, ltb-true}
 use Rattle.std.proofs.lemmas.List.{take_at, drop_at, take-append-drop, append-nil, length-append, length-take-le}
-use Rattle.std.proofs.lemmas.Str.{IsUtf8-from_is_utf8, is_utf8-from_IsUtf8}
+use Rattle.std.proofs.lemmas.Str.{encode_ascii, IsUtf8-append, IsUtf8-from_is_utf8, is_utf8-from_IsUtf8}
 use Rattle.std.proofs.Math.Seq.{drop-nil}
 use Rattle.std.specs.Char.{is_digit}
 use Rattle.std.specs.Str.{IsUtf8, is_utf8, all_scalars}
@@ -11,6 +11,7 @@ use Rattle.std.specs.Str.Parse.{digits_value}
 use Rattle.elixir_terms.specs.Strings.{letter_escape, are_hex, Escape, by_letter, by_byte, by_scalar, opens_interpolation, Quoted, end, literal, escape}
 use Rattle.elixir_terms.specs.Lexed.{can_become, Spelt, with_bytes, past_escape, spelt_past, spelt_at}
 use Rattle.elixir_terms.specs.Local.{starts_with, IsNoEscape}
+use Rattle.elixir_terms.proofs.Utf8Lemmas.{one_char}
 use Rattle.elixir_terms.proofs.OptionLemmas.{none_some, some_same, cond_some, cond_none, map_some}
 use Rattle.elixir_terms.specs.Lexing.{Found, hex_len, scalar_only, byte_escape_at, scalar_before, scalar_of, scalar_escape_at, escape_at, before, escaped, quoted_past, quoted_at, after_escape, next_at, utf8_only}
 
@@ -57,7 +58,7 @@ scalar_complete digits more hex l h s =
     ∙ ap (λ t. scalar_before (digits_value 16 digits) n t) (drop_at digits (125 ∷ more) n refl)
     ∙ ap (λ b. option_map (λ scalar. (encode_utf8 scalar, n + 3)) (cond b (Some (digits_value 16 digits)) None)) s
 
-letter_not : (letter other byte : ℕ) → letter_escape other ≡ None → letter_escape letter ≡ Some byte → eqb letter other ≡ false
+pub letter_not : (letter other byte : ℕ) → letter_escape other ≡ None → letter_escape letter ≡ Some byte → eqb letter other ≡ false
 letter_not letter other byte n e = ne_eqb letter other (λ same. let k = subst (λ l. letter_escape l ≡ Some byte) same e in cc)
 
 pub escape_complete : {word value : List ℕ} → Escape word value → (more : List ℕ) → escape_at (word ++ more) ≡ Some (value, length word)
@@ -94,7 +95,7 @@ quoted_complete (escape word value {text = text} {bytes = bytes} e q) rest =
 abbrev pub IsQuoted : List ℕ → List ℕ → List ℕ → Type 0
 IsQuoted text bytes rest = (inside : List ℕ) × Quoted inside bytes × (text ≡ inside ++ 34 ∷ rest)
 
-abbrev IsEscape : List ℕ → List ℕ → ℕ → Type 0
+abbrev pub IsEscape : List ℕ → List ℕ → ℕ → Type 0
 IsEscape text value n = (word : List ℕ) × Escape word value × (text ≡ word ++ drop n text)
 
 hex_sound : (text : List ℕ) → (are_hex (take (hex_len text) text) ≡ true) × (hex_len text ≤ length text)
@@ -223,7 +224,7 @@ past_escape_next text whole (Some word) value after e =
     let same : (word.0, drop word.1 text) ≡ (value, after) = some_same e in
     ap (with_bytes word.0) (spelt_drop text word.1) ∙ ap (λ f. with_bytes f.0 (spelt_at f.1)) same
 
-spelt_next : (text value after : List ℕ) → next_at text ≡ Some (value, after) → spelt_at text ≡ with_bytes value (spelt_at after)
+pub spelt_next : (text value after : List ℕ) → next_at text ≡ Some (value, after) → spelt_at text ≡ with_bytes value (spelt_at after)
 spelt_next [] value after e = absurd (none_some e)
 spelt_next (byte ∷ text) value after e = by (eqb byte 34) (eqb byte 92) (opens_interpolation byte text) e
   where
@@ -241,7 +242,7 @@ past_escape_none : (text whole : List ℕ) (word : Option (List ℕ × ℕ)) →
 past_escape_none text whole None e = refl
 past_escape_none text whole (Some word) e = absurd (none_some (sym e))
 
-spelt_stop : (text : List ℕ) → next_at text ≡ None → spelt_at text ≡ ([], text)
+pub spelt_stop : (text : List ℕ) → next_at text ≡ None → spelt_at text ≡ ([], text)
 spelt_stop [] e = refl
 spelt_stop (byte ∷ text) e = by (eqb byte 34) (eqb byte 92) (opens_interpolation byte text) e
   where
@@ -378,32 +379,62 @@ pub record Becomes (bytes : List ℕ) : Type 0 where
   pub quoted : Quoted end end
   pub clear : starts_with 123 end ≡ false
   pub utf8 : IsUtf8 (bytes ++ end)
+  -- the same with an escape for its first byte
+  pub digits : List ℕ
+  pub last : List ℕ
+  pub escaped : Quoted (92 ∷ 120 ∷ digits) last
+  pub last_utf8 : IsUtf8 (bytes ++ last)
 
 pub becomes : (bytes : List ℕ) → can_become bytes ≡ true → Becomes bytes
 becomes bytes h = one (is_utf8 bytes) refl h
   where
-    made : (more : List ℕ) → Quoted more more → starts_with 123 more ≡ false → is_utf8 (bytes ++ more) ≡ true → Becomes bytes
-    made more q c u = record { end = more; quoted = q; clear = c; utf8 = IsUtf8-from_is_utf8 (bytes ++ more) u }
+    made : (more digits : List ℕ) → Quoted more more → Quoted (92 ∷ 120 ∷ digits) more → starts_with 123 more ≡ false → is_utf8 (bytes ++ more) ≡ true → Becomes bytes
+    made more digits q d c u =
+        let v = IsUtf8-from_is_utf8 (bytes ++ more) u in
+        record {
+          end = more;
+          quoted = q;
+          clear = c;
+          utf8 = v;
+          digits = digits;
+          last = more;
+          escaped = d;
+          last_utf8 = v;
+        }
+
+    whole : is_utf8 bytes ≡ true → Becomes bytes
+    whole u =
+        let v = IsUtf8-from_is_utf8 bytes u in
+        record {
+          end = [];
+          quoted = end;
+          clear = refl;
+          utf8 = subst IsUtf8 (sym (append-nil bytes)) v;
+          digits = 48 ∷ 48 ∷ [];
+          last = 0 ∷ [];
+          escaped = escape (120 ∷ 48 ∷ 48 ∷ []) (0 ∷ []) (by_byte 48 48 refl) end;
+          last_utf8 = IsUtf8-append bytes (0 ∷ []) v (one_char 0 (0 ∷ []) refl (encode_ascii 0 (omega arith)));
+        }
 
     six : is_utf8 (bytes ++ 144 ∷ 128 ∷ 128 ∷ []) ≡ true → Becomes bytes
-    six u = made (144 ∷ 128 ∷ 128 ∷ []) (literal refl (literal refl (literal refl end))) refl u
+    six u = made (144 ∷ 128 ∷ 128 ∷ []) (57 ∷ 48 ∷ 128 ∷ 128 ∷ []) (literal refl (literal refl (literal refl end))) (escape (120 ∷ 57 ∷ 48 ∷ []) (144 ∷ []) (by_byte 57 48 refl) (literal refl (literal refl end))) refl u
 
     five : (yes : Bool) → is_utf8 (bytes ++ 160 ∷ 128 ∷ []) ≡ yes → (yes || is_utf8 (bytes ++ 144 ∷ 128 ∷ 128 ∷ [])) ≡ true → Becomes bytes
-    five true u h = made (160 ∷ 128 ∷ []) (literal refl (literal refl end)) refl u
+    five true u h = made (160 ∷ 128 ∷ []) (65 ∷ 48 ∷ 128 ∷ []) (literal refl (literal refl end)) (escape (120 ∷ 65 ∷ 48 ∷ []) (160 ∷ []) (by_byte 65 48 refl) (literal refl end)) refl u
     five false u h = six h
 
     four : (yes : Bool) → is_utf8 (bytes ++ 128 ∷ 128 ∷ 128 ∷ []) ≡ yes → (yes || (is_utf8 (bytes ++ 160 ∷ 128 ∷ []) || is_utf8 (bytes ++ 144 ∷ 128 ∷ 128 ∷ []))) ≡ true → Becomes bytes
-    four true u h = made (128 ∷ 128 ∷ 128 ∷ []) (literal refl (literal refl (literal refl end))) refl u
+    four true u h = made (128 ∷ 128 ∷ 128 ∷ []) (56 ∷ 48 ∷ 128 ∷ 128 ∷ []) (literal refl (literal refl (literal refl end))) (escape (120 ∷ 56 ∷ 48 ∷ []) (128 ∷ []) (by_byte 56 48 refl) (literal refl (literal refl end))) refl u
     four false u h = five (is_utf8 (bytes ++ 160 ∷ 128 ∷ [])) refl h
 
     three : (yes : Bool) → is_utf8 (bytes ++ 128 ∷ 128 ∷ []) ≡ yes → (yes || (is_utf8 (bytes ++ 128 ∷ 128 ∷ 128 ∷ []) || (is_utf8 (bytes ++ 160 ∷ 128 ∷ []) || is_utf8 (bytes ++ 144 ∷ 128 ∷ 128 ∷ [])))) ≡ true → Becomes bytes
-    three true u h = made (128 ∷ 128 ∷ []) (literal refl (literal refl end)) refl u
+    three true u h = made (128 ∷ 128 ∷ []) (56 ∷ 48 ∷ 128 ∷ []) (literal refl (literal refl end)) (escape (120 ∷ 56 ∷ 48 ∷ []) (128 ∷ []) (by_byte 56 48 refl) (literal refl end)) refl u
     three false u h = four (is_utf8 (bytes ++ 128 ∷ 128 ∷ 128 ∷ [])) refl h
 
     two : (yes : Bool) → is_utf8 (bytes ++ 128 ∷ []) ≡ yes → (yes || (is_utf8 (bytes ++ 128 ∷ 128 ∷ []) || (is_utf8 (bytes ++ 128 ∷ 128 ∷ 128 ∷ []) || (is_utf8 (bytes ++ 160 ∷ 128 ∷ []) || is_utf8 (bytes ++ 144 ∷ 128 ∷ 128 ∷ []))))) ≡ true → Becomes bytes
-    two true u h = made (128 ∷ []) (literal refl end) refl u
+    two true u h = made (128 ∷ []) (56 ∷ 48 ∷ []) (literal refl end) (escape (120 ∷ 56 ∷ 48 ∷ []) (128 ∷ []) (by_byte 56 48 refl) end) refl u
     two false u h = three (is_utf8 (bytes ++ 128 ∷ 128 ∷ [])) refl h
 
     one : (yes : Bool) → is_utf8 bytes ≡ yes → (yes || (is_utf8 (bytes ++ 128 ∷ []) || (is_utf8 (bytes ++ 128 ∷ 128 ∷ []) || (is_utf8 (bytes ++ 128 ∷ 128 ∷ 128 ∷ []) || (is_utf8 (bytes ++ 160 ∷ 128 ∷ []) || is_utf8 (bytes ++ 144 ∷ 128 ∷ 128 ∷ [])))))) ≡ true → Becomes bytes
-    one true u h = made [] end refl (ap is_utf8 (append-nil bytes) ∙ u)
+    one true u h = whole u
     one false u h = two (is_utf8 (bytes ++ 128 ∷ [])) refl h

@@ -1,5 +1,5 @@
 -- What holds of the tokens of a text.
-use Rattle.std.specs.Prelude.{IsFalse, ℤ, IfOk, IfErr, Result, Ok, Err}
+use Rattle.std.specs.Prelude.{ℤ}
 use Rattle.std.proofs.Common.{◌≡◌, ℕ, ◌<◌, ◌≤◌, Bool, true, false, ◌||◌, List, [], ◌∷◌, ◌++◌, Some, None, length, cond, eqb, refl, sym, ap, ◌∙◌, arith, subst, ⊎_elim}
 use Rattle.std.proofs.lemmas.Bool.{or_cases, eqb-true, false≢true}
 use Rattle.std.proofs.lemmas.List.{length-append}
@@ -12,7 +12,7 @@ use Rattle.elixir_terms.specs.Lexing.{past_blank, first_token}
 use Rattle.elixir_terms.proofs.BlankLemmas.{blanks_meet}
 use Rattle.elixir_terms.proofs.IntegerLemmas.{numeral_first}
 use Rattle.elixir_terms.proofs.OptionLemmas.{none_some, some_same}
-use Rattle.elixir_terms.proofs.TokenLemmas.{begins_first, first_begins}
+use Rattle.elixir_terms.proofs.TokenLemmas.{begins_first}
 
 -- a text begins with one token at most
 pub begins_one : {text : List ℕ} {a b : Token} {r s : List ℕ} → Begins text a r → Begins text b s → (a ≡ b) × (r ≡ s)

@@ -1,8 +1,8 @@
 -- Lists of words, and their first faults.
-use Rattle.std.specs.Prelude.{IsTrue, IsFalse, not, map, Ok, Err}
-use Rattle.std.proofs.Common.{◌≡◌, ℕ, suc, ◌+◌, ◌<◌, ◌≤◌, Bool, true, false, ◌&&◌, ◌||◌, ◌⊎◌, inl, inr, List, [], ◌∷◌, ◌++◌, Option, Some, None, length, take, drop, cond, eqb, refl, sym, ap, ◌∙◌, arith, subst, append_assoc, eq-eqb, ⊎_elim}
-use Rattle.std.proofs.lemmas.Bool.{not-true, and_parts, and_from, or_from, eqb-true, true≢false, false≢true}
-use Rattle.std.proofs.lemmas.List.{drop_at, take-append-drop, append-nil, length-append}
+use Rattle.std.specs.Prelude.{not, map, Ok, Err}
+use Rattle.std.proofs.Common.{◌≡◌, ℕ, suc, ◌+◌, ◌≤◌, Bool, true, false, ◌&&◌, ◌||◌, inl, inr, List, [], ◌∷◌, ◌++◌, Some, None, length, take, drop, cond, eqb, refl, sym, ap, ◌∙◌, arith, subst, eq-eqb}
+use Rattle.std.proofs.lemmas.Bool.{not-true, and_parts, and_from, or_from, eqb-true, true≢false}
+use Rattle.std.proofs.lemmas.List.{drop_at, take-append-drop, append-nil}
 use Rattle.elixir_terms.specs.declared.error.Feature.TheVariants.{Sigil, Interpolation}
 use Rattle.elixir_terms.specs.declared.error.TermCause.{TermCause}
 use Rattle.elixir_terms.specs.declared.error.TermCause.TheVariants.{Unsupported, BadEscape, Unclosed, Unexpected}
@@ -13,11 +13,11 @@ use Rattle.elixir_terms.specs.declared.token.Token.{Token}
 use Rattle.elixir_terms.specs.declared.token.Token.TheVariants.{Words}
 use Rattle.elixir_terms.specs.Lexed.{broken, words_stop, after_tilde_lexed, words_lexed}
 use Rattle.elixir_terms.specs.Lexing.{first_token, inside_len, kind_of, word_term, words_from, words_before, words_in, words_at}
-use Rattle.elixir_terms.specs.Local.{rank, starts_with, takes, IsPart, IsShut, Locally, sigil, interpolated_words, escape_in_words}
+use Rattle.elixir_terms.specs.Local.{rank, starts_with, takes, IsPart, Locally, sigil, interpolated_words, escape_in_words}
 use Rattle.elixir_terms.specs.Strings.{opens_interpolation}
-use Rattle.elixir_terms.specs.Tokens.{Begins, words}
+use Rattle.elixir_terms.specs.Tokens.{words}
 use Rattle.elixir_terms.specs.Words.{is_inside, none}
-use Rattle.elixir_terms.proofs.FaultLemmas.{Right, Late, Least, IsNone, IsBroken, TildeMark, tilde_sigil, tilde_broken, first_by, unclosed_at, at_once, shut_taken, broken_by_slash, broken_by_opening, broken_one, broken_some, broken_no_brace}
+use Rattle.elixir_terms.proofs.FaultLemmas.{Right, Least, IsBroken, TildeMark, tilde_sigil, tilde_broken, first_by, unclosed_at, at_once, shut_taken, broken_by_slash, broken_by_opening, broken_one, broken_some, broken_no_brace}
 use Rattle.elixir_terms.proofs.OptionLemmas.{none_some, some_same, cond_some}
 use Rattle.elixir_terms.proofs.StringLemmas.{opens_before}
 use Rattle.elixir_terms.proofs.TokenLemmas.{begins_first, first_begins}

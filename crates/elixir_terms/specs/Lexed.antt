@@ -1,6 +1,6 @@
 -- What the lexer answers, as a function. What a token and a refusal are is said without it (Tokens.antt, Local.antt).
-use Rattle.std.specs.Prelude.{◌≡◌, ℕ, zero, suc, ◌^◌, Bool, true, false, not, ◌&&◌, ◌||◌, ◌==◌, List, [], ◌∷◌, ◌++◌, length, map, take, drop, Option, Some, None, if◌then◌else◌, codes, IsFalse, nat_lt, ℤ, pos, negsuc, Result, Ok, Err}
-use Rattle.std.specs.Char.{is_digit, is_ascii_digit}
+use Rattle.std.specs.Prelude.{◌≡◌, ℕ, zero, suc, ◌^◌, ◌+◌, ◌*◌, Bool, true, false, not, ◌&&◌, ◌||◌, ◌==◌, List, [], ◌∷◌, ◌++◌, length, map, take, drop, Option, Some, None, if◌then◌else◌, codes, IsFalse, nat_lt, ℤ, pos, negsuc, Result, Ok, Err}
+use Rattle.std.specs.Char.{is_digit, digit_value, is_ascii_digit}
 use Rattle.std.specs.Str.{is_utf8}
 use Rattle.std.specs.Str.Parse.{digits_value}
 use Rattle.elixir_terms.specs.declared.bracket.Bracket.TheVariants as bracket
@@ -14,10 +14,10 @@ use Rattle.elixir_terms.specs.declared.token.Token.{Token}
 use Rattle.elixir_terms.specs.declared.token.Token.TheVariants.{Atom, Int, Str, Words, Key, Open, Close, Comma, Arrow}
 use Rattle.elixir_terms.specs.Lexing.{name_len, after_colon, utf8_only, escape_at, base_of, signed, inside_len, kind_of, word_term, words_from}
 use Rattle.elixir_terms.specs.Local.{starts_with, is_closing}
-use Rattle.elixir_terms.specs.Names.{is_from, is_name_start, is_name_byte, is_bare_atom}
+use Rattle.elixir_terms.specs.Names.{is_from, is_name_start, is_bare_atom}
 use Rattle.elixir_terms.specs.Refused.{is_memory}
 use Rattle.elixir_terms.specs.Strings.{opens_interpolation}
-use Rattle.elixir_terms.specs.Tokens.{ends_integer, is_colon}
+use Rattle.elixir_terms.specs.Tokens.{ends_integer}
 
 -- a token and the text after it, or the text from where the lexer stops on, and why it stops
 abbrev pub Lexed : Type 0
@@ -147,6 +147,61 @@ spelt_past (byte ∷ text) zero = if byte == 34 then ([], byte ∷ text) else (i
 abbrev pub spelt_at : List ℕ → Spelt
 spelt_at text = spelt_past text 0
 
+-- where bytes can no more become UTF-8
+
+-- the bytes are UTF-8, or may become so with bytes after them
+abbrev pub can_become : List ℕ → Bool
+can_become bytes = is_utf8 bytes || (is_utf8 (bytes ++ 128 ∷ []) || (is_utf8 (bytes ++ 128 ∷ 128 ∷ []) || (is_utf8 (bytes ++ 128 ∷ 128 ∷ 128 ∷ []) || (is_utf8 (bytes ++ 160 ∷ 128 ∷ []) || is_utf8 (bytes ++ 144 ∷ 128 ∷ 128 ∷ [])))))
+
+-- what the byte or the escape at the front spells, and how many bytes it has after its first
+abbrev pub item_at : ℕ → List ℕ → Option (List ℕ × ℕ)
+item_at byte text = if byte == 34 then None else (if byte == 92 then escape_at text else (if opens_interpolation byte text then None else Some (byte ∷ [], 0)))
+
+-- some byte with this high digit, and a low one under the limit, may follow the bytes
+unfoldable pub some_low : List ℕ → ℕ → ℕ → Bool
+some_low bytes high zero = false
+some_low bytes high (suc low) = can_become (bytes ++ (high * 16 + low) ∷ []) || some_low bytes high low
+
+-- the text from the first byte on with which nothing may follow the bytes: after `\x`
+abbrev pub stuck_digit : List ℕ → List ℕ → List ℕ
+stuck_digit bytes [] = []
+stuck_digit bytes (high ∷ text) = if is_digit high 16 && some_low bytes (digit_value high) 16 then text else high ∷ text
+
+-- after a backslash
+abbrev pub stuck_letter : List ℕ → List ℕ → List ℕ
+stuck_letter bytes [] = []
+stuck_letter bytes (letter ∷ text) = if letter == 120 then stuck_digit bytes text else letter ∷ text
+
+-- at a byte or an escape
+abbrev pub stuck_item : List ℕ → List ℕ → List ℕ
+stuck_item bytes [] = []
+stuck_item bytes (byte ∷ text) = if byte == 92 then stuck_letter bytes text else byte ∷ text
+
+-- the bytes without whole characters
+abbrev pub kept : List ℕ → List ℕ
+kept bytes = if is_utf8 bytes then [] else bytes
+
+abbrev pub after_item : List ℕ → List ℕ → Option (List ℕ × ℕ) → (ℕ → List ℕ → Option (List ℕ)) → Option (List ℕ)
+after_item bytes text None more = None
+after_item bytes text (Some item) more = if can_become (bytes ++ item.0) then more item.1 (kept (bytes ++ item.0)) else Some (stuck_item bytes text)
+
+-- the text from the first byte on with which what it spells after the bytes can no more become UTF-8; some bytes are
+-- read already
+abbrev pub stuck_past : List ℕ → ℕ → List ℕ → Option (List ℕ)
+stuck_past [] read bytes = None
+stuck_past (byte ∷ text) (suc read) bytes = stuck_past text read bytes
+stuck_past (byte ∷ text) zero bytes = after_item bytes (byte ∷ text) (item_at byte text) (stuck_past text)
+
+-- after the opening quote
+abbrev pub stuck_at : List ℕ → Option (List ℕ)
+stuck_at text = stuck_past text 0 []
+
+-- where quotes stop, and any bytes may stand between them, or only UTF-8
+abbrev pub stopped : Bool → Option (List ℕ) → Lexed → Lexed
+stopped true stuck stop = stop
+stopped false None stop = stop
+stopped false (Some place) stop = Err (place, Unexpected)
+
 -- why a string or words stop before their end
 abbrev pub broken : ℕ → TermCause
 broken byte = if byte == 92 then BadEscape else Unsupported Interpolation
@@ -167,9 +222,16 @@ abbrev pub closed_lexed : Expected → List ℕ → List ℕ → List ℕ → Op
 closed_lexed e text bytes rest None = no_quoted_key e bytes rest
 closed_lexed e text bytes rest (Some after) = if e.key then key_only text after (utf8_only bytes) else no_quoted_key e bytes rest
 
-abbrev pub string_stop : Expected → List ℕ → List ℕ → List ℕ → Lexed
-string_stop e text bytes [] = Err ([], Unclosed)
-string_stop e text bytes (byte ∷ rest) = if byte == 34 then closed_lexed e text bytes rest (after_colon rest) else Err (byte ∷ rest, broken byte)
+-- a string where only a key may begin, and it can be none; what follows the closing quote's colon and blank is given
+abbrev pub is_no_key : Expected → List ℕ → Option (List ℕ) → Bool
+is_no_key e bytes None = not (e.term || is_utf8 bytes)
+is_no_key e bytes (Some after) = false
+
+abbrev pub string_stop : Expected → List ℕ → List ℕ → List ℕ → Option (List ℕ) → Lexed
+string_stop e text bytes [] stuck = stopped e.term stuck (Err ([], Unclosed))
+string_stop e text bytes (byte ∷ rest) stuck =
+    if byte == 34 then (if is_no_key e bytes (after_colon rest) then stopped e.term stuck (Err (byte ∷ rest, Unexpected)) else closed_lexed e text bytes rest (after_colon rest))
+    else stopped e.term stuck (Err (byte ∷ rest, broken byte))
 
 -- two quotes after the first one
 abbrev pub is_heredoc : List ℕ → Bool
@@ -178,21 +240,17 @@ is_heredoc (byte ∷ text) = byte == 34 && starts_with 34 text
 
 -- a string or a quoted key, and the text after its opening quote
 abbrev pub string_lexed : Expected → List ℕ → List ℕ → Lexed
-string_lexed e text inside = wanted (e.term || e.key) text (if e.term && is_heredoc inside then Err (text, Unsupported Heredoc) else string_stop e text (spelt_at inside).0 (spelt_at inside).1)
+string_lexed e text inside = wanted (e.term || e.key) text (if e.term && is_heredoc inside then Err (text, Unsupported Heredoc) else string_stop e text (spelt_at inside).0 (spelt_at inside).1 (stuck_at inside))
 
 -- atoms
-
--- the bytes are UTF-8, or may become so with bytes after them
-abbrev pub can_become : List ℕ → Bool
-can_become bytes = is_utf8 bytes || (is_utf8 (bytes ++ 128 ∷ []) || (is_utf8 (bytes ++ 128 ∷ 128 ∷ []) || (is_utf8 (bytes ++ 128 ∷ 128 ∷ 128 ∷ []) || (is_utf8 (bytes ++ 160 ∷ 128 ∷ []) || is_utf8 (bytes ++ 144 ∷ 128 ∷ 128 ∷ [])))))
 
 abbrev pub quoted_only : List ℕ → List ℕ → Option (List ℕ) → Lexed
 quoted_only text after None = Err (text, BadUtf8)
 quoted_only text after (Some name) = Ok (Atom name, after)
 
-abbrev pub quoted_stop : List ℕ → List ℕ → List ℕ → Lexed
-quoted_stop text bytes [] = Err ([], Unclosed)
-quoted_stop text bytes (byte ∷ rest) = if byte == 34 then quoted_only text rest (utf8_only bytes) else Err (byte ∷ rest, broken byte)
+abbrev pub quoted_stop : List ℕ → List ℕ → List ℕ → Option (List ℕ) → Lexed
+quoted_stop text bytes [] stuck = stopped false stuck (Err ([], Unclosed))
+quoted_stop text bytes (byte ∷ rest) stuck = if byte == 34 then quoted_only text rest (utf8_only bytes) else stopped false stuck (Err (byte ∷ rest, broken byte))
 
 abbrev pub name_atom_lexed : List ℕ → Lexed
 name_atom_lexed text = Ok (Atom (take (name_len text) text), drop (name_len text) text)
@@ -201,7 +259,7 @@ name_atom_lexed text = Ok (Atom (take (name_len text) text), drop (name_len text
 abbrev pub after_colon_lexed : List ℕ → Lexed
 after_colon_lexed [] = Err ([], Unclosed)
 after_colon_lexed (byte ∷ text) =
-    if byte == 34 then quoted_stop (byte ∷ text) (spelt_at text).0 (spelt_at text).1
+    if byte == 34 then quoted_stop (byte ∷ text) (spelt_at text).0 (spelt_at text).1 (stuck_at text)
     else (if is_name_start byte then name_atom_lexed (byte ∷ text)
     else Err (byte ∷ text, Unexpected))
 

@@ -11,7 +11,7 @@ use Rattle.elixir_terms.specs.declared.token.Closing.TheVariants.{Square, Curly}
 use Rattle.elixir_terms.specs.declared.token.Token.{Token}
 use Rattle.elixir_terms.specs.declared.token.Token.TheVariants.{Atom, Int, Str, Words, Key, Open, Close, Comma, Arrow}
 use Rattle.elixir_terms.specs.Lexing.{IsWide}
-use Rattle.elixir_terms.specs.Names.{is_from, is_name, is_blank, is_bare_atom}
+use Rattle.elixir_terms.specs.Names.{is_from, is_name, is_blank}
 use Rattle.elixir_terms.specs.Numbers.{Grouped}
 use Rattle.elixir_terms.specs.Strings.{Escape, Quoted}
 use Rattle.elixir_terms.specs.Tokens.{Begins, ends_name, is_colon}

@@ -32,12 +32,13 @@ mod signs;
 mod stack;
 mod state;
 mod strings;
+mod stuck;
 mod term;
 mod token;
 mod words;
 
 pub use error::{Feature, TermCause, TermError};
-pub use laws::one_refusal;
+pub use laws::{no_refusal, one_refusal};
 pub use printer::print;
 pub use reading::{one_reading, read};
 pub use term::{Pairs, Term, Terms};

@@ -132,7 +132,8 @@ fn is_capital(text: &[u8]) -> bool
     }
 }
 
-fn is_bare_atom(name: &[u8]) -> bool
+/// `true`, `false` or `nil`.
+pub fn is_bare_atom(name: &[u8]) -> bool
     ensures { result ≡ is_bare_atom name.now }
 {
     name == b"true".as_slice() || name == b"false".as_slice() || name == b"nil".as_slice()

@@ -1,7 +1,7 @@
 // Strings between quotes, and their escapes.
-ghost use Rattle.std.specs.Prelude.{◌≡◌, ◌+◌, ◌++◌, ◌<◌, ◌≤◌, IsTrue, IfOk, IfSome, OnOk, length, option_map};
+ghost use Rattle.std.specs.Prelude.{◌≡◌, Err, ◌+◌, ◌++◌, ◌<◌, ◌≤◌, IsTrue, IfOk, IfSome, OnOk, length, option_map};
 ghost use Rattle.std.specs.Str.Parse.{digits_value};
-ghost use Rattle.elixir_terms.specs.Lexed.{LexedBy, broken, spelt_at, quoted_stop, is_heredoc, no_quoted_key, closed_lexed, string_lexed};
+ghost use Rattle.elixir_terms.specs.Lexed.{LexedBy, broken, spelt_at, stuck_at, stopped, is_no_key, quoted_stop, is_heredoc, no_quoted_key, closed_lexed, string_stop, string_lexed};
 ghost use Rattle.elixir_terms.specs.Lexing.{after_colon, escape_at, byte_escape_at, scalar_of, scalar_only, spelled, hex_len, after_escape, next_at, utf8_only};
 ghost use Rattle.elixir_terms.specs.Strings.{are_hex, letter_escape};
 
@@ -10,13 +10,14 @@ use crate::error::{Fault, Feature, TermCause};
 use crate::expected::Expected;
 use crate::names::{after_colon, cut_off, stray_colon};
 use crate::scalars::is_utf8;
+use crate::stuck::stuck;
 use crate::token::Token;
 use mx_base::{Bytes, Text};
 use std::alloc::{AllocError, Global};
 
 /// What an escape spells.
 #[derive(Clone, Copy)]
-enum Spelled {
+pub enum Spelled {
     Byte(u8),
     Scalar(char),
 }
@@ -27,16 +28,16 @@ pub fn quoted_atom<'a>(
     text: &'a [u8],
     inside: &'a [u8],
 ) -> Result<(Token, &'a [u8]), Fault>
-    ensures { LexedBy (λ found. (found.0, found.1.now)) result (quoted_stop text.now (spelt_at inside.now).0 (spelt_at inside.now).1) }
+    ensures { LexedBy (λ found. (found.0, found.1.now)) result (quoted_stop text.now (spelt_at inside.now).0 (spelt_at inside.now).1 (stuck_at inside.now)) }
 {
     let (bytes, rest) = spelt(alloc, inside)?;
     match rest {
-        [] => Err(Fault::before(rest, TermCause::Unclosed)),
+        [] => stopped(alloc, inside, false, rest, TermCause::Unclosed),
         [b'"', after @ ..] => match utf8_text(bytes) {
             Some(name) => Ok((Token::Atom(name), after)),
             None => Err(Fault::before(text, TermCause::BadUtf8)),
         },
-        [byte, ..] => Err(Fault::before(rest, broken(*byte))),
+        [byte, ..] => stopped(alloc, inside, false, rest, broken(*byte)),
     }
 }
 
@@ -49,17 +50,32 @@ pub fn string<'a>(
 ) -> Result<(Token, &'a [u8]), Fault>
     ensures { LexedBy (λ found. (found.0, found.1.now)) result (string_lexed expected text.now inside.now) }
 {
-    if !expected.term && !expected.key {
-        return Err(Fault::before(text, TermCause::Unexpected));
+    if !(expected.term || expected.key) {
+        Err(Fault::before(text, TermCause::Unexpected))
+    } else if expected.term && is_heredoc(inside) {
+        Err(Fault::before(text, TermCause::Unsupported(Feature::Heredoc)))
+    } else {
+        quoted(alloc, text, inside, expected)
     }
-    if expected.term && is_heredoc(inside) {
-        return Err(Fault::before(text, TermCause::Unsupported(Feature::Heredoc)));
-    }
+}
+
+/// The same where a string or a quoted key may begin and no heredoc does.
+fn quoted<'a>(
+    alloc: Global,
+    text: &'a [u8],
+    inside: &'a [u8],
+    expected: Expected,
+) -> Result<(Token, &'a [u8]), Fault>
+    ensures { LexedBy (λ found. (found.0, found.1.now)) result (string_stop expected text.now (spelt_at inside.now).0 (spelt_at inside.now).1 (stuck_at inside.now)) }
+{
     let (bytes, rest) = spelt(alloc, inside)?;
     match rest {
-        [] => Err(Fault::before(rest, TermCause::Unclosed)),
+        [] => stopped(alloc, inside, expected.term, rest, TermCause::Unclosed),
+        [b'"', after @ ..] if is_no_key(&bytes, after, expected) => {
+            stopped(alloc, inside, expected.term, rest, TermCause::Unexpected)
+        }
         [b'"', after @ ..] => closed(text, bytes, after, expected),
-        [byte, ..] => Err(Fault::before(rest, broken(*byte))),
+        [byte, ..] => stopped(alloc, inside, expected.term, rest, broken(*byte)),
     }
 }
 
@@ -81,6 +97,36 @@ pub fn broken(byte: u8) -> TermCause
         TermCause::BadEscape
     } else {
         TermCause::Unsupported(Feature::Interpolation)
+    }
+}
+
+/// The fault where quotes stop before the rest, or an earlier one where what stands between them can no more become
+/// UTF-8 and `any` bytes may not stand there.
+fn stopped<'a>(
+    alloc: Global,
+    inside: &'a [u8],
+    any: bool,
+    rest: &'a [u8],
+    cause: TermCause,
+) -> Result<(Token, &'a [u8]), Fault>
+    ensures { LexedBy (λ found. (found.0, found.1.now)) result (stopped any (stuck_at inside.now) (Err (rest.now, cause))) }
+{
+    if any {
+        return Err(Fault::before(rest, cause));
+    }
+    match stuck(alloc, inside)? {
+        Some(place) => Err(Fault::before(place, TermCause::Unexpected)),
+        None => Err(Fault::before(rest, cause)),
+    }
+}
+
+/// A string before the rest where only a key may begin, that can be none.
+fn is_no_key(bytes: &Bytes, rest: &[u8], expected: Expected) -> bool
+    ensures { result ≡ is_no_key expected bytes.now (after_colon rest.now) }
+{
+    match after_colon(rest) {
+        Some(_) => false,
+        None => !(expected.term || is_utf8(bytes.as_slice())),
     }
 }
 
@@ -141,7 +187,7 @@ fn spelt(alloc: Global, text: &[u8]) -> Result<(Bytes, &[u8]), AllocError>
 }
 
 /// What the first byte or escape of a string's inside spells, and the text after it.
-fn next(text: &[u8]) -> Option<(Spelled, &[u8])>
+pub fn next(text: &[u8]) -> Option<(Spelled, &[u8])>
     ensures value { option_map (λ found. (spelled found.0, found.1.now)) result ≡ next_at text.now }
     ensures shorter { IfSome result (λ found. length found.1.now < length text.now) }
 {
@@ -162,7 +208,7 @@ fn after_escape(text: &[u8]) -> Option<(Spelled, &[u8])>
     Some((value, text.split_at(len).1))
 }
 
-fn push(bytes: &mut Vec<u8>, value: Spelled) -> Result<(), AllocError>
+pub fn push(bytes: &mut Vec<u8>, value: Spelled) -> Result<(), AllocError>
     ensures { OnOk result (bytes.new.items ≡ bytes.old.items ++ spelled value) }
 {
     match value {

@@ -11,7 +11,7 @@ use Rattle.dep_options.specs.declared.decl.CompileBy.{CompileBy}
 use Rattle.dep_options.specs.declared.decl.CompileBy.TheVariants as by
 use Rattle.dep_options.specs.declared.decl.DepSource.{DepSource}
 use Rattle.dep_options.specs.declared.decl.DepSource.TheVariants.{Hex, Path}
-use Rattle.dep_options.specs.declared.decl.Variable.{Variable}
+use Rattle.mx_base.specs.declared.variable.Variable.{Variable}
 use Rattle.dep_options.specs.Options.{is_kept_apart}
 use Rattle.dep_options.specs.Views.{all_of}
 use Rattle.project_file.specs.declared.error.ProjectError.{ProjectError}

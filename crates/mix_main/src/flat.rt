@@ -4,8 +4,8 @@ ghost use Rattle.dep_options.specs.Views.{all_of};
 ghost use Rattle.mix_main.specs.Plan.{is_by_manager, has_none, asks_nothing, builds_as_usual, runs_as_usual, is_plain, lies_at, flat_of, apps_differ, flat_declarations};
 
 use crate::declaration::Declaration;
-use dep_options::{CompileBy, Decl, DepSource, Variable};
-use mx_base::AppName;
+use dep_options::{CompileBy, Decl, DepSource};
+use mx_base::{AppName, Variable};
 use std::alloc::{AllocError, Global};
 use std::collections::BTreeSet;
 

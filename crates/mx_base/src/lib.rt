@@ -14,18 +14,20 @@ mod shared;
 mod sink;
 mod text;
 mod utf8;
+mod variable;
 
 pub use bytes::Bytes;
 pub use fault_plan::{FaultPlan, Faults, NoFaults};
 pub use file::{File, Files};
 pub use list_of::ListOf;
 pub use mem_sink::{MemSink, NullSink};
-pub use name::{AppName, NameError};
+pub use name::{AppName, NameError, Names};
 pub use path::RelPath;
 pub use path_join::PathError;
 pub use shared::Shared;
 pub use sink::{Failed, Sink};
 pub use text::{Text, copy_text};
+pub use variable::{Variable, Variables};
 
 #[cfg(test)]
 mod tests;

@@ -3,6 +3,7 @@ ghost use Rattle.std.specs.Prelude.{◌≡◌, ◌<◌, ◌≤◌, ◌↔◌, �
 ghost use Rattle.mx_base.specs.NameFaults.{is_memory};
 ghost use Rattle.mx_base.specs.AppName.{IsAppName, IsFirstBadByte, fits_at, is_app_name};
 
+use crate::list_of::ListOf;
 use crate::utf8::Utf8;
 use std::alloc::{AllocError, Global};
 use std::marker::Model;
@@ -10,6 +11,9 @@ use std::str;
 use thiserror::Error;
 
 const MAX_NAME_LEN: usize = 255;
+
+/// Names of apps or of environments, in their order.
+pub type Names = ListOf<AppName>;
 
 /// The name of an application: `[A-Za-z_][A-Za-z0-9_]*`, of at most 255 bytes. Names are ordered by their bytes.
 #[derive(Clone, Debug, PartialEq, Eq, PartialOrd, Ord, Drop)]

@@ -1,10 +1,10 @@
 use Rattle.std.specs.Prelude.{Ok, Err}
-use Rattle.std.proofs.Common.{◌≡◌, ◌&&◌, Bool, true, false, ℕ, List, length, eqb, arith, ap, sym, ◌∙◌, eq-eqb}
+use Rattle.std.proofs.Common.{◌≡◌, ◌&&◌, false, eqb, arith, ap, sym, ◌∙◌, eq-eqb}
 use Rattle.std.proofs.lemmas.Bool.{and_from, and_left, and_right, ne_eqb}
 use Rattle.elixir_terms.specs.declared.error.Feature.TheVariants.{Float}
 use Rattle.elixir_terms.specs.declared.error.TermCause.TheVariants.{Unsupported, NumberTooBig}
 use Rattle.elixir_terms.specs.declared.token.Token.TheVariants.{Int}
-use Rattle.elixir_terms.specs.Lexed.{measured, numeral_lexed, opens_fraction}
+use Rattle.elixir_terms.specs.Lexed.{measured, opens_fraction}
 use Rattle.elixir_terms.specs.Lexing.{are_signed_digits, signed_value}
 use Rattle.elixir_terms.proofs.ScanLemmas.{written_digits, said_at_end, end_big, end_float, end_ok, narrow_false, true_narrow, kept_value}
 use Rattle.elixir_terms.proofs.numbers.signed.Goals as goal

@@ -1,6 +1,6 @@
 use Rattle.std.proofs.Common.{◌≡◌, ℕ, List, rules}
 use Rattle.std.proofs.lemmas.List.Elements.{same_from_all_zip}
-use Rattle.dep_options.specs.declared.decl.Variable.{Variable}
+use Rattle.mx_base.specs.declared.variable.Variable.{Variable}
 use Rattle.dep_options.proofs.Copies.{same_option}
 use Rattle.dep_options.proofs.decl.DeclClone.clone.Goals as goal
 
