@@ -48,4 +48,6 @@ mod lexer_tests;
 #[cfg(test)]
 mod print_tests;
 #[cfg(test)]
+mod refusal_tests;
+#[cfg(test)]
 mod tests;
