@@ -1,6 +1,6 @@
 -- Bytes that begin a text of UTF-8.
 use lib.Utf8.{scalar, scalars, encode, encodes, next, low_scalar, scalar_cases}
-use Rattle.std.proofs.Common.{◌≡◌, ℕ, ◌+◌, ◌*◌, ◌/◌, ◌<◌, ◌≤◌, true, false, ◌&&◌, ◌||◌, List, [], ◌∷◌, ◌++◌, length, take, drop, refl, sym, ap, ◌∙◌, arith, subst, append_assoc, ⊎_elim, lt-ltb, le-ltb, le-leb}
+use Rattle.std.proofs.Common.{◌≡◌, ℕ, ◌+◌, ◌*◌, ◌/◌, ◌<◌, ◌≤◌, true, false, ◌&&◌, List, [], ◌∷◌, ◌++◌, length, take, drop, refl, sym, ap, ◌∙◌, arith, subst, append_assoc, ⊎_elim, lt-ltb, le-ltb, le-leb}
 use Rattle.std.proofs.lemmas.Bool.{cases_lt, and_parts, or_left, or_right, true≢false}
 use Rattle.std.proofs.lemmas.List.{take_at, drop_at, append-nil, length-append}
 use Rattle.std.proofs.lemmas.Str.{encode_ascii, IsUtf8-nil, IsUtf8-append, IsUtf8-drop, is_utf8-from_IsUtf8, IsUtf8-take, IsUtf8-encode, length-encode, len_utf8_bounds, IsCharBoundary-from_take, IsCharBoundary-from_rest, IsCharBoundary-start}
