@@ -28,6 +28,7 @@ pub record Opens (bytes text front : List ℕ) : Type 0 where
 abbrev pub Never : List ℕ → List ℕ → Type 0
 Never bytes part = (more : List ℕ) (found : List ℕ × List ℕ) → quoted_at (part ++ more) ≡ Some found → IsUtf8 (bytes ++ found.0) → ⊥
 
+-- so the text may go on up to the place, and with the byte there no more
 pub record Stuck (bytes text place : List ℕ) : Type 0 where
   pub front : List ℕ
   pub byte : ℕ
@@ -38,6 +39,7 @@ pub record Stuck (bytes text place : List ℕ) : Type 0 where
   pub shut : Never bytes (front ++ byte ∷ [])
   pub early : length (spelt_at text).1 < length place
 
+-- so the text may go on up to where its quotes stop
 pub record Free (bytes text : List ℕ) : Type 0 where
   pub front : List ℕ
   pub split : text ≡ front ++ (spelt_at text).1

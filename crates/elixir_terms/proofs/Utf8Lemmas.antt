@@ -1,6 +1,6 @@
 -- Bytes that begin a text of UTF-8.
 use lib.Utf8.{scalar, scalars, encode, encodes, next, low_scalar, scalar_cases}
-use Rattle.std.proofs.Common.{◌≡◌, ℕ, ◌+◌, ◌*◌, ◌/◌, ◌<◌, ◌≤◌, true, false, ◌&&◌, ◌||◌, List, [], ◌∷◌, ◌++◌, length, take, drop, refl, sym, ap, ◌∙◌, arith, subst, append_assoc, ⊎_elim, lt-ltb, le-ltb, le-leb}
+use Rattle.std.proofs.Common.{◌≡◌, ℕ, ◌+◌, ◌*◌, ◌/◌, ◌<◌, ◌≤◌, true, false, ◌&&◌, List, [], ◌∷◌, ◌++◌, length, take, drop, refl, sym, ap, ◌∙◌, arith, subst, append_assoc, ⊎_elim, lt-ltb, le-ltb, le-leb}
 use Rattle.std.proofs.lemmas.Bool.{cases_lt, and_parts, or_left, or_right, true≢false}
 use Rattle.std.proofs.lemmas.List.{take_at, drop_at, append-nil, length-append}
 use Rattle.std.proofs.lemmas.Str.{encode_ascii, IsUtf8-nil, IsUtf8-append, IsUtf8-drop, is_utf8-from_IsUtf8, IsUtf8-take, IsUtf8-encode, length-encode, len_utf8_bounds, IsCharBoundary-from_take, IsCharBoundary-from_rest, IsCharBoundary-start}
@@ -37,12 +37,12 @@ abbrev CanEnd : List ℕ → Type 0
 CanEnd bytes = (end : List ℕ) × IsEnd end × IsUtf8 (bytes ++ end)
 
 end_tried : (bytes end : List ℕ) → IsEnd end → is_utf8 (bytes ++ end) ≡ true → can_become bytes ≡ true
-end_tried bytes end none u = or_left (is_utf8 bytes) (is_utf8 (bytes ++ 128 ∷ []) || (is_utf8 (bytes ++ 128 ∷ 128 ∷ []) || (is_utf8 (bytes ++ 128 ∷ 128 ∷ 128 ∷ []) || (is_utf8 (bytes ++ 160 ∷ 128 ∷ []) || (is_utf8 (bytes ++ 144 ∷ 128 ∷ 128 ∷ [])))))) (ap is_utf8 (sym (append-nil bytes)) ∙ u)
-end_tried bytes end last_one u = or_right (is_utf8 bytes) (is_utf8 (bytes ++ 128 ∷ []) || (is_utf8 (bytes ++ 128 ∷ 128 ∷ []) || (is_utf8 (bytes ++ 128 ∷ 128 ∷ 128 ∷ []) || (is_utf8 (bytes ++ 160 ∷ 128 ∷ []) || (is_utf8 (bytes ++ 144 ∷ 128 ∷ 128 ∷ [])))))) (or_left (is_utf8 (bytes ++ 128 ∷ [])) (is_utf8 (bytes ++ 128 ∷ 128 ∷ []) || (is_utf8 (bytes ++ 128 ∷ 128 ∷ 128 ∷ []) || (is_utf8 (bytes ++ 160 ∷ 128 ∷ []) || (is_utf8 (bytes ++ 144 ∷ 128 ∷ 128 ∷ []))))) u)
-end_tried bytes end last_two u = or_right (is_utf8 bytes) (is_utf8 (bytes ++ 128 ∷ []) || (is_utf8 (bytes ++ 128 ∷ 128 ∷ []) || (is_utf8 (bytes ++ 128 ∷ 128 ∷ 128 ∷ []) || (is_utf8 (bytes ++ 160 ∷ 128 ∷ []) || (is_utf8 (bytes ++ 144 ∷ 128 ∷ 128 ∷ [])))))) (or_right (is_utf8 (bytes ++ 128 ∷ [])) (is_utf8 (bytes ++ 128 ∷ 128 ∷ []) || (is_utf8 (bytes ++ 128 ∷ 128 ∷ 128 ∷ []) || (is_utf8 (bytes ++ 160 ∷ 128 ∷ []) || (is_utf8 (bytes ++ 144 ∷ 128 ∷ 128 ∷ []))))) (or_left (is_utf8 (bytes ++ 128 ∷ 128 ∷ [])) (is_utf8 (bytes ++ 128 ∷ 128 ∷ 128 ∷ []) || (is_utf8 (bytes ++ 160 ∷ 128 ∷ []) || (is_utf8 (bytes ++ 144 ∷ 128 ∷ 128 ∷ [])))) u))
-end_tried bytes end last_three u = or_right (is_utf8 bytes) (is_utf8 (bytes ++ 128 ∷ []) || (is_utf8 (bytes ++ 128 ∷ 128 ∷ []) || (is_utf8 (bytes ++ 128 ∷ 128 ∷ 128 ∷ []) || (is_utf8 (bytes ++ 160 ∷ 128 ∷ []) || (is_utf8 (bytes ++ 144 ∷ 128 ∷ 128 ∷ [])))))) (or_right (is_utf8 (bytes ++ 128 ∷ [])) (is_utf8 (bytes ++ 128 ∷ 128 ∷ []) || (is_utf8 (bytes ++ 128 ∷ 128 ∷ 128 ∷ []) || (is_utf8 (bytes ++ 160 ∷ 128 ∷ []) || (is_utf8 (bytes ++ 144 ∷ 128 ∷ 128 ∷ []))))) (or_right (is_utf8 (bytes ++ 128 ∷ 128 ∷ [])) (is_utf8 (bytes ++ 128 ∷ 128 ∷ 128 ∷ []) || (is_utf8 (bytes ++ 160 ∷ 128 ∷ []) || (is_utf8 (bytes ++ 144 ∷ 128 ∷ 128 ∷ [])))) (or_left (is_utf8 (bytes ++ 128 ∷ 128 ∷ 128 ∷ [])) (is_utf8 (bytes ++ 160 ∷ 128 ∷ []) || (is_utf8 (bytes ++ 144 ∷ 128 ∷ 128 ∷ []))) u)))
-end_tried bytes end last_high u = or_right (is_utf8 bytes) (is_utf8 (bytes ++ 128 ∷ []) || (is_utf8 (bytes ++ 128 ∷ 128 ∷ []) || (is_utf8 (bytes ++ 128 ∷ 128 ∷ 128 ∷ []) || (is_utf8 (bytes ++ 160 ∷ 128 ∷ []) || (is_utf8 (bytes ++ 144 ∷ 128 ∷ 128 ∷ [])))))) (or_right (is_utf8 (bytes ++ 128 ∷ [])) (is_utf8 (bytes ++ 128 ∷ 128 ∷ []) || (is_utf8 (bytes ++ 128 ∷ 128 ∷ 128 ∷ []) || (is_utf8 (bytes ++ 160 ∷ 128 ∷ []) || (is_utf8 (bytes ++ 144 ∷ 128 ∷ 128 ∷ []))))) (or_right (is_utf8 (bytes ++ 128 ∷ 128 ∷ [])) (is_utf8 (bytes ++ 128 ∷ 128 ∷ 128 ∷ []) || (is_utf8 (bytes ++ 160 ∷ 128 ∷ []) || (is_utf8 (bytes ++ 144 ∷ 128 ∷ 128 ∷ [])))) (or_right (is_utf8 (bytes ++ 128 ∷ 128 ∷ 128 ∷ [])) (is_utf8 (bytes ++ 160 ∷ 128 ∷ []) || (is_utf8 (bytes ++ 144 ∷ 128 ∷ 128 ∷ []))) (or_left (is_utf8 (bytes ++ 160 ∷ 128 ∷ [])) (is_utf8 (bytes ++ 144 ∷ 128 ∷ 128 ∷ [])) u))))
-end_tried bytes end last_higher u = or_right (is_utf8 bytes) (is_utf8 (bytes ++ 128 ∷ []) || (is_utf8 (bytes ++ 128 ∷ 128 ∷ []) || (is_utf8 (bytes ++ 128 ∷ 128 ∷ 128 ∷ []) || (is_utf8 (bytes ++ 160 ∷ 128 ∷ []) || (is_utf8 (bytes ++ 144 ∷ 128 ∷ 128 ∷ [])))))) (or_right (is_utf8 (bytes ++ 128 ∷ [])) (is_utf8 (bytes ++ 128 ∷ 128 ∷ []) || (is_utf8 (bytes ++ 128 ∷ 128 ∷ 128 ∷ []) || (is_utf8 (bytes ++ 160 ∷ 128 ∷ []) || (is_utf8 (bytes ++ 144 ∷ 128 ∷ 128 ∷ []))))) (or_right (is_utf8 (bytes ++ 128 ∷ 128 ∷ [])) (is_utf8 (bytes ++ 128 ∷ 128 ∷ 128 ∷ []) || (is_utf8 (bytes ++ 160 ∷ 128 ∷ []) || (is_utf8 (bytes ++ 144 ∷ 128 ∷ 128 ∷ [])))) (or_right (is_utf8 (bytes ++ 128 ∷ 128 ∷ 128 ∷ [])) (is_utf8 (bytes ++ 160 ∷ 128 ∷ []) || (is_utf8 (bytes ++ 144 ∷ 128 ∷ 128 ∷ []))) (or_right (is_utf8 (bytes ++ 160 ∷ 128 ∷ [])) (is_utf8 (bytes ++ 144 ∷ 128 ∷ 128 ∷ [])) u))))
+end_tried bytes end none u = let v : is_utf8 bytes ≡ true = ap is_utf8 (sym (append-nil bytes)) ∙ u in search (or_left, v)
+end_tried bytes end last_one u = search (or_left, or_right, u)
+end_tried bytes end last_two u = search (or_left, or_right, u)
+end_tried bytes end last_three u = search (or_left, or_right, u)
+end_tried bytes end last_high u = search (or_left, or_right, u)
+end_tried bytes end last_higher u = search (or_left, or_right, u)
 
 pub one_char : (c : ℕ) (bytes : List ℕ) → scalar c ≡ true → encode c ≡ bytes → IsUtf8 bytes
 one_char c bytes s e = (c ∷ [], (ap (λ t. t && true) s, append-nil (encode c) ∙ e))

@@ -90,9 +90,7 @@ fn some_low(alloc: Global, bytes: &[u8], high: u8) -> Result<bool, AllocError>
     requires { high < 16 }
     ensures { IfOk result (λ some. some ≡ some_low bytes.now high 16) }
 {
-    let mut low = 16;
-    while low > 0 {
-        low -= 1;
+    for low in 0..16 {
         if may_follow(alloc, bytes, high * 16 + low)? {
             return Ok(true);
         }

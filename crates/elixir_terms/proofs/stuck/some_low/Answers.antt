@@ -1,28 +1,28 @@
-use Rattle.std.proofs.Common.{◌≡◌, ℕ, zero, suc, ◌+◌, ◌-◌, ◌*◌, ◌<◌, ◌≤◌, false, ◌||◌, List, [], ◌∷◌, ◌++◌, refl, sym, ap, ◌∙◌, arith}
+use Rattle.std.proofs.Common.{◌≡◌, ℕ, zero, suc, ◌+◌, ◌*◌, ◌<◌, true, false, List, [], ◌∷◌, ◌++◌, refl, sym, ◌∙◌, arith, subst, ⊎_elim}
+use Rattle.std.proofs.lemmas.Bool.{or_left, or_right, or_from, cases_lt}
 use Rattle.elixir_terms.specs.Lexed.{can_become, some_low}
 use Rattle.elixir_terms.proofs.stuck.some_low.Goals as goal
 
-some_less : (bytes : List ℕ) (high n : ℕ) → 0 < n → some_low bytes high n ≡ (can_become (bytes ++ (high * 16 + (n - 1)) ∷ []) || some_low bytes high (n - 1))
+low_found : (bytes : List ℕ) (high n low : ℕ) → low < n → can_become (bytes ++ (high * 16 + low) ∷ []) ≡ true → some_low bytes high n ≡ true
 unfolding some_low
-some_less bytes high zero l = absurd (omega (arith, l))
-some_less bytes high (suc n) l =
-    let e : n ≡ suc n - 1 = omega arith in
-    λ i. can_become (bytes ++ (high * 16 + e i) ∷ []) || some_low bytes high (e i)
+low_found bytes high zero low l c = absurd (omega (arith, l))
+low_found bytes high (suc n) low l c =
+    ⊎_elim (λ k. or_right (can_become (bytes ++ (high * 16 + n) ∷ [])) (some_low bytes high n) (low_found bytes high n low k c))
+    (λ k. let same : low ≡ n = omega (arith, k, l) in or_left (can_become (bytes ++ (high * 16 + n) ∷ [])) (some_low bytes high n) (subst (λ j. can_become (bytes ++ (high * 16 + j) ∷ []) ≡ true) same c))
+    (cases_lt low n)
 
-none_left : (bytes : List ℕ) (high n : ℕ) → n ≤ 0 → some_low bytes high n ≡ false
+none_more : (bytes : List ℕ) (high low : ℕ) → can_become (bytes ++ (high * 16 + low) ∷ []) ≡ false → some_low bytes high low ≡ false → some_low bytes high (suc low) ≡ false
 unfolding some_low
-none_left bytes high zero l = refl
-none_left bytes high (suc n) l = absurd (omega (arith, l))
+none_more bytes high low c s = or_from (can_become (bytes ++ (high * 16 + low) ∷ [])) (some_low bytes high low) c s
+
+pub loop-low-init : goal.loop-low-init
+unfolding some_low
+loop-low-init c = refl
 
 pub returns-then-branch : goal.returns-then-branch
-returns-then-branch c =
-    let less = some_less c.args.bytes.now c.args.high c.loop-low.low c.loop-low-test.true in
-    sym (sym c.loop-low.invariant.1 ∙ less ∙ ap (λ can. can || some_low c.args.bytes.now c.args.high (c.loop-low.low - 1)) (sym c.in_ok-may_follow.ensures ∙ c.if-branch.true))
+returns-then-branch c = sym (low_found c.args.bytes.now c.args.high 16 c.loop-low.low c.loop-low-test.true (sym c.in_ok-may_follow.ensures ∙ c.if-branch.true))
 
 pub loop-low-preserved : goal.loop-low-preserved
 loop-low-preserved c =
-    let less = some_less c.args.bytes.now c.args.high c.loop-low.low c.loop-low-test.true in
-    (omega (arith, c.loop-low.invariant.0), sym (less ∙ ap (λ can. can || some_low c.args.bytes.now c.args.high (c.loop-low.low - 1)) (sym c.in_ok-may_follow.ensures ∙ c.if-branch.false)) ∙ c.loop-low.invariant.1)
-
-pub returns : goal.returns
-returns c = sym (none_left c.args.bytes.now c.args.high c.loop-low.low c.loop-low-test.false) ∙ c.loop-low.invariant.1
+    let more : suc c.loop-low.low ≡ c.loop-low.low + 1 = omega arith in
+    subst (λ low. some_low c.args.bytes.now c.args.high low ≡ false) more (none_more c.args.bytes.now c.args.high c.loop-low.low (sym c.in_ok-may_follow.ensures ∙ c.if-branch.false) c.loop-low.invariant)
