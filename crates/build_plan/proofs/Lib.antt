@@ -1,0 +1,4 @@
+pub mod ChildLemmas
+pub mod FolderLemmas
+pub mod SourceLemmas
+pub mod WinnerLemmas
