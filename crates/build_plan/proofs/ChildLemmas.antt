@@ -1,7 +1,7 @@
 -- What an app declares in turn is one thing.
 use Rattle.std.proofs.Common.{◌≡◌, ℕ, Bool, true, false, List, filter, Option, Some, None, Result, Ok, Err, IfSome, IsTrue, IsFalse, refl, sym, ◌∙◌, ap, subst}
 use Rattle.mx_base.specs.declared.file.File.{File}
-use Rattle.elixir_terms.proofs.ReadLemmas.{spells_one}
+use Rattle.elixir_terms.proofs.SpellLemmas.{spells_one}
 use Rattle.version_req.proofs.Complete.{one_requirement}
 use Rattle.dep_options.specs.declared.decl.Decl.{Decl}
 use Rattle.dep_options.specs.declared.decl.DepSource.{DepSource}

@@ -26,8 +26,8 @@ pub(crate) fn versions(alloc: Global, found: &[Found]) -> Result<Versions, Alloc
     ensures told { IfOk result (λ versions. (files : List File) (rows : List Row) (winners : List ℕ) → All (IsFound files) found.now → AllZip (IsFoundAt rows) winners found.now → AreVersions files rows winners versions) }
 {
     let mut versions = Versions::new(alloc);
-    for found in found {
-        versions.push(Some(version(alloc, &found.project)?))?;
+    for folder in found {
+        versions.push(Some(version(alloc, &folder.project)?))?;
     }
     Ok(versions)
 }
