@@ -27,8 +27,8 @@ OneProject = (files : List File) (dir : List ℕ) (answer other : Result (Option
 one_folder : (source : DepSource) (dir other : List ℕ) → source ≡ Path dir → source ≡ Path other → dir ≡ other
 one_folder source dir other is also = let same : Path dir ≡ Path other = sym is ∙ also in cc
 
-one_kind : (source : DepSource) (package dir : List ℕ) → source ≡ Hex package → source ≡ Path dir → ⊥
-one_kind source package dir is also = let same : Hex package ≡ Path dir = sym is ∙ also in cc
+one_kind : (source : DepSource) (name dir : List ℕ) → source ≡ Hex name → source ≡ Path dir → ⊥
+one_kind source name dir is also = let same : Hex name ≡ Path dir = sym is ∙ also in cc
 
 not_both : (files : List File) (dir other : List ℕ) → dir ≡ other → IsFalse (has_files files dir) → IsTrue (has_files files other) → ⊥
 not_both files dir other same no has = let clash : true ≡ false = sym has ∙ sym (ap (has_files files) same) ∙ no in cc
@@ -53,19 +53,19 @@ module _ (one : OneProject) (files : List File) (source : DepSource) where
 
 -- each winner has one answer at most
 pub once : OneProject → {files : List File} {app : List ℕ} {winner : Decl} {answer other : Result (List Decl) ChildFault} → AreChildren files app winner answer → AreChildren files app winner other → answer ≡ other
-once one (unlocked package is) (unlocked package' also) = refl
-once one {winner = winner} (unlocked package is) (missing dir also no) = absurd (one_kind winner.source package dir is also)
-once one {winner = winner} (unlocked package is) (refused dir also has loaded) = absurd (one_kind winner.source package dir is also)
-once one {winner = winner} (unlocked package is) (declared dir also has loaded) = absurd (one_kind winner.source package dir is also)
-once one {winner = winner} (missing dir is no) (unlocked package also) = absurd (one_kind winner.source package dir also is)
+once one (unlocked name is) (unlocked other also) = refl
+once one {winner = winner} (unlocked name is) (missing dir also no) = absurd (one_kind winner.source name dir is also)
+once one {winner = winner} (unlocked name is) (refused dir also has loaded) = absurd (one_kind winner.source name dir is also)
+once one {winner = winner} (unlocked name is) (declared dir also has loaded) = absurd (one_kind winner.source name dir is also)
+once one {winner = winner} (missing dir is no) (unlocked name also) = absurd (one_kind winner.source name dir also is)
 once one {app = app} {winner = winner} (missing dir is no) (missing other also none) = ap (λ (d : List ℕ). Err (PathMissing app d)) (one_folder winner.source dir other is also)
 once one {files = files} {winner = winner} (missing dir is no) (refused other also has loaded) = absurd (not_both files dir other (one_folder winner.source dir other is also) no has)
 once one {files = files} {winner = winner} (missing dir is no) (declared other also has loaded) = absurd (not_both files dir other (one_folder winner.source dir other is also) no has)
-once one {winner = winner} (refused dir is has loaded) (unlocked package also) = absurd (one_kind winner.source package dir also is)
+once one {winner = winner} (refused dir is has loaded) (unlocked name also) = absurd (one_kind winner.source name dir also is)
 once one {files = files} {winner = winner} (refused dir is has loaded) (missing other also no) = absurd (not_both files other dir (one_folder winner.source other dir also is) no has)
 once one {files = files} {winner = winner} (refused dir {fault = fault} is has loaded) (refused other {fault = error} also had said) = same_refusal one files winner.source dir other fault error is also loaded said
 once one {files = files} {winner = winner} (refused dir {fault = fault} is has loaded) (declared other {found = found} also had said) = absurd (no_clash one files winner.source dir other fault found is also loaded said)
-once one {winner = winner} (declared dir is has loaded) (unlocked package also) = absurd (one_kind winner.source package dir also is)
+once one {winner = winner} (declared dir is has loaded) (unlocked name also) = absurd (one_kind winner.source name dir also is)
 once one {files = files} {winner = winner} (declared dir is has loaded) (missing other also no) = absurd (not_both files other dir (one_folder winner.source other dir also is) no has)
 once one {files = files} {winner = winner} (declared dir {found = found} is has loaded) (refused other {fault = fault} also had said) = absurd (no_clash one files winner.source other dir fault found also is said loaded)
 once one {files = files} {winner = winner} (declared dir {found = first} is has loaded) (declared other {found = found} also had said) =
@@ -80,7 +80,7 @@ children_once (Some files) = λ app winner answer other says tells. once one_pro
 
 -- a manifest is never refused because the store failed, or for want of memory
 fault_inside : {files : List File} {app : List ℕ} {winner : Decl} {fault : ChildFault} → AreChildren files app winner (Err fault) → IsFalse (is_failed fault) × IsFalse (is_memory fault)
-fault_inside (unlocked package is) = (refl, refl)
+fault_inside (unlocked name is) = (refl, refl)
 fault_inside (missing dir is no) = (refl, refl)
 fault_inside (refused dir is has loaded) = (refl, refl)
 

@@ -64,12 +64,11 @@ negated a b is no = is ∙ ap not no
 pub told_here : (told : Option (List File)) (found : Found) (dir path : List ℕ) → found.dir ≡ dir → IsFalse (is_empty found.paths.items) → IfSome told (λ files. has_files files dir ≡ not (is_empty found.paths.items)) → IfSome told (λ files. found.paths.items ≡ paths_below dir files) → path ≡ manifest_at dir → IfSome told (λ files. found.text ≡ bytes_at path files) → ((files : List File) → found.text ≡ bytes_at (manifest_at dir) files → IsLoaded files dir (Ok found.project)) → IfSome told (λ files. IsTrue (has_files files dir) × IsFound files found)
 told_here None found dir path at some has paths place text loaded = tt
 told_here (Some files) found dir path at some has paths place text loaded =
-    let read : found.text ≡ bytes_at (manifest_at dir) files = text ∙ ap (λ (p : List ℕ). bytes_at p files) place in
-    (
+    let read : found.text ≡ bytes_at (manifest_at dir) files = text ∙ ap (λ (p : List ℕ). bytes_at p files) place in (
       negated (has_files files dir) (is_empty found.paths.items) has some,
       record {
         paths = paths ∙ ap (λ (d : List ℕ). paths_below d files) (sym at);
         text = read ∙ ap (λ (d : List ℕ). bytes_at (manifest_at d) files) (sym at);
         loaded = subst (λ (d : List ℕ). IsLoaded files d (Ok found.project)) (sym at) (loaded files read);
-      }
+      },
     )

@@ -32,8 +32,7 @@ are_versions files rows [] (one ∷ found) versions are told at = absurd at
 are_versions files rows (winner ∷ winners) [] versions are told at = absurd at
 are_versions files rows (winner ∷ winners) (one ∷ found) [] are told at = absurd are
 are_versions files rows (winner ∷ winners) (one ∷ found) (version ∷ versions) are told at =
-    let here = All-head (IsFound files) one found told in
-    (
+    let here = All-head (IsFound files) one found told in (
       record {
         row = at.0.row;
         dir = one.dir;
@@ -45,5 +44,5 @@ are_versions files rows (winner ∷ winners) (one ∷ found) (version ∷ versio
         parts = are.0.parts;
         known = are.0.known;
       },
-      are_versions files rows winners found versions are.1 (All-tail (IsFound files) one found told) at.1
+      are_versions files rows winners found versions are.1 (All-tail (IsFound files) one found told) at.1,
     )

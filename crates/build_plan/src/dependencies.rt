@@ -46,10 +46,11 @@ pub(crate) fn dependencies<S: Store>(
     ensures cause { Counted (S.faults store.old) (S.faults store.new) (is_read result) }
 {
     let mut manifests = Manifests::new(alloc, store);
-    inventory(alloc, &mut manifests, root)
+    take_stock(alloc, &mut manifests, root)
 }
 
-fn inventory<S: Store>(
+/// Reads what the dependencies of a root declare, over manifests that are kept.
+fn take_stock<S: Store>(
     alloc: Global,
     manifests: &mut Manifests<'_, S>,
     root: &[Decl],
