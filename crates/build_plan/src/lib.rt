@@ -9,6 +9,7 @@ mod children;
 mod dependencies;
 mod error;
 mod found;
+mod manifests;
 mod planning;
 mod sources;
 mod versions;

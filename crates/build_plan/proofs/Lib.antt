@@ -1,0 +1,5 @@
+pub mod ChildLemmas
+pub mod FolderLemmas
+pub mod SourceLemmas
+pub mod VersionLemmas
+pub mod WinnerLemmas
