@@ -1,5 +1,5 @@
 -- What is reached, and what diverges, is one list.
-use Rattle.std.proofs.Common.{◌≡◌, ℕ, ◌<◌, ◌⊎◌, inl, inr, List, Option, Some, None, map, Contains, sym, ◌∙◌, ap, subst, arith}
+use Rattle.std.proofs.Common.{◌≡◌, ℕ, ◌<◌, ◌⊎◌, inl, inr, List, Option, Some, None, map, Contains, refl, sym, ◌∙◌, ap, subst, arith}
 use Rattle.std.specs.Prelude.{option_map}
 use Rattle.std.specs.List.{slice_get}
 use Rattle.std.proofs.lemmas.List.Elements.{All-contains}
@@ -60,11 +60,11 @@ alike others k known (Some (Some other)) is same = record { other = other; stand
 
 stands_alike : (versions others : List (Option Version)) → map (option_map parts_of) versions ≡ map (option_map parts_of) others → (k : ℕ) (known : Version) → slice_get versions k ≡ Some (Some known) → StandsAlike others k known
 stands_alike versions others same k known stands =
-    alike others k known (slice_get others k) _ (
-      ap (option_map (option_map parts_of)) (sym stands)
-      ∙ sym (slice_get-map (option_map parts_of) versions k)
-      ∙ ap (λ (ps : List (Option (ℕ × ℕ × ℕ × List ℕ × List ℕ))). slice_get ps k) same
-      ∙ slice_get-map (option_map parts_of) others k)
+    alike others k known (slice_get others k) refl (
+    ap (option_map (option_map parts_of)) (sym stands)
+    ∙ sym (slice_get-map (option_map parts_of) versions k)
+    ∙ ap (λ (ps : List (Option (ℕ × ℕ × ℕ × List ℕ × List ℕ))). slice_get ps k) same
+    ∙ slice_get-map (option_map parts_of) others k)
 
 pub by_parts : (rows : List Row) (winners : List ℕ) (versions others : List (Option Version)) → map (option_map parts_of) versions ≡ map (option_map parts_of) others → (rule : Rule) (place other : ℕ) → Diverges rows winners versions rule place other → Diverges rows winners others rule place other
 by_parts rows winners versions others same _ place other (source winner row under apart kept differs) = source winner row under apart kept differs
