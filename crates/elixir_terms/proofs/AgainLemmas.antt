@@ -1,12 +1,10 @@
 -- A key of a map that comes again, and where its tokens stand.
-use Rattle.std.specs.Prelude.{IsTrue, IsFalse, option_and_then}
-use Rattle.std.proofs.Common.{◌≡◌, ◌≢◌, ℕ, zero, suc, ◌+◌, ◌-◌, ◌≤◌, ◌<◌, ◌⊎◌, inl, inr, Bool, true, false, ◌&&◌, cond, List, [], ◌∷◌, ◌++◌, Option, Some, None, length, map, refl, sym, ap, ◌∙◌, subst, arith, append_assoc, ⊎_elim}
-use Rattle.std.proofs.lemmas.List.{append-nil, length-append, map-append}
+use Rattle.std.specs.Prelude.{option_and_then}
+use Rattle.std.proofs.Common.{◌≡◌, ◌≢◌, ℕ, suc, ◌+◌, ◌-◌, ◌≤◌, ◌⊎◌, inl, inr, Bool, true, false, cond, List, [], ◌∷◌, ◌++◌, Some, None, map, refl, sym, ap, ◌∙◌, subst, arith, append_assoc, ⊎_elim}
+use Rattle.std.proofs.lemmas.List.{append-nil, map-append}
 use Rattle.std.proofs.lemmas.Bool.{and_right, true≢false}
 use Rattle.elixir_terms.specs.declared.bracket.Bracket.{Bracket}
 use Rattle.elixir_terms.specs.declared.bracket.Bracket.TheVariants as bracket
-use Rattle.elixir_terms.specs.declared.error.TermCause.{TermCause}
-use Rattle.elixir_terms.specs.declared.error.TermCause.TheVariants as cause
 use Rattle.elixir_terms.specs.declared.frame.Frame.{Frame}
 use Rattle.elixir_terms.specs.declared.frame.Hole.{Hole}
 use Rattle.elixir_terms.specs.declared.frame.Slot.{Slot}
@@ -18,23 +16,21 @@ use Rattle.elixir_terms.specs.declared.term.Term.TheVariants as term
 use Rattle.elixir_terms.specs.declared.token.Token.{Token}
 use Rattle.elixir_terms.specs.declared.token.Token.TheVariants.{Atom, Int, Str, Words, Key, Open, Close, Comma, Arrow}
 use Rattle.elixir_terms.specs.Grammar.{IsTerm, atom, integer, string, words, brackets, Pair, enclosed, closing_of}
-use Rattle.elixir_terms.specs.Levels.{levels}
 use Rattle.elixir_terms.specs.Lexing.{past_blank}
 use Rattle.elixir_terms.specs.Local.{starts_with, is_plain, IsFree, IsFloat}
 use Rattle.elixir_terms.specs.Codes.{keys_in}
-use Rattle.elixir_terms.specs.Machine.{with_item, with_entry, with_keyword, takes_key, takes_key_in, takes_part, part_slot, empty, placed, begun, at_part, step, NewIn, NewInSlot, IsNew, KeysDiffer}
+use Rattle.elixir_terms.specs.Machine.{with_entry, with_keyword, takes_key, takes_key_in, takes_part, part_slot, empty, placed, step, NewIn, NewInSlot, IsNew, KeysDiffer}
 use Rattle.elixir_terms.specs.Prefixes.{AreOpen, Leads, none as no_token, token as one_token}
-use Rattle.elixir_terms.specs.Refusals.{Pairs, none as no_pair, entry, keyword, KeyAhead, keyword as key_ahead, entry as term_ahead, IsEnded, IsOneOf, IsShallow, PairsShallow, no_pairs, more_pairs}
+use Rattle.elixir_terms.specs.Refusals.{Pairs, none as no_pair, entry, keyword, KeyAhead, keyword as key_ahead, entry as term_ahead, IsEnded, IsOneOf, IsShallow, PairsShallow, more_pairs}
 use Rattle.elixir_terms.specs.Tokens.{Begins, Blanks, none}
 use Rattle.elixir_terms.specs.Within.{deepest, IsNone, Differ, Fits, AllFit, PairsFit}
 use Rattle.elixir_terms.specs.Within as fits
 use Rattle.elixir_terms.proofs.ApartLemmas.{StateApart, step_apart, allows, nil_from, differ_at, none_join, none_part, not_one}
 use Rattle.elixir_terms.proofs.BlankLemmas.{blanks_stop, blanks_meet}
 use Rattle.elixir_terms.proofs.FitLemmas.{enclosed_differ}
-use Rattle.elixir_terms.proofs.FollowLemmas.{Like}
-use Rattle.elixir_terms.proofs.KeptLemmas.{TokenFits, token_fits, KeywordsFit, FrameFits, HolesFit, StateFits, NextFits, step_fits, holes_all}
+use Rattle.elixir_terms.proofs.KeptLemmas.{token_fits, KeywordsFit, FrameFits, StateFits, NextFits, step_fits, holes_all}
 use Rattle.elixir_terms.proofs.LiftLemmas.{lifted, runs_lifted, term_runs}
-use Rattle.elixir_terms.proofs.LimitLemmas.{Fitting, fitting}
+use Rattle.elixir_terms.proofs.LimitLemmas.{fitting}
 use Rattle.elixir_terms.proofs.Meaning.{FilledIn, Filled, Wants}
 use Rattle.elixir_terms.proofs.OpenLemmas.{runs, start, runs_append, open_runs, after_some, cond_test}
 use Rattle.elixir_terms.proofs.OptionLemmas.{some_same}
@@ -42,7 +38,7 @@ use Rattle.elixir_terms.proofs.PlaceLemmas.{Inside, Past, Meets, within, there, 
 use Rattle.elixir_terms.proofs.PrefixLemmas.{AllSound, start_sound, next_sound, token_shallow}
 use Rattle.elixir_terms.proofs.ShallowLemmas.{map_parts, enclosed_deep}
 use Rattle.elixir_terms.proofs.ShutLemmas.{is_single, colon_first}
-use Rattle.elixir_terms.proofs.SoundLemmas.{Sound, SlotSound, HolesSound, StateSound, part_slot_sound}
+use Rattle.elixir_terms.proofs.SoundLemmas.{HolesSound, StateSound, part_slot_sound}
 use Rattle.elixir_terms.proofs.StepForth.{plain_at}
 use Rattle.elixir_terms.proofs.StopLemmas.{Repeats, whole_last}
 use Rattle.elixir_terms.proofs.TokenLaws.{begins_one, begins_solid}

@@ -1,7 +1,7 @@
 -- The keys of each open map differ, where each was new when it was read.
-use Rattle.std.proofs.Common.{◌≡◌, ℕ, suc, ◌+◌, ◌≤◌, ◌<◌, ◌⊎◌, inl, inr, Bool, true, false, cond, List, [], ◌∷◌, ◌++◌, Option, Some, None, length, map, refl, sym, ap, ◌∙◌, subst, arith, append_assoc, ⊎_elim}
+use Rattle.std.proofs.Common.{◌≡◌, ℕ, ◌+◌, ◌≤◌, Bool, true, false, cond, List, [], ◌∷◌, ◌++◌, Option, Some, None, map, refl, sym, ap, ◌∙◌, subst, arith, append_assoc, ⊎_elim}
 use Rattle.std.specs.Prelude.{option_map}
-use Rattle.std.proofs.lemmas.List.{append-nil, length-append, map-append}
+use Rattle.std.proofs.lemmas.List.{append-nil, map-append}
 use Rattle.elixir_terms.specs.declared.bracket.Bracket.{Bracket}
 use Rattle.elixir_terms.specs.declared.bracket.Bracket.TheVariants as bracket
 use Rattle.elixir_terms.specs.declared.frame.Frame.{Frame}
@@ -16,9 +16,9 @@ use Rattle.elixir_terms.specs.declared.token.Closing.{Closing}
 use Rattle.elixir_terms.specs.declared.token.Token.{Token}
 use Rattle.elixir_terms.specs.declared.token.Token.TheVariants.{Atom, Int, Str, Words, Key, Open, Close, Comma, Arrow}
 use Rattle.elixir_terms.specs.Grammar.{Pair, enclosed}
-use Rattle.elixir_terms.specs.Levels.{keyword_cost, cost_in, levels, HasRoom, Enters}
+use Rattle.elixir_terms.specs.Levels.{cost_in}
 use Rattle.elixir_terms.specs.Codes.{keys_in}
-use Rattle.elixir_terms.specs.Machine.{is_none, is_closed_by, takes_key, takes_part, part_slot, empty, placed_in, placed, begun, closed, at_part, at_key, at_element, at_separator, at_arrow, step, NewIn, NewInSlot, IsNew, KeysDiffer, BeginsWell, PartWell, ElementWell, Allows}
+use Rattle.elixir_terms.specs.Machine.{is_none, is_closed_by, takes_key, takes_part, part_slot, empty, placed_in, placed, begun, closed, at_part, at_key, at_element, at_separator, at_arrow, step, NewIn, IsNew, KeysDiffer, BeginsWell, PartWell, ElementWell, Allows}
 use Rattle.elixir_terms.specs.Refusals.{IsOneOf}
 use Rattle.elixir_terms.specs.Within.{deepest, IsNone, Differ}
 use Rattle.elixir_terms.proofs.KeptLemmas.{FrameFits, HolesFit, StateFits, holes_all}

@@ -1,21 +1,19 @@
 -- Where a token stands nothing is to refuse, but a fraction behind an integer and three quotes.
-use Rattle.std.specs.Prelude.{IsTrue, IsFalse, codes, option_map, ℤ}
-use Rattle.std.proofs.Common.{◌≡◌, ◌≢◌, ℕ, zero, suc, ◌+◌, ◌<◌, ◌≤◌, ◌⊎◌, inl, inr, Bool, true, false, not, ◌&&◌, ◌||◌, ◌==◌, eqb, cond, List, [], ◌∷◌, ◌++◌, Option, Some, None, length, take, drop, refl, sym, ap, ◌∙◌, subst, arith, append_assoc, ⊎_elim}
-use Rattle.std.specs.Char.{is_ascii_digit, is_digit}
-use Rattle.std.specs.Str.{IsUtf8}
-use Rattle.std.proofs.lemmas.Bool.{and_parts, and_right, or_from, or_cases, or_parts, eqb-true, not-true, true≢false, false≢true, false_from_ne_true, leb-true}
+use Rattle.std.specs.Prelude.{IsTrue, codes, option_map, ℤ}
+use Rattle.std.proofs.Common.{◌≡◌, ℕ, zero, suc, ◌+◌, Bool, true, false, not, ◌&&◌, ◌||◌, ◌==◌, eqb, cond, List, [], ◌∷◌, ◌++◌, Option, Some, None, length, take, drop, refl, sym, ap, ◌∙◌, subst, arith, append_assoc, ⊎_elim}
+use Rattle.std.proofs.lemmas.Bool.{and_parts, and_right, or_cases, or_parts, eqb-true, not-true, true≢false, false≢true}
 use Rattle.std.proofs.lemmas.List.{take_at, drop_at, take-append-drop, length-append, append-nil}
 use Rattle.elixir_terms.specs.declared.error.Feature.TheVariants.{Heredoc, Float}
 use Rattle.elixir_terms.specs.declared.error.TermCause.{TermCause}
 use Rattle.elixir_terms.specs.declared.error.TermCause.TheVariants as cause
 use Rattle.elixir_terms.specs.declared.expected.Expected.{Expected}
 use Rattle.elixir_terms.specs.declared.token.Token.{Token}
-use Rattle.elixir_terms.specs.declared.token.Token.TheVariants.{Atom, Int, Str, Words, Key, Open, Close, Comma, Arrow}
-use Rattle.elixir_terms.specs.Lexing.{Found, IsNarrow, IsWide, after_colon, escape_at, escaped, quoted_past, quoted_at, before, utf8_only, quoted_atom_of, key_or_atom, key_or_string, string_of, inside_len, words_before, words_in, words_at, name_len, name_of, name_at, first_token}
-use Rattle.elixir_terms.specs.Local.{IsOpening, IsCapital, IsDecimal, IsNoEscape, IsFloat, starts_with, is_plain, IsFree, takes, IsPart, IsShut, Locally, charlist, sigil, heredoc, bits, interpolation, interpolated_words, float, alias_alone, alias, escape, escape_in_words, atom_utf8, key_utf8, number, colon_after, unclosed, unexpected}
-use Rattle.elixir_terms.specs.Names.{is_from, is_letter, is_name_start, is_name, is_bare_atom, is_blank}
-use Rattle.elixir_terms.specs.Numbers.{Grouped, Integer, decimal, plain, negative}
-use Rattle.elixir_terms.specs.Strings.{opens_interpolation, is_literal, Quoted, end, literal, escape as quoted_escape}
+use Rattle.elixir_terms.specs.declared.token.Token.TheVariants.{Atom, Int, Str, Key}
+use Rattle.elixir_terms.specs.Lexing.{Found, IsNarrow, after_colon, escape_at, escaped, quoted_past, quoted_at, before, utf8_only, quoted_atom_of, key_or_atom, key_or_string, string_of, inside_len, words_before, words_in, words_at, name_len, name_of, first_token}
+use Rattle.elixir_terms.specs.Local.{IsOpening, IsDecimal, IsNoEscape, IsFloat, starts_with, is_plain, IsFree, takes, Locally, charlist, sigil, heredoc, bits, interpolation, interpolated_words, float, alias_alone, alias, escape, escape_in_words, atom_utf8, key_utf8, number, colon_after, unclosed, unexpected}
+use Rattle.elixir_terms.specs.Names.{is_from, is_name_start, is_name, is_bare_atom}
+use Rattle.elixir_terms.specs.Numbers.{decimal, plain, negative}
+use Rattle.elixir_terms.specs.Strings.{opens_interpolation, Quoted, end, literal, escape as quoted_escape}
 use Rattle.elixir_terms.proofs.FollowLemmas.{bare_first}
 use Rattle.elixir_terms.specs.Tokens.{ends_name, is_colon, Begins, bare_atom, integer, string, atom, quoted_atom, words, key, quoted_key, opens, closes, comma, arrow}
 use Rattle.elixir_terms.specs.Words.{is_inside}

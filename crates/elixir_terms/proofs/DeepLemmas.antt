@@ -1,7 +1,5 @@
 -- How many levels a token needs of a term that it begins.
-use Rattle.std.proofs.Common.{◌≡◌, ℕ, suc, ◌+◌, ◌≤◌, ◌<◌, List, [], ◌∷◌, ◌++◌, Some, refl, sym, subst, arith, append_assoc}
-use Rattle.elixir_terms.specs.declared.bracket.Bracket.{Bracket}
-use Rattle.elixir_terms.specs.declared.bracket.Bracket.TheVariants as bracket
+use Rattle.std.proofs.Common.{◌≡◌, ℕ, ◌+◌, ◌≤◌, List, [], ◌∷◌, ◌++◌, Some, sym, subst, arith, append_assoc}
 use Rattle.elixir_terms.specs.declared.frame.Frame.{Frame}
 use Rattle.elixir_terms.specs.declared.frame.Hole.{Hole}
 use Rattle.elixir_terms.specs.declared.frame.Slot.{Slot}
@@ -11,9 +9,9 @@ use Rattle.elixir_terms.specs.declared.state.State.TheVariants as state
 use Rattle.elixir_terms.specs.declared.term.Term.{Term}
 use Rattle.elixir_terms.specs.declared.term.Term.TheVariants as term
 use Rattle.elixir_terms.specs.declared.token.Token.{Token}
-use Rattle.elixir_terms.specs.declared.token.Token.TheVariants.{Atom, Int, Str, Words, Key, Open, Close, Comma, Arrow}
-use Rattle.elixir_terms.specs.Grammar.{IsTerm, atom, integer, string, words, brackets, Pair, enclosed, closing_of}
-use Rattle.elixir_terms.specs.Levels.{keyword_cost, cost_in, cost, levels}
+use Rattle.elixir_terms.specs.declared.token.Token.TheVariants.{Atom, Int, Str, Words, Open}
+use Rattle.elixir_terms.specs.Grammar.{IsTerm, atom, integer, string, words, brackets, Pair, enclosed}
+use Rattle.elixir_terms.specs.Levels.{keyword_cost, levels}
 use Rattle.elixir_terms.specs.Machine.{part_slot}
 use Rattle.elixir_terms.specs.Refusals.{IsShallow}
 use Rattle.elixir_terms.proofs.Meaning.{FilledIn, Filled, Wants}

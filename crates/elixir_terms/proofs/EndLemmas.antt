@@ -1,10 +1,8 @@
 -- Tokens and a text that end what is open.
 use Rattle.std.specs.Prelude.{pos}
-use Rattle.std.proofs.Common.{◌≡◌, ℕ, suc, ◌+◌, ◌≤◌, Bool, true, false, not, ◌==◌, List, [], ◌∷◌, ◌++◌, Option, Some, None, refl, sym, ap, ◌∙◌, subst, arith}
+use Rattle.std.proofs.Common.{◌≡◌, ℕ, ◌+◌, Bool, true, ◌==◌, List, [], ◌∷◌, Some, refl, sym, subst, arith}
 use Rattle.std.specs.Prelude.{IsTrue}
 use Rattle.std.proofs.lemmas.Bool.{eqb-true}
-use Rattle.elixir_terms.specs.declared.bracket.Bracket.{Bracket}
-use Rattle.elixir_terms.specs.declared.bracket.Bracket.TheVariants as bracket
 use Rattle.elixir_terms.specs.declared.frame.Frame.{Frame}
 use Rattle.elixir_terms.specs.declared.frame.Hole.{Hole}
 use Rattle.elixir_terms.specs.declared.frame.Slot.{Slot}
@@ -14,14 +12,13 @@ use Rattle.elixir_terms.specs.declared.state.State.TheVariants as state
 use Rattle.elixir_terms.specs.declared.term.Term.{Term}
 use Rattle.elixir_terms.specs.declared.term.Term.TheVariants as term
 use Rattle.elixir_terms.specs.declared.token.Closing.{Closing}
-use Rattle.elixir_terms.specs.declared.token.Closing.TheVariants.{Square, Curly}
 use Rattle.elixir_terms.specs.declared.token.Token.{Token}
 use Rattle.elixir_terms.specs.declared.token.Token.TheVariants.{Int, Close, Arrow}
 use Rattle.elixir_terms.specs.Grammar.{enclosed, closing_of}
-use Rattle.elixir_terms.specs.Levels.{keyword_cost, cost_in, cost, levels}
+use Rattle.elixir_terms.specs.Levels.{keyword_cost, cost_in, levels}
 use Rattle.elixir_terms.specs.Machine.{with_item, with_entry, with_keyword}
-use Rattle.elixir_terms.specs.Numbers.{Grouped, last, decimal, plain}
-use Rattle.elixir_terms.specs.Tokens.{closing, ends_integer, Begins, integer, closes, arrow, Blanks, none, blank, AreTokens}
+use Rattle.elixir_terms.specs.Numbers.{last, decimal, plain}
+use Rattle.elixir_terms.specs.Tokens.{closing, ends_integer, integer, closes, arrow, none, blank, AreTokens}
 use Rattle.elixir_terms.specs.Refusals.{IsShallow, integer as shallow_integer}
 use Rattle.elixir_terms.proofs.Meaning.{FilledIn, Filled, Wants}
 use Rattle.elixir_terms.proofs.SoundLemmas.{Sound, SlotSound, HolesSound, StateSound}

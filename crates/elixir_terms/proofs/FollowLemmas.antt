@@ -1,18 +1,13 @@
 -- Tokens and blanks stay what they are where the text behind them goes on otherwise.
-use Rattle.std.specs.Prelude.{IsTrue, IsFalse, codes}
-use Rattle.std.proofs.Common.{◌≡◌, ℕ, suc, ◌+◌, ◌<◌, ◌≤◌, ◌⊎◌, Bool, true, false, not, ◌&&◌, ◌||◌, ◌==◌, eqb, cond, List, [], ◌∷◌, ◌++◌, Option, Some, None, length, refl, sym, ap, ◌∙◌, subst, arith, append_assoc, inl, inr, ⊎_elim}
-use Rattle.std.proofs.lemmas.Bool.{eqb-true, or_cases, and_parts, true≢false, false_from_ne_true}
-use Rattle.std.proofs.lemmas.List.{append-nil, length-append}
+use Rattle.std.specs.Prelude.{codes}
+use Rattle.std.proofs.Common.{◌≡◌, ℕ, ◌⊎◌, Bool, true, false, not, ◌&&◌, ◌||◌, ◌==◌, eqb, cond, List, [], ◌∷◌, ◌++◌, None, refl, sym, ap, ◌∙◌, subst, append_assoc, inl, inr, ⊎_elim}
+use Rattle.std.proofs.lemmas.Bool.{eqb-true, or_cases}
 use Rattle.elixir_terms.specs.declared.token.Token.{Token}
-use Rattle.elixir_terms.specs.declared.token.Token.TheVariants.{Atom, Int, Str, Words, Key, Open, Close, Comma, Arrow}
 use Rattle.elixir_terms.specs.Lexing.{past_blank}
-use Rattle.elixir_terms.specs.Local.{starts_with, is_plain, IsFree}
-use Rattle.elixir_terms.specs.Names.{is_name, is_name_rest, is_name_byte, is_bare_atom, is_blank}
-use Rattle.elixir_terms.specs.Prefixes.{Leads, none as no_token, token as one_token}
-use Rattle.elixir_terms.specs.Tokens.{ends_name, ends_integer, ends_words, is_colon, opening, closing, Begins, bare_atom, atom, quoted_atom, integer, string, words, key, quoted_key, opens, closes, comma, arrow, Blanks, none, blank, comment, line_end, AreTokens}
-use Rattle.elixir_terms.proofs.BlankLemmas.{blank_past, blanks_after, blanks_stop}
+use Rattle.elixir_terms.specs.Local.{starts_with, IsFree}
+use Rattle.elixir_terms.specs.Names.{is_name, is_name_byte, is_bare_atom}
+use Rattle.elixir_terms.specs.Tokens.{ends_name, ends_integer, ends_words, is_colon, opening, closing, Begins, bare_atom, atom, quoted_atom, integer, string, words, key, quoted_key, opens, closes, comma, arrow, Blanks, none, blank, comment, line_end}
 use Rattle.elixir_terms.proofs.NameLemmas.{name_break}
-use Rattle.elixir_terms.proofs.TokenLaws.{begins_solid, begins_shorter}
 use Rattle.elixir_terms.proofs.TokenLemmas.{bytes_same}
 
 -- what goes on as the rest does, as far as what stands before it can see: nothing, a line feed, or the same byte

@@ -1,6 +1,6 @@
 -- What the tokens were that lead to a state.
-use Rattle.std.proofs.Common.{◌≡◌, ℕ, suc, ◌+◌, ◌<◌, arith, length, Bool, true, false, cond, List, [], ◌∷◌, ◌++◌, Option, Some, None, map, refl, sym, ap, ◌∙◌, subst, append_assoc}
-use Rattle.std.specs.Prelude.{option_map, option_and_then}
+use Rattle.std.proofs.Common.{◌≡◌, ℕ, ◌<◌, arith, length, Bool, true, false, cond, List, [], ◌∷◌, ◌++◌, Option, Some, None, refl, sym, ap, ◌∙◌, subst, append_assoc}
+use Rattle.std.specs.Prelude.{option_map}
 use Rattle.std.proofs.lemmas.List.{append-nil}
 use Rattle.elixir_terms.specs.declared.bracket.Bracket.{Bracket}
 use Rattle.elixir_terms.specs.declared.bracket.Bracket.TheVariants as bracket
@@ -17,13 +17,11 @@ use Rattle.elixir_terms.specs.declared.token.Token.{Token}
 use Rattle.elixir_terms.specs.declared.token.Token.TheVariants.{Atom, Int, Str, Words, Key, Open, Close, Comma, Arrow}
 use Rattle.elixir_terms.specs.Codes.{keys_in}
 use Rattle.elixir_terms.specs.Grammar.{IsTerm, atom, integer, string, words, brackets, Inside, nothing, element, entry, keyword, Follows, end, comma, Pair, enclosed, closing_of}
-use Rattle.elixir_terms.specs.Machine.{with_item, with_entry, with_keyword, is_closed_by, is_none, takes_key, takes_part, part_slot, empty, placed, placed_in, begun, closed, at_part, at_key, at_element, at_separator, at_arrow, step}
+use Rattle.elixir_terms.specs.Machine.{with_item, with_entry, with_keyword, is_closed_by, is_none, takes_key, takes_part, part_slot, empty, placed, placed_in, begun, closed, at_part, at_element, at_separator, at_arrow, step}
 use Rattle.elixir_terms.specs.Refusals.{Pairs, none as no_pair, entry as entry_pair, keyword as keyword_pair}
 use Rattle.elixir_terms.proofs.AgainLemmas.{entry_keys, keyword_keys}
 use Rattle.elixir_terms.proofs.ApartLemmas.{nil_from}
 use Rattle.elixir_terms.proofs.Meaning.{InOrder}
-use Rattle.elixir_terms.proofs.OpenLemmas.{runs, start, cond_test}
-use Rattle.elixir_terms.proofs.OptionLemmas.{some_same}
 use Rattle.elixir_terms.proofs.StepBack.{same_is, no_keyword, no_value, order_push, order_under}
 use Rattle.elixir_terms.proofs.StepForth.{order_nil}
 

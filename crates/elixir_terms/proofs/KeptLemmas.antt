@@ -17,7 +17,7 @@ use Rattle.elixir_terms.specs.declared.token.Token.TheVariants.{Atom, Int, Str, 
 use Rattle.elixir_terms.specs.Grammar.{Pair, pair_tuple, enclosed}
 use Rattle.elixir_terms.specs.Levels.{keyword_cost, cost_in, cost, levels, HasRoom, Enters}
 use Rattle.elixir_terms.specs.Lexing.{IsNarrow}
-use Rattle.elixir_terms.specs.Machine.{is_closed_by, takes_key, takes_part, part_slot, empty, placed_in, placed, begun, closed, at_part, at_element, at_separator, at_arrow, step, KeysDiffer, BeginsWell, PartWell, ElementWell, SeparatorWell, Allows}
+use Rattle.elixir_terms.specs.Machine.{is_closed_by, takes_key, takes_part, part_slot, placed_in, placed, begun, closed, at_part, at_element, at_separator, at_arrow, step, KeysDiffer, BeginsWell, PartWell, ElementWell, SeparatorWell, Allows}
 use Rattle.elixir_terms.specs.Tokens.{Begins, bare_atom, atom as begins_atom, quoted_atom, integer as begins_integer, string as begins_string, words as begins_words, key as begins_key, quoted_key, opens, closes, comma as begins_comma, arrow as begins_arrow}
 use Rattle.elixir_terms.specs.Within.{deepest, Fits, atom, integer, string, list, tuple, mapping, AllFit, none, more, PairsFit, no_pairs, more_pairs}
 use Rattle.elixir_terms.specs.Words.{Modified, none as plain_words, strings, atoms}

@@ -34,6 +34,7 @@ pub mod PrefixLemmas
 pub mod ShutLemmas
 pub mod CalmLemmas
 pub mod PlaceLemmas
+pub mod StartLemmas
 pub mod StopLemmas
 pub mod LiftLemmas
 pub mod ApartLemmas

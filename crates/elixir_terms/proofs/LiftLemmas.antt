@@ -1,8 +1,6 @@
 -- The states of a term inside of open brackets are those of the term alone.
-use Rattle.std.proofs.Common.{◌≡◌, ℕ, suc, ◌+◌, Bool, true, false, cond, List, [], ◌∷◌, ◌++◌, Option, Some, None, length, refl, sym, ap, ◌∙◌, subst, arith, append_assoc}
+use Rattle.std.proofs.Common.{◌≡◌, ℕ, Bool, true, false, cond, List, [], ◌∷◌, ◌++◌, Option, Some, None, refl, sym, ap, ◌∙◌}
 use Rattle.std.specs.Prelude.{option_map, option_and_then}
-use Rattle.std.proofs.lemmas.List.{append-nil, length-append}
-use Rattle.elixir_terms.specs.declared.bracket.Bracket.{Bracket}
 use Rattle.elixir_terms.specs.declared.frame.Frame.{Frame}
 use Rattle.elixir_terms.specs.declared.frame.Hole.{Hole}
 use Rattle.elixir_terms.specs.declared.frame.Slot.{Slot}
@@ -15,7 +13,7 @@ use Rattle.elixir_terms.specs.declared.token.Closing.{Closing}
 use Rattle.elixir_terms.specs.declared.token.Token.{Token}
 use Rattle.elixir_terms.specs.declared.token.Token.TheVariants.{Atom, Int, Str, Words, Key, Open, Close, Comma, Arrow}
 use Rattle.elixir_terms.specs.Grammar.{IsTerm, enclosed}
-use Rattle.elixir_terms.specs.Machine.{is_closed_by, takes_part, takes_key, part_slot, empty, placed, placed_in, begun, closed, at_part, at_key, at_element, at_separator, at_arrow, step}
+use Rattle.elixir_terms.specs.Machine.{is_closed_by, takes_part, takes_key, part_slot, placed, placed_in, begun, closed, at_part, at_key, at_element, at_separator, at_arrow, step}
 use Rattle.elixir_terms.proofs.OpenLemmas.{runs, start}
 use Rattle.elixir_terms.proofs.OptionLemmas.{some_same}
 use Rattle.elixir_terms.proofs.StopLemmas.{whole_last}

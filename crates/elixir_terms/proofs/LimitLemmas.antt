@@ -1,8 +1,5 @@
 -- A state that wants the rest of a term within the limits takes the next token within the limits.
-use Rattle.std.proofs.Common.{◌≡◌, ℕ, suc, ◌+◌, List, [], ◌∷◌, ◌++◌, Some, refl, sym, subst, arith, append_assoc}
-use Rattle.std.proofs.lemmas.List.{append-nil}
-use Rattle.elixir_terms.specs.declared.bracket.Bracket.{Bracket}
-use Rattle.elixir_terms.specs.declared.bracket.Bracket.TheVariants as bracket
+use Rattle.std.proofs.Common.{◌≡◌, ℕ, ◌+◌, List, [], ◌∷◌, ◌++◌, Some, sym, subst, arith, append_assoc}
 use Rattle.elixir_terms.specs.declared.frame.Frame.{Frame}
 use Rattle.elixir_terms.specs.declared.frame.Hole.{Hole}
 use Rattle.elixir_terms.specs.declared.frame.Slot.{Slot}
@@ -12,13 +9,13 @@ use Rattle.elixir_terms.specs.declared.state.State.TheVariants as state
 use Rattle.elixir_terms.specs.declared.term.Term.{Term}
 use Rattle.elixir_terms.specs.declared.term.Term.TheVariants as term
 use Rattle.elixir_terms.specs.declared.token.Token.{Token}
-use Rattle.elixir_terms.specs.declared.token.Token.TheVariants.{Atom, Int, Str, Words, Key, Open, Close, Comma, Arrow}
-use Rattle.elixir_terms.specs.Grammar.{IsTerm, atom, integer, string, words, brackets, Pair, enclosed, closing_of}
-use Rattle.elixir_terms.specs.Levels.{keyword_cost, cost_in, cost, levels, HasRoom, Enters}
+use Rattle.elixir_terms.specs.declared.token.Token.TheVariants.{Atom, Int, Str, Words, Open, Arrow}
+use Rattle.elixir_terms.specs.Grammar.{IsTerm, atom, integer, string, words, brackets, Pair, enclosed}
+use Rattle.elixir_terms.specs.Levels.{levels, HasRoom, Enters}
 use Rattle.elixir_terms.specs.Lexing.{IsNarrow}
-use Rattle.elixir_terms.specs.Machine.{part_slot, KeysDiffer, BeginsWell, PartWell, ElementWell, SeparatorWell, Allows}
+use Rattle.elixir_terms.specs.Machine.{part_slot, BeginsWell, PartWell, ElementWell, Allows}
 use Rattle.elixir_terms.specs.Within.{deepest, Fits}
-use Rattle.elixir_terms.proofs.Meaning.{Continues, Values, Arrows, FilledIn, AfterEntry, Filled, Wants}
+use Rattle.elixir_terms.proofs.Meaning.{Values, FilledIn, AfterEntry, Filled, Wants}
 use Rattle.elixir_terms.proofs.StepForth.{Head, closes, by_part, by_key, head_of, Joint, shut, goes_on, joint_of}
 use Rattle.elixir_terms.proofs.FitLemmas.{integer_range, list_parts, element_below, keyword_below, entry_below, enclosed_deep, enclosed_differ}
 

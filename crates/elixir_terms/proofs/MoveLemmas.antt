@@ -13,7 +13,7 @@ use Rattle.elixir_terms.specs.declared.token.Token.{Token}
 use Rattle.elixir_terms.specs.Lexing.{IsNarrow}
 use Rattle.elixir_terms.specs.Local.{IsFree, IsFirst, Locally, takes}
 use Rattle.elixir_terms.specs.Machine.{step, expected, HasLevels}
-use Rattle.elixir_terms.specs.Reading.{Stands, Stops, lexed, deep}
+use Rattle.elixir_terms.specs.Reading.{HasRoomAt, Stands, Stops, lexed, deep}
 use Rattle.elixir_terms.specs.Tokens.{Begins}
 
 pub empty_is : (rest : List ℕ) (empty : Bool) → empty ≡ eqb (length rest) 0 → empty ≡ true → rest ≡ []
@@ -37,8 +37,8 @@ stood_by s e text tok after same begins taken narrow free whole = record {
   whole = subst (λ x. (place : ℕ) (why : TermCause) → Locally x text place why → ⊥) same whole;
 }
 
-pub stops_lexed : (s : State) (e : Expected) (text : List ℕ) (k : ℕ) (why : TermCause) → e ≡ expected s → ((t : Term) → s ≡ Done t → ⊥) → IsFirst e text k why → Stops s text k why
-stops_lexed s e text k why same open_ first = lexed open_ (subst (λ x. IsFirst x text k why) same first)
+pub stops_lexed : (s : State) (e : Expected) (text : List ℕ) (k : ℕ) (why : TermCause) → e ≡ expected s → ((t : Term) → s ≡ Done t → ⊥) → HasRoomAt s text → IsFirst e text k why → Stops s text k why
+stops_lexed s e text k why same open_ room first = lexed open_ room (subst (λ x. IsFirst x text k why) same first)
 
 -- a step that only the limit on levels forbids
 pub stops_deep : (s : State) (text : List ℕ) (tok : Token) (after : List ℕ) (left : ℕ) (why : TermCause) → Stands s text tok after → (step s tok ≡ None → ⊥) → (left ≡ length text) × (HasLevels s tok → step s tok ≡ None) × ((step s tok ≡ None → ⊥) → why ≡ TooDeep) → (k : ℕ) × (left + k ≡ length text) × Stops s text k why

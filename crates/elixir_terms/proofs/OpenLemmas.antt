@@ -1,7 +1,6 @@
 -- Tokens that may be gone on with are those that the states run through.
-use Rattle.std.proofs.Common.{◌≡◌, Bool, true, false, List, [], ◌∷◌, ◌++◌, Option, Some, None, cond, refl, sym, ap, ◌∙◌, subst, append_assoc}
+use Rattle.std.proofs.Common.{◌≡◌, Bool, true, false, List, [], ◌∷◌, ◌++◌, Option, Some, None, cond, refl, sym, ap, ◌∙◌, subst}
 use Rattle.std.specs.Prelude.{option_and_then, option_map, pos}
-use Rattle.std.proofs.lemmas.List.{append-nil}
 use Rattle.elixir_terms.specs.declared.bracket.Bracket.{Bracket}
 use Rattle.elixir_terms.specs.declared.bracket.Bracket.TheVariants as bracket
 use Rattle.elixir_terms.specs.declared.frame.Frame.{Frame}
@@ -13,9 +12,9 @@ use Rattle.elixir_terms.specs.declared.token.Closing.{Closing}
 use Rattle.elixir_terms.specs.declared.token.Closing.TheVariants.{Square, Curly}
 use Rattle.elixir_terms.specs.declared.token.Token.{Token}
 use Rattle.elixir_terms.specs.declared.token.Token.TheVariants.{Atom, Int, Str, Words, Key, Open, Close, Comma, Arrow}
-use Rattle.elixir_terms.specs.Grammar.{IsTerm, enclosed, closing_of}
+use Rattle.elixir_terms.specs.Grammar.{enclosed, closing_of}
 use Rattle.elixir_terms.specs.Local.{takes, is_closing}
-use Rattle.elixir_terms.specs.Machine.{is_closed_by, takes_key, takes_part, part_slot, placed, begun, closed, at_part, at_key, at_element, at_separator, at_arrow, step, expected}
+use Rattle.elixir_terms.specs.Machine.{is_closed_by, takes_key, takes_part, part_slot, placed, begun, closed, at_part, at_element, step, expected}
 use Rattle.elixir_terms.specs.Prefixes.{AreOpen, TakesTerm, TakesKey}
 use Rattle.elixir_terms.proofs.Meaning.{Wants, WantsNext}
 use Rattle.elixir_terms.proofs.OptionLemmas.{some_same}

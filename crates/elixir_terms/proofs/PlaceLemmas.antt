@@ -1,7 +1,6 @@
 -- Where tokens stand that lead to a place of a text of which some tokens were read.
-use Rattle.std.proofs.Common.{◌≡◌, ℕ, suc, ◌+◌, ◌<◌, ◌≤◌, Bool, true, false, eqb, cond, List, [], ◌∷◌, ◌++◌, Option, Some, None, length, refl, sym, ap, ◌∙◌, subst, arith, append_assoc}
+use Rattle.std.proofs.Common.{◌≡◌, ℕ, ◌+◌, ◌≤◌, Bool, true, false, eqb, cond, List, [], ◌∷◌, ◌++◌, Some, None, length, refl, sym, ap, ◌∙◌, subst, arith}
 use Rattle.std.specs.Prelude.{option_and_then}
-use Rattle.std.proofs.lemmas.List.{append-nil, length-append}
 use Rattle.elixir_terms.specs.declared.state.State.{State}
 use Rattle.elixir_terms.specs.declared.token.Token.{Token}
 use Rattle.elixir_terms.specs.Lexing.{past_blank}
@@ -12,7 +11,6 @@ use Rattle.elixir_terms.specs.Within.{deepest}
 use Rattle.elixir_terms.proofs.BlankLemmas.{blanks_meet}
 use Rattle.elixir_terms.proofs.OpenLemmas.{runs}
 use Rattle.elixir_terms.proofs.PrefixLemmas.{AllSound, next_sound, token_shallow}
-use Rattle.elixir_terms.proofs.SoundLemmas.{need}
 use Rattle.elixir_terms.proofs.TokenLaws.{begins_one, begins_solid, begins_shorter}
 use Rattle.elixir_terms.proofs.TrailLemmas.{Stood, Trail, rests, steps}
 

@@ -1,13 +1,12 @@
 -- What was read, and a part of one more token, begins a text of the grammar.
-use Rattle.std.specs.Prelude.{IsTrue, IsFalse, option_map}
-use Rattle.std.proofs.Common.{◌≡◌, ℕ, suc, ◌+◌, ◌<◌, ◌≤◌, ◌⊎◌, inl, inr, Bool, true, false, not, ◌&&◌, cond, List, [], ◌∷◌, ◌++◌, Option, Some, None, length, take, drop, refl, sym, ap, ◌∙◌, subst, arith, append_assoc, ⊎_elim, map}
-use Rattle.std.proofs.lemmas.List.{append-nil, length-append}
-use Rattle.std.proofs.lemmas.Bool.{eqb-true, and_parts}
+use Rattle.std.specs.Prelude.{IsTrue, IsFalse}
+use Rattle.std.proofs.Common.{◌≡◌, ℕ, ◌+◌, ◌≤◌, ◌⊎◌, Bool, true, false, ◌&&◌, cond, List, [], ◌∷◌, ◌++◌, Some, None, refl, sym, ap, ◌∙◌, subst, arith, append_assoc, ⊎_elim, map}
+use Rattle.std.proofs.lemmas.List.{append-nil}
+use Rattle.std.proofs.lemmas.Bool.{eqb-true}
 use Rattle.elixir_terms.specs.declared.bracket.Bracket.{Bracket}
 use Rattle.elixir_terms.specs.declared.bracket.Bracket.TheVariants as bracket
 use Rattle.elixir_terms.specs.declared.frame.Frame.{Frame}
 use Rattle.elixir_terms.specs.declared.frame.Hole.{Hole}
-use Rattle.elixir_terms.specs.declared.frame.Slot.{Slot}
 use Rattle.elixir_terms.specs.declared.frame.Slot.TheVariants as slot
 use Rattle.elixir_terms.specs.declared.state.State.{State}
 use Rattle.elixir_terms.specs.declared.state.State.TheVariants as state
@@ -17,28 +16,24 @@ use Rattle.elixir_terms.specs.declared.token.Closing.{Closing}
 use Rattle.elixir_terms.specs.declared.token.Closing.TheVariants.{Square, Curly}
 use Rattle.elixir_terms.specs.declared.token.Token.{Token}
 use Rattle.elixir_terms.specs.declared.token.Token.TheVariants.{Atom, Int, Str, Words, Key, Open, Close, Comma, Arrow}
-use Rattle.elixir_terms.specs.Grammar.{IsTerm, enclosed, closing_of}
-use Rattle.elixir_terms.specs.Levels.{keyword_cost, cost_in, cost, levels}
-use Rattle.elixir_terms.specs.Lexing.{past_blank}
-use Rattle.elixir_terms.specs.Local.{starts_with, is_plain, IsFree, is_closing, takes, IsPart, IsShut}
-use Rattle.elixir_terms.specs.Machine.{is_closed_by, takes_part, takes_key, part_slot, placed, placed_in, begun, closed, at_part, step, expected}
-use Rattle.elixir_terms.specs.Prefixes.{AreOpen, IsOpenText, Leads, TakesTerm, TakesKey, none as no_token, token as one_token}
-use Rattle.elixir_terms.specs.Refusals.{IsShallow, atom as shallow_atom, string as shallow_string, AreShallow, none as none_shallow, more as more_shallow}
-use Rattle.elixir_terms.specs.Tokens.{Begins, bare_atom, atom, quoted_atom, integer, string, words, key, quoted_key, opens, closes, comma, arrow, Blanks, none, AreTokens}
+use Rattle.elixir_terms.specs.Grammar.{closing_of}
+use Rattle.elixir_terms.specs.Levels.{keyword_cost, cost_in, levels}
+use Rattle.elixir_terms.specs.Local.{is_plain, IsFree, is_closing, takes, IsPart}
+use Rattle.elixir_terms.specs.Machine.{is_closed_by, takes_part, part_slot, placed, closed, step, expected}
+use Rattle.elixir_terms.specs.Prefixes.{AreOpen, IsOpenText}
+use Rattle.elixir_terms.specs.Refusals.{atom as shallow_atom, string as shallow_string, AreShallow, none as none_shallow, more as more_shallow}
+use Rattle.elixir_terms.specs.Tokens.{Begins, bare_atom, atom, quoted_atom, integer, string, words, key, quoted_key, opens, closes, comma, arrow, none, AreTokens}
 use Rattle.elixir_terms.specs.Within.{deepest}
 use Rattle.elixir_terms.specs.Words.{Modified, none as plain_words, strings, atoms}
-use Rattle.elixir_terms.proofs.BlankLemmas.{blanks_stop}
-use Rattle.elixir_terms.proofs.EndLemmas.{is_apart, Ending, state_ends}
-use Rattle.elixir_terms.proofs.FollowLemmas.{Like, ended, broken, same, like_self, Moves, moves}
-use Rattle.elixir_terms.proofs.Meaning.{Wants, WantsNext}
+use Rattle.elixir_terms.proofs.EndLemmas.{is_apart, state_ends}
+use Rattle.elixir_terms.proofs.FollowLemmas.{Like, ended, broken, moves}
+use Rattle.elixir_terms.proofs.Meaning.{WantsNext}
 use Rattle.elixir_terms.proofs.StepBack.{step_back}
-use Rattle.elixir_terms.proofs.OpenLemmas.{runs, start, runs_append, runs_push, open_runs, runs_open, open_next, step_taken}
-use Rattle.elixir_terms.proofs.OptionLemmas.{none_some, some_same}
+use Rattle.elixir_terms.proofs.OpenLemmas.{runs, start, runs_push, runs_open}
 use Rattle.elixir_terms.proofs.Runs.{first_wants}
 use Rattle.elixir_terms.proofs.OpenLemmas.{passed_back}
-use Rattle.elixir_terms.proofs.SoundLemmas.{Sound, HolesSound, StateSound, NextSound, TokenShallow, need, step_sound, first_sound}
-use Rattle.elixir_terms.proofs.TokenLaws.{begins_solid, begins_shorter}
-use Rattle.elixir_terms.proofs.TrailLemmas.{Stood, Trail, rests, steps, trail_solid, trail_runs, trail_fronts, Fronts, behind, leads_join}
+use Rattle.elixir_terms.proofs.SoundLemmas.{Sound, StateSound, NextSound, TokenShallow, need, step_sound, first_sound}
+use Rattle.elixir_terms.proofs.TrailLemmas.{Trail, rests, steps, Fronts, leads_join}
 
 -- the state can be ended within the limit on levels, and within any greater one
 abbrev pub AllSound : State → Type 0

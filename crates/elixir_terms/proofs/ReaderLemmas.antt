@@ -1,20 +1,16 @@
 -- What the reader knows at each token, and the refusals that it tells.
-use Rattle.std.specs.Prelude.{option_map, option_and_then, IsTrue, IsFalse, ℤ, pos, neg_ℤ, ◌^◌, ◌≤ℤ◌, ◌<ℤ◌}
-use Rattle.std.proofs.Common.{get_or, ◌≡◌, ◌≢◌, ℕ, zero, suc, ◌+◌, ◌-◌, ◌<◌, ◌≤◌, ◌⊎◌, inl, inr, Bool, true, false, not, ◌&&◌, eqb, cond, List, [], ◌∷◌, ◌++◌, Option, Some, None, length, take, drop, refl, sym, ap, ◌∙◌, subst, arith, append_assoc, ⊎_elim}
+use Rattle.std.specs.Prelude.{option_map, option_and_then, IsTrue}
+use Rattle.std.proofs.Common.{get_or, ◌≡◌, ℕ, ◌+◌, ◌-◌, ◌<◌, ◌≤◌, inl, inr, Bool, true, false, cond, List, [], ◌∷◌, ◌++◌, Option, Some, None, length, refl, sym, ap, ◌∙◌, subst, arith, append_assoc, ⊎_elim}
 use Rattle.std.specs.Str.{IsUtf8}
-use Rattle.std.proofs.Math.Seq.{take-append-add}
 use Rattle.std.proofs.lemmas.Bool.{cases_lt}
 use Rattle.std.proofs.Math.Nat.{eq-or-lt_of_le}
 use Rattle.std.proofs.Math.ListN.{set}
 use Rattle.std.proofs.lemmas.List.{get_or_read, get_or-set_same, get_or-set_other, length-set}
 use Rattle.elixir_terms.specs.declared.bracket.Bracket.{Bracket}
-use Rattle.std.proofs.lemmas.Bool.{true≢false, false≢true, and_parts, and_from}
-use Rattle.std.proofs.lemmas.List.{append-nil, length-append, take-append-drop, length-take-le, take_all}
+use Rattle.std.proofs.lemmas.List.{append-nil, length-append}
 use Rattle.elixir_terms.specs.declared.bracket.Bracket.TheVariants as bracket
-use Rattle.elixir_terms.specs.declared.error.Feature.TheVariants.{Heredoc, Float}
 use Rattle.elixir_terms.specs.declared.error.TermCause.{TermCause}
 use Rattle.elixir_terms.specs.declared.error.TermCause.TheVariants as cause
-use Rattle.elixir_terms.specs.declared.expected.Expected.{Expected}
 use Rattle.elixir_terms.specs.declared.frame.Frame.{Frame}
 use Rattle.elixir_terms.specs.declared.frame.Hole.{Hole}
 use Rattle.elixir_terms.specs.declared.frame.Slot.{Slot}
@@ -26,50 +22,41 @@ use Rattle.elixir_terms.specs.declared.term.Term.{Term}
 use Rattle.elixir_terms.specs.declared.term.Term.TheVariants as term
 use Rattle.elixir_terms.specs.declared.token.Token.{Token}
 use Rattle.elixir_terms.specs.declared.token.Token.TheVariants.{Atom, Int, Str, Words, Key, Open, Close, Comma, Arrow}
-use Rattle.elixir_terms.specs.Grammar.{enclosed, IsTerm, atom as atom_term, string as string_term, integer as integer_term}
-use Rattle.elixir_terms.specs.Lexing.{past_blank, IsNarrow, IsWide}
-use Rattle.elixir_terms.specs.Local.{IsOpening, IsFloat, starts_with, is_plain, IsFree, takes, IsPart, IsShut, rank, Locally, charlist, sigil, heredoc, bits, interpolation, interpolated_words, float, alias_alone, alias, escape, escape_in_words, atom_utf8, key_utf8, number, colon_after, unclosed, unexpected, IsFirst}
+use Rattle.elixir_terms.specs.Grammar.{enclosed, IsTerm}
+use Rattle.elixir_terms.specs.Lexing.{past_blank}
+use Rattle.elixir_terms.specs.Local.{takes}
 use Rattle.elixir_terms.specs.Codes.{keys_in}
-use Rattle.elixir_terms.specs.Levels.{levels, HasRoom, Enters, keyword_cost, cost_in}
-use Rattle.elixir_terms.specs.Local.{IsWhole}
-use Rattle.elixir_terms.specs.Reading.{noted, Stands, Moves, Stops, trailing, lexed, deep, again as again_key}
+use Rattle.elixir_terms.specs.Levels.{levels}
+use Rattle.elixir_terms.specs.Reading.{noted, Stands, Moves, Stops, trailing, lexed, deep, deep_words, again as again_key}
 use Rattle.elixir_terms.specs.Spells.{Spells}
-use Rattle.elixir_terms.specs.Machine.{depth, NewIn, NewInSlot, NewKeyword, NewEntry, IsNew, HasLevels, ElementFits, BeginsWell, PartWell, is_none, takes_part, part_slot, placed, placed_in, begun, closed, is_closed_by, takes_key, step, expected}
-use Rattle.elixir_terms.specs.Names.{is_blank}
-use Rattle.elixir_terms.specs.Prefixes.{AreOpen, Leads, none as no_token, token as one_token, IsOpenText, StandsAt, TakesTerm, TakesKey, TakesEither}
+use Rattle.elixir_terms.specs.Machine.{depth, NewIn, NewInSlot, NewKeyword, NewEntry, IsNew, HasLevels, ElementFits, BeginsWell, takes_part, part_slot, placed, placed_in, begun, closed, is_closed_by, takes_key, step, expected}
+use Rattle.elixir_terms.specs.Prefixes.{AreOpen, Leads, StandsAt}
 use Rattle.elixir_terms.specs.Refusals.{AreTooDeep, Pairs, KeyAhead, IsOneOf, Holds}
 use Rattle.elixir_terms.specs.Refusals as far
-use Rattle.elixir_terms.specs.Tokens.{is_colon, Begins, bare_atom, atom, quoted_atom, integer, string, words, key, quoted_key, opens, closes, comma, arrow, Blanks, none, AreTokens}
-use Rattle.elixir_terms.specs.Within.{deepest, longest, Fits, Within, IsNone}
-use Rattle.elixir_terms.proofs.AgainLemmas.{term_first, ahead_solid, Good, start_good, trail_good, wants_new, Held, Starts, Again, held, starts, later, again, single_last}
-use Rattle.elixir_terms.proofs.BlankLemmas.{blanks_stop, blanks_meet}
-use Rattle.elixir_terms.proofs.CalmLemmas.{calm, Marred, fraction, quotes}
-use Rattle.elixir_terms.proofs.SnagLemmas.{small_not_deep, Snag, ties, snag, NotDone, fault_stop, fault_least, InKey, in_key, held_narrow}
-use Rattle.elixir_terms.proofs.DeepLemmas.{needs}
+use Rattle.elixir_terms.specs.Tokens.{Begins, Blanks, none}
+use Rattle.elixir_terms.specs.Within.{deepest, longest, Within}
+use Rattle.elixir_terms.proofs.AgainLemmas.{term_first, ahead_solid, start_good, trail_good, wants_new, Held, Again, held, starts, later, again}
+use Rattle.elixir_terms.proofs.SnagLemmas.{NotDone}
 use Rattle.elixir_terms.proofs.DepthLemmas.{few_holes}
 use Rattle.elixir_terms.proofs.ApartLemmas.{begins_allow, part_allow}
 use Rattle.elixir_terms.proofs.CodeLemmas.{one_from}
 use Rattle.elixir_terms.proofs.HistoryLemmas.{History, AfterEntryKey, InHoles, step_history, element_map}
 use Rattle.elixir_terms.proofs.LiftLemmas.{lifted, step_lifted}
 use Rattle.elixir_terms.proofs.KeptLemmas.{FrameFits, HolesFit, StateFits, holes_all}
-use Rattle.elixir_terms.proofs.RefuseLemmas.{Read, token_stop, stands_of, some_rest, fault_refusal, deep_refusal, trailing_refusal, end_refusal}
-use Rattle.elixir_terms.proofs.EndLemmas.{state_ends}
+use Rattle.elixir_terms.proofs.RefuseLemmas.{Read, token_stop, stands_of, fault_refusal, deep_refusal, words_refusal, trailing_refusal, end_refusal}
 use Rattle.elixir_terms.proofs.EntryLemmas.{leads_later, splits, inside_deeper, Found, entry_found}
-use Rattle.elixir_terms.proofs.FollowLemmas.{bare_first}
-use Rattle.elixir_terms.proofs.LimitLemmas.{allowed}
-use Rattle.elixir_terms.proofs.NameLemmas.{test_from_ends, colon_ends}
-use Rattle.elixir_terms.proofs.TokenLemmas.{bare_named}
 use Rattle.elixir_terms.proofs.Meaning.{Wants}
-use Rattle.elixir_terms.proofs.OpenLemmas.{runs, start, runs_append, Passes, passes, runs_push, step_taken, term_expected, key_expected, passed_back, cond_test, open_next}
+use Rattle.elixir_terms.proofs.OpenLemmas.{runs, start, runs_append, passes, runs_push, passed_back, cond_test}
 use Rattle.elixir_terms.proofs.OptionLemmas.{none_some, some_same}
-use Rattle.elixir_terms.proofs.PlaceLemmas.{Past, leads_shorter}
+use Rattle.elixir_terms.proofs.PlaceLemmas.{leads_shorter}
 use Rattle.elixir_terms.proofs.PrefixLemmas.{sound_open, AllSound, start_sound, trail_sound, next_sound, token_shallow, takes_steps, step_open}
-use Rattle.elixir_terms.proofs.Runs.{wants_end, wants_first, first_wants}
-use Rattle.elixir_terms.proofs.ShutLemmas.{is_single, joint_byte, IsPlaced, single_placed, no_more, taken, Tied, tied, front_shut}
+use Rattle.elixir_terms.proofs.Runs.{wants_first, first_wants}
+use Rattle.elixir_terms.proofs.ShutLemmas.{is_single, IsPlaced, single_placed, taken}
 use Rattle.elixir_terms.proofs.SoundLemmas.{begin_need, element_need, need}
-use Rattle.elixir_terms.proofs.StopLemmas.{Beyond, Stop, Verdict, early, joined, Repeats, stop_beyond, stop_open, Went, went, none_behind, early_beyond}
-use Rattle.elixir_terms.proofs.TokenLaws.{begins_one, begins_solid, begins_shorter}
-use Rattle.elixir_terms.proofs.TrailLemmas.{leads_join, trail_push, Stood, Trail, rests, steps, trail_solid, trail_runs, trail_leads, trail_fronts, behind}
+use Rattle.elixir_terms.proofs.StartLemmas.{started_shallow, started_like, small_not_deep}
+use Rattle.elixir_terms.proofs.StopLemmas.{Beyond, Stop, Repeats, stop_beyond, early_beyond}
+use Rattle.elixir_terms.proofs.TokenLaws.{begins_one, begins_shorter}
+use Rattle.elixir_terms.proofs.TrailLemmas.{leads_join, trail_push, Trail, rests, steps, trail_solid, trail_runs, trail_leads, trail_fronts}
 
 -- the limit on levels
 
@@ -293,11 +280,11 @@ within_of {s = s} h next e =
 
 -- where a token leads to a key that comes again, the text is refused at no later place
 again_stop : {text : List ℕ} {tokens : List Token} {s : State} {rest : List ℕ} (at : ℕ) (tok : Token) (after : List ℕ) → Trail tokens start s text rest → at + length rest ≡ length text → Read s rest tok after → need s tok ≤ deepest → Stop text tokens s rest at 0 cause.DuplicateKey
-again_stop {tokens = tokens} {s = s} {rest = rest} at tok after trail place read well =
+again_stop {tokens = tokens} {s = s} at tok after trail place read well =
     token_stop at cause.DuplicateKey tok after trail place read (omega arith)
-    (λ other end begins too.
-    let one = begins_one read.begins begins in
-    absurd (small_not_deep tokens s rest tok after (trail_runs trail) (trail_sound trail start_sound) read.begins read.expects well (subst (λ t. AreTooDeep (tokens ++ t ∷ [])) (sym one.0) too)))
+    (λ other started too.
+    let like = started_like s read.begins read.expects well started in
+    absurd (small_not_deep tokens s other (trail_runs trail) (trail_sound trail start_sound) (started_shallow started) like.0 like.1 too))
 
 first_slot : (frame : Frame) (hole : Hole) (x y : List Hole) → record { frame = frame; slot = slot.EntryKey } ∷ x ≡ hole ∷ y → hole.slot ≡ slot.EntryKey
 first_slot frame hole x y e = let same : record { frame = frame; slot = slot.EntryKey } ≡ hole = cc in ap (λ (h : Hole). h.slot) (sym same)
@@ -457,10 +444,15 @@ stops_refusal text s rest k left why short utf8 r some sum (trailing t e) =
     let p = place_of r.trail in
     let x = p.1 in
     (p.0, omega arith, trailing_refusal p.0 short utf8 (subst (λ y. Trail r.tokens start y text rest) e r.trail) x some)
-stops_refusal text s rest k left why short utf8 r some sum (lexed open_ first) =
+stops_refusal text s rest k left why short utf8 r some sum (lexed open_ room first) =
     let p = place_of r.trail in
     let x = p.1 in
-    (p.0 + k, omega arith, fault_refusal p.0 k why short utf8 r.trail open_ x first)
+    (p.0 + k, omega arith, fault_refusal p.0 k why short utf8 r.trail open_ x first (λ more e t. levels_need s (Words []) (room more e t)))
+stops_refusal text s rest k left why short utf8 r some sum (deep_words more e taken shallow) =
+    let p = place_of r.trail in
+    let x = p.1 in
+    let good = trail_good r.trail start_good in
+    (p.0, omega arith, words_refusal p.0 more short utf8 r.trail x e taken (deep_more s (Words []) good.fit shallow))
 stops_refusal text s rest k left why short utf8 r some sum (deep {after = after} tok stands shallow) =
     let p = place_of r.trail in
     let x = p.1 in

@@ -1,5 +1,5 @@
 -- A text has one refusal at most.
-use Rattle.std.proofs.Common.{◌≡◌, ℕ, ◌<◌, ◌≤◌, ◌⊎◌, true, false, cond, eqb, List, take, length, refl, sym, ap, ◌∙◌, subst, arith, ⊎_elim}
+use Rattle.std.proofs.Common.{◌≡◌, ℕ, ◌<◌, ◌≤◌, ◌⊎◌, cond, eqb, List, length, refl, sym, ap, ◌∙◌, subst, arith, ⊎_elim}
 use Rattle.std.specs.Str.{IsUtf8, IsValidUpTo}
 use Rattle.std.proofs.lemmas.Str.{utf8_valid_len-IsValidUpTo}
 use Rattle.std.proofs.lemmas.List.{take_all}
@@ -7,7 +7,7 @@ use Rattle.elixir_terms.specs.declared.error.Feature.TheVariants.{Charlist, Sigi
 use Rattle.elixir_terms.specs.declared.error.TermCause.{TermCause}
 use Rattle.elixir_terms.specs.declared.error.TermCause.TheVariants as cause
 use Rattle.elixir_terms.specs.Local.{rank}
-use Rattle.elixir_terms.specs.Refusals.{Holds, IsRefusal, long, utf8, first}
+use Rattle.elixir_terms.specs.Refusals.{IsRefusal, long, utf8, first}
 
 -- the cause at a place in the order
 abbrev ranked : ℕ → TermCause

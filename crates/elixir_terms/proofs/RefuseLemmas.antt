@@ -1,20 +1,15 @@
 -- The refusals of a text, at each way in which the reading stops.
-use Rattle.std.specs.Prelude.{IsTrue, IsFalse, ℤ, pos, neg_ℤ, ◌^◌, ◌≤ℤ◌, ◌<ℤ◌}
-use Rattle.std.proofs.Common.{◌≡◌, ◌≢◌, ℕ, zero, suc, ◌+◌, ◌<◌, ◌≤◌, ◌⊎◌, inl, inr, Bool, true, false, not, ◌&&◌, eqb, cond, List, [], ◌∷◌, ◌++◌, Option, Some, None, length, take, drop, refl, sym, ap, ◌∙◌, subst, arith, append_assoc, ⊎_elim}
+use Rattle.std.specs.Prelude.{IsTrue, pos}
+use Rattle.std.proofs.Common.{◌≡◌, ℕ, suc, ◌+◌, ◌<◌, ◌≤◌, ◌⊎◌, inl, inr, Bool, true, false, not, ◌&&◌, List, [], ◌∷◌, ◌++◌, Some, None, length, take, refl, sym, ap, ◌∙◌, subst, arith, append_assoc, ⊎_elim}
 use Rattle.std.specs.Str.{IsUtf8}
 use Rattle.std.proofs.Math.Seq.{take-append-add}
 use Rattle.std.proofs.Math.Nat.{eq-or-lt_of_le}
-use Rattle.std.proofs.lemmas.Bool.{true≢false, false≢true, and_parts, and_from}
-use Rattle.std.proofs.lemmas.List.{append-nil, length-append, take-append-drop, length-take-le, take_all}
+use Rattle.std.proofs.lemmas.Bool.{true≢false, false≢true}
+use Rattle.std.proofs.lemmas.List.{append-nil, length-append, take_all}
 use Rattle.elixir_terms.specs.declared.bracket.Bracket.TheVariants as bracket
-use Rattle.elixir_terms.specs.declared.error.Feature.TheVariants.{Heredoc, Float}
 use Rattle.elixir_terms.specs.declared.error.TermCause.{TermCause}
 use Rattle.elixir_terms.specs.declared.error.TermCause.TheVariants as cause
 use Rattle.elixir_terms.specs.declared.expected.Expected.{Expected}
-use Rattle.elixir_terms.specs.declared.frame.Frame.{Frame}
-use Rattle.elixir_terms.specs.declared.frame.Hole.{Hole}
-use Rattle.elixir_terms.specs.declared.frame.Slot.{Slot}
-use Rattle.elixir_terms.specs.declared.frame.Slot.TheVariants as slot
 use Rattle.elixir_terms.specs.declared.state.State.{State}
 use Rattle.elixir_terms.specs.declared.state.State.TheVariants as state
 use Rattle.elixir_terms.specs.declared.term.Term.{Term}
@@ -22,36 +17,33 @@ use Rattle.elixir_terms.specs.declared.term.Term.TheVariants as term
 use Rattle.elixir_terms.specs.declared.token.Token.{Token}
 use Rattle.elixir_terms.specs.declared.token.Token.TheVariants.{Atom, Int, Str, Words, Key, Open, Close, Comma, Arrow}
 use Rattle.elixir_terms.specs.Grammar.{IsTerm, atom as atom_term, string as string_term, integer as integer_term}
-use Rattle.elixir_terms.specs.Lexing.{past_blank, IsNarrow, IsWide}
-use Rattle.elixir_terms.specs.Local.{IsOpening, IsFloat, starts_with, is_plain, IsFree, takes, IsPart, IsShut, rank, Locally, charlist, sigil, heredoc, bits, interpolation, interpolated_words, float, alias_alone, alias, escape, escape_in_words, atom_utf8, key_utf8, number, colon_after, unclosed, unexpected, IsFirst}
-use Rattle.elixir_terms.specs.Machine.{is_none, takes_part, part_slot, placed, placed_in, begun, step, expected}
+use Rattle.elixir_terms.specs.Lexing.{past_blank, IsNarrow}
+use Rattle.elixir_terms.specs.Local.{IsCapital, starts_with, is_plain, IsFree, takes, IsShut, rank, Locally, charlist, sigil, heredoc, bits, interpolation, interpolated_words, float, alias_alone, alias, escape, escape_in_words, atom_utf8, key_utf8, number, colon_after, unclosed, unexpected, IsFirst}
+use Rattle.elixir_terms.specs.Machine.{step, expected}
 use Rattle.elixir_terms.specs.Names.{is_blank}
-use Rattle.elixir_terms.specs.Prefixes.{AreOpen, Leads, none as no_token, token as one_token, IsOpenText, StandsAt, TakesTerm, TakesKey, TakesEither}
-use Rattle.elixir_terms.specs.Refusals.{AreTooDeep, Holds}
+use Rattle.elixir_terms.specs.Prefixes.{Leads, none as no_token, token as one_token, IsOpenText, StandsAt, TakesEither}
+use Rattle.elixir_terms.specs.Refusals.{AreTooDeep, IsStarted, Holds}
 use Rattle.elixir_terms.specs.Refusals as far
-use Rattle.elixir_terms.specs.Tokens.{is_colon, Begins, bare_atom, atom, quoted_atom, integer, string, words, key, quoted_key, opens, closes, comma, arrow, Blanks, none, AreTokens}
-use Rattle.elixir_terms.specs.Within.{deepest, longest, Fits}
-use Rattle.elixir_terms.proofs.AgainLemmas.{Held, Starts, Again, held, starts, later, again, single_last}
-use Rattle.elixir_terms.proofs.BlankLemmas.{blanks_stop, blanks_meet}
-use Rattle.elixir_terms.proofs.CalmLemmas.{calm, Marred, fraction, quotes}
-use Rattle.elixir_terms.proofs.SnagLemmas.{Snag, ties, snag, NotDone, fault_stop, fault_least, InKey, in_key, held_narrow}
+use Rattle.elixir_terms.specs.Tokens.{is_colon, Begins, bare_atom, atom, quoted_atom, integer, string, words, key, quoted_key, opens, closes, comma, arrow, none, AreTokens}
+use Rattle.elixir_terms.specs.Within.{deepest, longest}
+use Rattle.elixir_terms.proofs.AgainLemmas.{Held, Again, held, starts, later, again, single_last}
+use Rattle.elixir_terms.proofs.BlankLemmas.{blanks_stop}
+use Rattle.elixir_terms.proofs.SnagLemmas.{NotDone, HasRoomFor, fault_stop, fault_least, in_key}
 use Rattle.elixir_terms.proofs.DeepLemmas.{needs}
 use Rattle.elixir_terms.proofs.EndLemmas.{state_ends}
-use Rattle.elixir_terms.proofs.FollowLemmas.{bare_first}
-use Rattle.elixir_terms.proofs.LimitLemmas.{allowed}
 use Rattle.elixir_terms.proofs.NameLemmas.{test_from_ends, colon_ends}
 use Rattle.elixir_terms.proofs.TokenLemmas.{bare_named}
 use Rattle.elixir_terms.proofs.Meaning.{Wants}
-use Rattle.elixir_terms.proofs.OpenLemmas.{runs, start, Passes, passes, runs_push, step_taken, term_expected, key_expected, passed_back, cond_test, open_next}
-use Rattle.elixir_terms.proofs.OptionLemmas.{none_some, some_same}
-use Rattle.elixir_terms.proofs.PlaceLemmas.{Past}
-use Rattle.elixir_terms.proofs.PrefixLemmas.{AllSound, start_sound, trail_sound, next_sound, token_shallow, takes_steps, step_open}
+use Rattle.elixir_terms.proofs.OpenLemmas.{runs, start, passes, step_taken, key_expected, passed_back, open_next}
+use Rattle.elixir_terms.proofs.OptionLemmas.{some_same}
+use Rattle.elixir_terms.proofs.PrefixLemmas.{AllSound, start_sound, trail_sound, token_shallow, step_open}
 use Rattle.elixir_terms.proofs.Runs.{wants_end, wants_first, first_wants}
-use Rattle.elixir_terms.proofs.ShutLemmas.{is_single, joint_byte, IsPlaced, single_placed, no_more, taken, Tied, tied, front_shut}
-use Rattle.elixir_terms.proofs.SoundLemmas.{need}
-use Rattle.elixir_terms.proofs.StopLemmas.{Beyond, Stop, Verdict, early, joined, Repeats, stop_beyond, stop_open, Went, went, none_behind, early_beyond}
-use Rattle.elixir_terms.proofs.TokenLaws.{begins_one, begins_solid, begins_shorter}
-use Rattle.elixir_terms.proofs.TrailLemmas.{Trail, rests, steps, trail_solid, trail_runs, trail_leads, trail_fronts, behind}
+use Rattle.elixir_terms.proofs.ShutLemmas.{single_placed, no_more, taken, tied, front_shut}
+use Rattle.elixir_terms.proofs.SoundLemmas.{TokenShallow, need}
+use Rattle.elixir_terms.proofs.StartLemmas.{words_only, started_some, need_words}
+use Rattle.elixir_terms.proofs.StopLemmas.{Beyond, Stop, early, Repeats, stop_beyond, stop_open, early_beyond}
+use Rattle.elixir_terms.proofs.TokenLaws.{begins_one, begins_shorter}
+use Rattle.elixir_terms.proofs.TrailLemmas.{Trail, trail_solid, trail_runs, trail_leads, trail_fronts, behind}
 
 -- the place of the rest
 pub stands_of : {text : List ℕ} {tokens : List Token} {s : State} {rest : List ℕ} (at : ℕ) → Trail tokens start s text rest → at + length rest ≡ length text → StandsAt text at tokens rest
@@ -185,9 +177,9 @@ fault_holds {text = text} {tokens = tokens} {s = s} {rest = rest} at trail open_
 fault_holds {text = text} {tokens = tokens} {s = s} {rest = rest} at {k = k} trail open_ place stop ran sound (unexpected l part shut) =
     far.unexpected (omega arith) (stop_open stop) (λ o. shut_more at k s trail place rest refl l shut o)
 
-pub fault_refusal : {text : List ℕ} {tokens : List Token} {s : State} {rest : List ℕ} (at k : ℕ) (why : TermCause) → length text ≤ longest → IsUtf8 text → Trail tokens start s text rest → NotDone s → at + length rest ≡ length text → IsFirst (expected s) rest k why → far.IsRefusal text (at + k) why
-fault_refusal at k why short utf8 trail open_ place first =
-    far.first short utf8 (fault_holds at trail open_ place (fault_stop at k why trail open_ place first) (trail_runs trail) (trail_sound trail start_sound) first.holds) (fault_least at k why trail open_ place first)
+pub fault_refusal : {text : List ℕ} {tokens : List Token} {s : State} {rest : List ℕ} (at k : ℕ) (why : TermCause) → length text ≤ longest → IsUtf8 text → Trail tokens start s text rest → NotDone s → at + length rest ≡ length text → IsFirst (expected s) rest k why → HasRoomFor s rest → far.IsRefusal text (at + k) why
+fault_refusal at k why short utf8 trail open_ place first room =
+    far.first short utf8 (fault_holds at trail open_ place (fault_stop at k why trail open_ place first room) (trail_runs trail) (trail_sound trail start_sound) first.holds) (fault_least at k why trail open_ place first room)
 
 -- a token that makes too many levels
 
@@ -214,7 +206,7 @@ pub some_rest : {rest : List ℕ} {tok : Token} {after : List ℕ} → Begins re
 some_rest begins = let short = begins_shorter begins in omega arith
 
 -- where a token was read, the reading may stop before it
-pub token_stop : {text : List ℕ} {tokens : List Token} {s : State} {rest : List ℕ} (at : ℕ) (why : TermCause) (tok : Token) (after : List ℕ) → Trail tokens start s text rest → at + length rest ≡ length text → Read s rest tok after → rank why ≤ 14 → ((other : Token) (end : List ℕ) → Begins rest other end → AreTooDeep (tokens ++ other ∷ []) → rank why ≤ 10) → Stop text tokens s rest at 0 why
+pub token_stop : {text : List ℕ} {tokens : List Token} {s : State} {rest : List ℕ} (at : ℕ) (why : TermCause) (tok : Token) (after : List ℕ) → Trail tokens start s text rest → at + length rest ≡ length text → Read s rest tok after → rank why ≤ 14 → ((other : Token) → IsStarted rest other → AreTooDeep (tokens ++ other ∷ []) → rank why ≤ 10) → Stop text tokens s rest at 0 why
 token_stop at why tok after trail place read most deep = record {
   trail = trail;
   place = place;
@@ -222,15 +214,15 @@ token_stop at why tok after trail place read most deep = record {
   part = inl refl;
   first = λ j other local. absurd (read.calm j other local);
   tells = λ other end begins t. early refl;
-  deep_here = λ other end begins too. (refl, deep other end begins too);
+  deep_here = λ other started too. (refl, deep other started too);
   done_here = λ t e. absurd (done_takes t tok (subst (λ x. takes (expected x) tok ≡ true) e read.expects));
   end_rank = λ e. let some = some_rest read.begins in absurd (omega arith);
   most_rank = most;
 }
 
-too_deep : (tokens : List Token) (s : State) (rest : List ℕ) (tok : Token) (after : List ℕ) → runs tokens start ≡ Some s → AllSound s → Begins rest tok after → takes (expected s) tok ≡ true → deepest < need s tok → AreTooDeep (tokens ++ tok ∷ [])
-too_deep tokens s rest tok after ran sound begins t more = record {
-  begins = step_open tokens s tok ran sound (token_shallow begins) t;
+too_deep : (tokens : List Token) (s : State) (tok : Token) → runs tokens start ≡ Some s → AllSound s → TokenShallow tok → takes (expected s) tok ≡ true → deepest < need s tok → AreTooDeep (tokens ++ tok ∷ [])
+too_deep tokens s tok ran sound small t more = record {
+  begins = step_open tokens s tok ran sound small t;
   deep = λ others u h shallow.
       let p = passes u tokens (tok ∷ others) start (wants_first u (tokens ++ tok ∷ others) (subst (λ l. IsTerm l u) (append_assoc tokens (tok ∷ []) others) h)) in
       let here : p.last ≡ s = some_same (sym p.ran ∙ ran) in
@@ -257,11 +249,76 @@ deep_again at here tok after stop begins too r (later b el) = early_beyond at he
 
 pub deep_refusal : {text : List ℕ} {tokens : List Token} {s : State} {rest : List ℕ} (at : ℕ) (tok : Token) (after : List ℕ) → length text ≤ longest → IsUtf8 text → Trail tokens start s text rest → at + length rest ≡ length text → Read s rest tok after → deepest < need s tok → far.IsRefusal text at cause.TooDeep
 deep_refusal {text = text} {tokens = tokens} {s = s} {rest = rest} at tok after short utf8 trail place read more =
-    let too = too_deep tokens s rest tok after (trail_runs trail) (trail_sound trail start_sound) read.begins read.expects more in
-    let stop = token_stop at cause.TooDeep tok after trail place read (omega arith) (λ other end b t. omega arith) in
+    let too = too_deep tokens s tok (trail_runs trail) (trail_sound trail start_sound) (token_shallow read.begins) read.expects more in
+    let stop = token_stop at cause.TooDeep tok after trail place read (omega arith) (λ other b t. omega arith) in
     let same : at + 0 ≡ at = omega arith in
-    far.first short utf8 (far.deep (stands_of at trail place) read.begins too)
+    far.first short utf8 (far.deep (stands_of at trail place) (far.whole_token read.begins) too)
     (λ where_ other h. subst (λ n. Beyond n cause.TooDeep where_ other) same (⊎_elim (λ r. subst (λ c. Beyond (at + 0) cause.TooDeep where_ c) (sym r.0) (deep_again at where_ tok after stop read.begins too r.1 (again trail r.1))) (λ b. b) (stop_beyond stop h)))
+
+-- words that start where they make too many levels
+
+head_is : {a b : ℕ} {x y : List ℕ} → a ∷ x ≡ b ∷ y → a ≡ b
+head_is e = cc
+
+no_capital : (byte : ℕ) (more : List ℕ) {m : List ℕ} → byte ∷ more ≡ 126 ∷ m → IsCapital byte → ⊥
+no_capital byte more e c = let same : byte ≡ 126 = head_is e in false≢true (subst (λ b. IsCapital b) same c)
+
+words_first : (e : Expected) (rest more : List ℕ) → rest ≡ 126 ∷ 119 ∷ 40 ∷ more → (j : ℕ) (other : TermCause) → Locally e rest j other → Beyond 0 cause.TooDeep j other
+words_first e rest m f j other (charlist x) = absurd (omega (arith, head_is f))
+words_first e rest m f j other (sigil x a b c) = absurd (c m (tail f))
+  where
+    tail : {a : ℕ} {x y : List ℕ} → a ∷ x ≡ a ∷ y → x ≡ y
+    tail e = cc
+words_first e rest m f j other (heredoc x) = absurd (omega (arith, head_is f))
+words_first e rest m f j other (bits x) = absurd (omega (arith, head_is f))
+words_first e rest m f j other (interpolation {opening = opening} more x o q s) = ⊎_elim (λ l. inl (omega (arith, ap length l))) (λ l. inl (omega (arith, ap length l))) o
+words_first e rest m f j other (interpolated_words inside more x i s) = inl (omega arith)
+words_first e rest m f j other (float {word = word} digit more x d g s) = by word (sym s ∙ f)
+  where
+    by : (w : List ℕ) → w ++ 46 ∷ digit ∷ more ≡ 126 ∷ 119 ∷ 40 ∷ m → Beyond 0 cause.TooDeep (length w) other
+    by [] e = absurd (omega (arith, head_is e))
+    by (byte ∷ w) e = inl (omega arith)
+words_first e rest m f j other (alias_alone {byte = byte} {more = more} x k c) = absurd (no_capital byte more f c)
+words_first e rest m f j other (alias byte name more x c n ends colon s) = absurd (no_capital byte (name ++ more) (sym s ∙ f) c)
+words_first e rest m f j other (escape {opening = opening} more x o q s lacks) = ⊎_elim (λ l. inl (omega (arith, ap length l))) (λ l. inl (omega (arith, ap length l))) o
+words_first e rest m f j other (escape_in_words inside more x i s) = inl (omega arith)
+words_first e rest m f j other (atom_utf8 more x q u s) = inl (omega arith)
+words_first e rest m f j other (key_utf8 white more x q u b s) = absurd (omega (arith, head_is (sym s ∙ f)))
+words_first e rest m f j other (number x b w) = let t = words_only m f b in let same = t.1 in absurd (cc)
+words_first e rest m f j other (colon_after more x b p s) = let l = begins_shorter b in inl (omega arith)
+words_first e rest m f j other (unclosed p n) = inl (omega (arith, ap length f))
+words_first e rest m f j other (unexpected l p s) = ⊎_elim (λ z. inr (z, omega arith)) (λ k. inl k) (eq-or-lt_of_le (omega arith))
+
+words_stop : {text : List ℕ} {tokens : List Token} {s : State} {rest : List ℕ} (at : ℕ) (more : List ℕ) → Trail tokens start s text rest → at + length rest ≡ length text → rest ≡ 126 ∷ 119 ∷ 40 ∷ more → (expected s).term ≡ true → Stop text tokens s rest at 0 cause.TooDeep
+words_stop {s = s} {rest = rest} at more trail place e taken = record {
+  trail = trail;
+  place = place;
+  within_rest = omega arith;
+  part = inl refl;
+  first = λ j other local. words_first (expected s) rest more e j other local;
+  tells = λ tok after begins t. early refl;
+  deep_here = λ tok started too. (refl, omega arith);
+  done_here = λ t d. absurd (done_takes t (Words []) (subst (λ x. takes (expected x) (Words []) ≡ true) d taken));
+  end_rank = λ z. absurd (omega (arith, ap length e));
+  most_rank = omega arith;
+}
+
+words_again : {text : List ℕ} {tokens : List Token} {s : State} {rest : List ℕ} (at here : ℕ) (more : List ℕ) → Stop text tokens s rest at 0 cause.TooDeep → rest ≡ 126 ∷ 119 ∷ 40 ∷ more → (expected s).term ≡ true → deepest < need s (Words []) → (r : Repeats text here) → Again tokens s rest (r.outer ++ Open bracket.Map ∷ r.inside) r.rest → Beyond (at + 0) cause.TooDeep here cause.DuplicateKey
+words_again {tokens = tokens} {s = s} at here more stop e taken many r (held h) =
+    let w = words_only more e h.begins in
+    let t : takes (expected s) h.tok ≡ true = subst (λ x. takes (expected s) x ≡ true) (sym w.1) taken in
+    let n : deepest < need s h.tok = subst (λ x. deepest < need s x) (sym w.1) (subst (λ i. deepest < i) (sym (need_words s w.0)) many) in
+    absurd (held_shallow h (too_deep tokens s h.tok (trail_runs stop.trail) (trail_sound stop.trail start_sound) (token_shallow h.begins) t n))
+words_again at here more stop e taken many r (starts p q st) = let x = stop.place in let y = r.stands.place in let w = ap length q in inr (omega arith, omega arith)
+words_again at here more stop e taken many r (later b el) = early_beyond at here 0 0 cause.TooDeep cause.DuplicateKey here b stop.place r.stands.place refl (omega arith)
+
+pub words_refusal : {text : List ℕ} {tokens : List Token} {s : State} {rest : List ℕ} (at : ℕ) (more : List ℕ) → length text ≤ longest → IsUtf8 text → Trail tokens start s text rest → at + length rest ≡ length text → rest ≡ 126 ∷ 119 ∷ 40 ∷ more → (expected s).term ≡ true → deepest < need s (Words []) → far.IsRefusal text at cause.TooDeep
+words_refusal {text = text} {tokens = tokens} {s = s} {rest = rest} at more short utf8 trail place e taken many =
+    let too = too_deep tokens s (Words []) (trail_runs trail) (trail_sound trail start_sound) (λ n. far.none) taken many in
+    let stop = words_stop at more trail place e taken in
+    let same : at + 0 ≡ at = omega arith in
+    far.first short utf8 (far.deep (stands_of at trail place) (far.open_words more e) too)
+    (λ where_ other h. subst (λ n. Beyond n cause.TooDeep where_ other) same (⊎_elim (λ r. subst (λ c. Beyond (at + 0) cause.TooDeep where_ c) (sym r.0) (words_again at where_ more stop e taken many r.1 (again trail r.1))) (λ b. b) (stop_beyond stop h)))
 
 -- more behind the text's term
 
@@ -292,7 +349,7 @@ trailing_stop {tokens = tokens} {t = t} at byte more trail place e = record {
   part = inl refl;
   first = done_first t byte more e;
   tells = λ tok after begins h. early refl;
-  deep_here = λ tok after begins too. let n = open_next tokens tok [] (state.Done t) (trail_runs trail) too.begins in absurd (done_takes t tok (step_taken (state.Done t) tok n.0 n.1));
+  deep_here = λ tok started too. let n = open_next tokens tok [] (state.Done t) (trail_runs trail) too.begins in absurd (done_takes t tok (step_taken (state.Done t) tok n.0 n.1));
   done_here = λ u f. inr (refl, omega arith);
   end_rank = λ f. omega arith;
   most_rank = omega arith;
@@ -350,7 +407,7 @@ end_stop at trail place open_ e = record {
   part = inl refl;
   first = λ j other local. let f = end_first _ _ e j other local in let z = f.0 in inr (omega arith, f.1);
   tells = λ tok after begins h. early refl;
-  deep_here = λ tok after begins too. absurd (nothing_here e begins);
+  deep_here = λ tok started too. let some = started_some started in absurd (omega (arith, ap length e));
   done_here = λ u f. inl e;
   end_rank = λ f. omega arith;
   most_rank = omega arith;

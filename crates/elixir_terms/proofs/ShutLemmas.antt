@@ -1,6 +1,5 @@
 -- Where no token that may stand there goes on, no text of the grammar does.
-use Rattle.std.specs.Prelude.{IsTrue, IsFalse}
-use Rattle.std.proofs.Common.{◌≡◌, ℕ, suc, ◌+◌, ◌<◌, ◌≤◌, Bool, true, false, not, ◌&&◌, ◌||◌, ◌==◌, eqb, cond, List, [], ◌∷◌, ◌++◌, Option, Some, None, length, take, refl, sym, ap, ◌∙◌, subst, arith, append_assoc}
+use Rattle.std.proofs.Common.{◌≡◌, ℕ, Bool, true, false, ◌&&◌, ◌||◌, ◌==◌, eqb, cond, List, [], ◌∷◌, ◌++◌, Option, Some, None, refl, sym, ap, ◌∙◌, subst, append_assoc}
 use Rattle.std.proofs.lemmas.Bool.{eqb-true, and_parts, true≢false}
 use Rattle.elixir_terms.specs.declared.frame.Frame.{Frame}
 use Rattle.elixir_terms.specs.declared.frame.Hole.{Hole}
@@ -13,21 +12,20 @@ use Rattle.elixir_terms.specs.declared.term.Term.TheVariants as term
 use Rattle.elixir_terms.specs.declared.token.Closing.TheVariants.{Square, Curly}
 use Rattle.elixir_terms.specs.declared.token.Token.{Token}
 use Rattle.elixir_terms.specs.declared.token.Token.TheVariants.{Atom, Int, Str, Words, Key, Open, Close, Comma, Arrow}
-use Rattle.elixir_terms.specs.Grammar.{IsTerm}
 use Rattle.elixir_terms.specs.Lexing.{past_blank}
-use Rattle.elixir_terms.specs.Local.{starts_with, is_plain, IsFree, takes, IsShut}
+use Rattle.elixir_terms.specs.Local.{starts_with, is_plain, IsFree, IsShut}
 use Rattle.elixir_terms.specs.Machine.{takes_part, part_slot, placed, placed_in, begun, at_part, step, expected}
 use Rattle.elixir_terms.specs.Prefixes.{IsOpenText}
 use Rattle.elixir_terms.specs.Names.{is_blank}
-use Rattle.elixir_terms.specs.Tokens.{Begins, bare_atom, atom, quoted_atom, integer, string, words, key, quoted_key, opens, closes, comma, arrow, line_end, Blanks, AreTokens}
+use Rattle.elixir_terms.specs.Tokens.{Begins, bare_atom, atom, quoted_atom, integer, string, words, key, quoted_key, opens, closes, comma, arrow, line_end, AreTokens}
 use Rattle.elixir_terms.proofs.BlankLemmas.{blanks_stop}
 use Rattle.elixir_terms.proofs.FollowLemmas.{Like, same}
 use Rattle.elixir_terms.proofs.Meaning.{Wants, WantsNext}
-use Rattle.elixir_terms.proofs.OpenLemmas.{runs, start, Passes, passes, step_taken, cond_test}
+use Rattle.elixir_terms.proofs.OpenLemmas.{runs, start, passes, step_taken, cond_test}
 use Rattle.elixir_terms.proofs.OptionLemmas.{some_same}
 use Rattle.elixir_terms.proofs.Runs.{wants_first}
 use Rattle.elixir_terms.proofs.StepForth.{step_forth}
-use Rattle.elixir_terms.proofs.TrailLemmas.{Fronts, Behind, behind}
+use Rattle.elixir_terms.proofs.TrailLemmas.{Fronts, behind}
 
 -- the token is a whole term
 abbrev pub is_single : Token → Bool

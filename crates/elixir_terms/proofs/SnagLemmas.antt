@@ -1,12 +1,11 @@
 -- Where the lexer stops, what it says is the refusal of the text.
-use Rattle.std.specs.Prelude.{IsTrue, IsFalse, ℤ, pos, neg_ℤ, ◌^◌, ◌≤ℤ◌, ◌<ℤ◌}
-use Rattle.std.proofs.Common.{◌≡◌, ◌≢◌, ℕ, zero, suc, ◌+◌, ◌<◌, ◌≤◌, ◌⊎◌, inl, inr, Bool, true, false, not, ◌&&◌, eqb, cond, List, [], ◌∷◌, ◌++◌, Option, Some, None, length, take, drop, refl, sym, ap, ◌∙◌, subst, arith, append_assoc, ⊎_elim}
+use Rattle.std.specs.Prelude.{ℤ, pos, neg_ℤ, ◌^◌}
+use Rattle.std.proofs.Common.{◌≡◌, ℕ, ◌+◌, ◌≤◌, ◌⊎◌, inl, inr, Bool, true, false, not, ◌&&◌, cond, List, [], ◌∷◌, ◌++◌, Some, None, length, refl, sym, ap, ◌∙◌, subst, arith, append_assoc, ⊎_elim}
 use Rattle.std.specs.Int.Signed.{clash_ℤ}
 use Rattle.std.proofs.lemmas.Int.{by_lt_z}
 use Rattle.std.proofs.lemmas.Bool.{true≢false, false≢true, and_parts, and_from}
-use Rattle.std.proofs.lemmas.List.{append-nil, length-append, take-append-drop, length-take-le, take_all}
+use Rattle.std.proofs.lemmas.List.{append-nil, length-append}
 use Rattle.elixir_terms.specs.declared.bracket.Bracket.TheVariants as bracket
-use Rattle.elixir_terms.specs.declared.error.Feature.TheVariants.{Heredoc, Float}
 use Rattle.elixir_terms.specs.declared.error.TermCause.{TermCause}
 use Rattle.elixir_terms.specs.declared.error.TermCause.TheVariants as cause
 use Rattle.elixir_terms.specs.declared.expected.Expected.{Expected}
@@ -20,33 +19,25 @@ use Rattle.elixir_terms.specs.declared.term.Term.{Term}
 use Rattle.elixir_terms.specs.declared.term.Term.TheVariants as term
 use Rattle.elixir_terms.specs.declared.token.Token.{Token}
 use Rattle.elixir_terms.specs.declared.token.Token.TheVariants.{Atom, Int, Str, Words, Key, Open, Close, Comma, Arrow}
-use Rattle.elixir_terms.specs.Grammar.{IsTerm, atom as atom_term, string as string_term}
 use Rattle.elixir_terms.specs.Lexing.{past_blank, IsNarrow, IsWide}
-use Rattle.elixir_terms.specs.Local.{IsOpening, IsFloat, starts_with, is_plain, IsFree, takes, IsPart, IsShut, rank, Locally, charlist, sigil, heredoc, bits, interpolation, interpolated_words, float, alias_alone, alias, escape, escape_in_words, atom_utf8, key_utf8, number, colon_after, unclosed, unexpected, IsFirst}
-use Rattle.elixir_terms.specs.Machine.{is_none, takes_part, part_slot, placed, placed_in, begun, step, expected}
-use Rattle.elixir_terms.specs.Names.{is_blank}
-use Rattle.elixir_terms.specs.Prefixes.{AreOpen, Leads, none as no_token, token as one_token, IsOpenText, StandsAt, TakesTerm, TakesKey, TakesEither}
-use Rattle.elixir_terms.specs.Refusals.{AreTooDeep, Holds}
-use Rattle.elixir_terms.specs.Refusals as far
-use Rattle.elixir_terms.specs.Tokens.{is_colon, Begins, bare_atom, atom, quoted_atom, integer, string, words, key, quoted_key, opens, closes, comma, arrow, Blanks, none, AreTokens}
-use Rattle.elixir_terms.specs.Within.{deepest, Fits}
-use Rattle.elixir_terms.proofs.AgainLemmas.{Held, Starts, Again, held, starts, later, again, single_last}
-use Rattle.elixir_terms.proofs.BlankLemmas.{blanks_stop, blanks_meet}
+use Rattle.elixir_terms.specs.Local.{IsFloat, starts_with, is_plain, takes, rank, Locally, charlist, sigil, heredoc, bits, interpolation, interpolated_words, float, alias_alone, alias, escape, escape_in_words, atom_utf8, key_utf8, number, colon_after, unclosed, unexpected, IsFirst}
+use Rattle.elixir_terms.specs.Machine.{is_none, takes_part, part_slot, placed, placed_in, step, expected}
+use Rattle.elixir_terms.specs.Refusals.{AreTooDeep, IsStarted, whole_token, open_words, Holds}
+use Rattle.elixir_terms.specs.Tokens.{Begins, bare_atom, atom, quoted_atom, integer, string, words, key, quoted_key, opens, closes, comma, arrow}
+use Rattle.elixir_terms.specs.Within.{deepest}
+use Rattle.elixir_terms.proofs.AgainLemmas.{Held, Again, held, starts, later, again, single_last}
 use Rattle.elixir_terms.proofs.CalmLemmas.{calm, Marred, fraction, quotes}
-use Rattle.elixir_terms.proofs.EndLemmas.{state_ends}
 use Rattle.elixir_terms.proofs.FollowLemmas.{bare_first}
 use Rattle.elixir_terms.proofs.LimitLemmas.{allowed}
-use Rattle.elixir_terms.proofs.Meaning.{Wants}
-use Rattle.elixir_terms.proofs.OpenLemmas.{runs, start, Passes, passes, runs_push, step_taken, term_expected, key_expected, passed_back, cond_test, open_next}
-use Rattle.elixir_terms.proofs.OptionLemmas.{none_some, some_same}
-use Rattle.elixir_terms.proofs.PlaceLemmas.{Past}
-use Rattle.elixir_terms.proofs.PrefixLemmas.{AllSound, start_sound, trail_sound, next_sound, token_shallow, takes_steps, step_open}
-use Rattle.elixir_terms.proofs.Runs.{wants_end, wants_first, first_wants}
-use Rattle.elixir_terms.proofs.ShutLemmas.{is_single, joint_byte, IsPlaced, single_placed, no_more, taken, Tied, tied, front_shut}
+use Rattle.elixir_terms.proofs.OpenLemmas.{runs, start, passes, step_taken, cond_test, open_next}
+use Rattle.elixir_terms.proofs.OptionLemmas.{some_same}
+use Rattle.elixir_terms.proofs.PrefixLemmas.{start_sound, trail_sound}
+use Rattle.elixir_terms.proofs.Runs.{wants_first}
+use Rattle.elixir_terms.proofs.ShutLemmas.{is_single, joint_byte, IsPlaced, single_placed, Tied, tied}
 use Rattle.elixir_terms.proofs.SoundLemmas.{need}
-use Rattle.elixir_terms.proofs.StopLemmas.{Beyond, Stop, Verdict, early, joined, Repeats, stop_beyond, stop_open, Went, went, none_behind, early_beyond}
-use Rattle.elixir_terms.proofs.TokenLaws.{begins_one, begins_solid, begins_shorter}
-use Rattle.elixir_terms.proofs.TrailLemmas.{Trail, rests, steps, trail_solid, trail_runs, trail_leads, trail_fronts, behind}
+use Rattle.elixir_terms.proofs.StartLemmas.{started_shallow, small_not_deep}
+use Rattle.elixir_terms.proofs.StopLemmas.{Beyond, Stop, Verdict, early, joined, Repeats, stop_beyond, Went, went, none_behind, early_beyond}
+use Rattle.elixir_terms.proofs.TrailLemmas.{Trail, trail_runs}
 
 -- where what holds locally stands
 
@@ -221,12 +212,6 @@ snag_blocked (wides n same k r w) = inr (n, same, k, r, w)
 snag_blocked (fractions n more same f sum e r) = inl (blocked_by 46 more (ap is_single same) e refl refl)
 snag_blocked (three more same k r e) = inl (blocked_by 34 more (ap is_single same) e refl refl)
 
-pub small_not_deep : (tokens : List Token) (s : State) (rest : List ℕ) (tok : Token) (after : List ℕ) → runs tokens start ≡ Some s → AllSound s → Begins rest tok after → takes (expected s) tok ≡ true → need s tok ≤ deepest → AreTooDeep (tokens ++ tok ∷ []) → ⊥
-small_not_deep tokens s rest tok after ran sound begins t n too =
-    let next = takes_steps (deepest + 0) s tok (sound 0) t in
-    let e = state_ends (deepest + 0) next.0 (next_sound (deepest + 0) s next.0 tok (sound 0) (token_shallow begins) n next.1) in
-    too.deep e.tokens e.u (first_wants e.u ((tokens ++ tok ∷ []) ++ e.tokens) (passed_back e.u (tokens ++ tok ∷ []) e.tokens start next.0 e.wanted (runs_push tokens tok start s next.0 ran next.1))) e.shallow
-
 -- where the lexer stops the reading stops
 
 placed_done : (t u : Term) (holes : List Hole) → placed t holes ≡ state.Done u → holes ≡ []
@@ -312,25 +297,30 @@ fault_tells s rest k why first tok after begins t = by (snag s rest k why tok af
 abbrev pub NotDone : State → Type 0
 NotDone s = (t : Term) → s ≡ state.Done t → ⊥
 
-pub fault_stop : {text : List ℕ} {tokens : List Token} {s : State} {rest : List ℕ} (at k : ℕ) (why : TermCause) → Trail tokens start s text rest → NotDone s → at + length rest ≡ length text → IsFirst (expected s) rest k why → Stop text tokens s rest at k why
-fault_stop {tokens = tokens} {s = s} {rest = rest} at k why trail open_ place first = record {
+-- words that start there leave levels
+abbrev pub HasRoomFor : State → List ℕ → Type 0
+HasRoomFor s rest = (more : List ℕ) → rest ≡ 126 ∷ 119 ∷ 40 ∷ more → (expected s).term ≡ true → need s (Words []) ≤ deepest
+
+pub fault_stop : {text : List ℕ} {tokens : List Token} {s : State} {rest : List ℕ} (at k : ℕ) (why : TermCause) → Trail tokens start s text rest → NotDone s → at + length rest ≡ length text → IsFirst (expected s) rest k why → HasRoomFor s rest → Stop text tokens s rest at k why
+fault_stop {tokens = tokens} {s = s} {rest = rest} at k why trail open_ place first room = record {
   trail = trail;
   place = place;
   within_rest = local_within first.holds;
   part = first.open_so_far;
   first = first.first;
   tells = fault_tells s rest k why first;
-  deep_here = λ tok after begins too.
-      let t = begun_taken tok after begins too in
-      let small = snag_small (snag s rest k why tok after first begins t) in
-      absurd (small_not_deep tokens s rest tok after (trail_runs trail) (trail_sound trail start_sound) begins t (omega (arith, small_need s tok small)) too);
+  deep_here = λ tok started too. absurd (small_not_deep tokens s tok (trail_runs trail) (trail_sound trail start_sound) (started_shallow started) (begun_taken tok too) (need_small started (begun_taken tok too)) too);
   done_here = λ t e. absurd (open_ t e);
   end_rank = local_end first.holds;
   most_rank = local_rank first.holds;
 }
   where
-    begun_taken : (tok : Token) (after : List ℕ) → Begins rest tok after → AreTooDeep (tokens ++ tok ∷ []) → takes (expected s) tok ≡ true
-    begun_taken tok after begins too = let n = open_next tokens tok [] s (trail_runs trail) too.begins in step_taken s tok n.0 n.1
+    begun_taken : (tok : Token) → AreTooDeep (tokens ++ tok ∷ []) → takes (expected s) tok ≡ true
+    begun_taken tok too = let n = open_next tokens tok [] s (trail_runs trail) too.begins in step_taken s tok n.0 n.1
+
+    need_small : {tok : Token} → IsStarted rest tok → takes (expected s) tok ≡ true → need s tok ≤ deepest
+    need_small {tok = tok} (whole_token {after = after} begins) t = let small = snag_small (snag s rest k why tok after first begins t) in omega (arith, small_need s tok small)
+    need_small (open_words more e) t = room more e t
 
 -- no key that comes again stands before it
 
@@ -402,7 +392,7 @@ fault_again {tokens = tokens} {s = s} {rest = rest} at k here why stop first r (
         let q = none_behind w.next (state.Element el.0 el.1) bl.byte bl.more p bl.is bl.solid bl.unlike b.leads w.ran in
         element_placed el.0 el.1 w.next (sym q.0) p
 
-pub fault_least : {text : List ℕ} {tokens : List Token} {s : State} {rest : List ℕ} (at k : ℕ) (why : TermCause) → Trail tokens start s text rest → NotDone s → at + length rest ≡ length text → IsFirst (expected s) rest k why → (place : ℕ) (other : TermCause) → Holds text place other → Beyond (at + k) why place other
-fault_least at k why trail open_ place first where_ other h =
-    let stop = fault_stop at k why trail open_ place first in
+pub fault_least : {text : List ℕ} {tokens : List Token} {s : State} {rest : List ℕ} (at k : ℕ) (why : TermCause) → Trail tokens start s text rest → NotDone s → at + length rest ≡ length text → IsFirst (expected s) rest k why → HasRoomFor s rest → (place : ℕ) (other : TermCause) → Holds text place other → Beyond (at + k) why place other
+fault_least at k why trail open_ place first room where_ other h =
+    let stop = fault_stop at k why trail open_ place first room in
     ⊎_elim (λ r. subst (λ c. Beyond (at + k) why where_ c) (sym r.0) (fault_again at k where_ why stop first r.1 (again trail r.1))) (λ b. b) (stop_beyond stop h)

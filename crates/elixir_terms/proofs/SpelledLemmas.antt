@@ -1,9 +1,6 @@
 -- A text that spells a term within the limits has no refusal.
-use Rattle.std.specs.Prelude.{IsTrue, IsFalse}
-use Rattle.std.proofs.Common.{◌≡◌, ℕ, zero, suc, ◌+◌, ◌<◌, ◌≤◌, ◌⊎◌, inl, inr, Bool, true, false, ◌&&◌, List, [], ◌∷◌, ◌++◌, None, length, take, refl, sym, ap, ◌∙◌, subst, arith, ⊎_elim}
-use Rattle.std.specs.Str.{IsUtf8}
+use Rattle.std.proofs.Common.{◌≡◌, ℕ, zero, suc, ◌<◌, inl, inr, Bool, true, false, ◌&&◌, List, [], ◌∷◌, ◌++◌, None, length, refl, sym, ap, subst, arith, ⊎_elim}
 use Rattle.std.proofs.lemmas.List.{length-append}
-use Rattle.std.proofs.Math.Nat.{eq-or-lt_of_le}
 use Rattle.elixir_terms.specs.declared.bracket.Bracket.TheVariants as bracket
 use Rattle.elixir_terms.specs.declared.error.Feature.TheVariants.{Charlist}
 use Rattle.elixir_terms.specs.declared.error.TermCause.{TermCause}
@@ -16,7 +13,7 @@ use Rattle.elixir_terms.specs.declared.token.Token.TheVariants.{Open}
 use Rattle.elixir_terms.specs.Grammar.{IsTerm, Pair}
 use Rattle.elixir_terms.specs.Lexing.{past_blank, IsNarrow}
 use Rattle.elixir_terms.specs.Local.{starts_with, is_plain, IsFree, Locally}
-use Rattle.elixir_terms.specs.Machine.{step, expected}
+use Rattle.elixir_terms.specs.Machine.{expected}
 use Rattle.elixir_terms.specs.Refusals as far
 use Rattle.elixir_terms.specs.Refusals.{IsShallow, AreShallow, PairsShallow, Holds, IsRefusal}
 use Rattle.elixir_terms.specs.Spells.{Spells}
@@ -33,6 +30,7 @@ use Rattle.elixir_terms.proofs.RefusalLaws.{not_both}
 use Rattle.elixir_terms.proofs.Runs.{wants_end, wants_first}
 use Rattle.elixir_terms.proofs.ShutLemmas.{is_single, joint_byte, single_placed, no_more, Taken, taken, tied}
 use Rattle.elixir_terms.proofs.SnagLemmas.{outer_key}
+use Rattle.elixir_terms.proofs.StartLemmas.{started_some}
 use Rattle.elixir_terms.proofs.StopLemmas.{Beyond, Stop, Repeats, stop_beyond}
 use Rattle.elixir_terms.proofs.TokenLaws.{begins_shorter}
 use Rattle.elixir_terms.proofs.TrailLemmas.{Stood, Trail, rests, steps}
@@ -106,7 +104,7 @@ end_stop u trail = record {
   part = inl refl;
   first = λ j other l. least j other;
   tells = λ tok after begins t. absurd (no_token_there begins);
-  deep_here = λ tok after begins d. absurd (no_token_there begins);
+  deep_here = λ tok started d. let some = started_some started in absurd (omega arith);
   done_here = λ t e. inl refl;
   end_rank = λ e. omega arith;
   most_rank = omega arith;
@@ -139,7 +137,7 @@ none_at_end u trail spelled reads (far.escape_in_words inside more stands t i e)
 none_at_end u trail spelled reads (far.atom_utf8 {inside = inside} more stands t q v e) = let p = stands.place in omega (arith, ap length e)
 none_at_end u trail spelled reads (far.key_utf8 white more stands t q v b e) = let p = stands.place in omega (arith, ap length e)
 none_at_end u trail spelled reads (far.number stands t b w) = let p = stands.place in let l = begins_shorter b in omega arith
-none_at_end u trail spelled reads (far.deep stands b too) = let p = stands.place in let l = begins_shorter b in omega arith
+none_at_end u trail spelled reads (far.deep stands b too) = let p = stands.place in let l = started_some b in omega arith
 none_at_end u trail spelled reads (far.repeated {rest = rest} outer inside {keys = keys} {key = key} stands open_ pairs ahead old) =
     absurd (no_repeat u trail (record { rest = rest; outer = outer; inside = inside; keys = keys; key = key; stands = stands; starts = open_; pairs = pairs; ahead = ahead; again = old }))
 none_at_end u trail spelled reads (far.trailing stands r solid) = let p = stands.place in omega arith

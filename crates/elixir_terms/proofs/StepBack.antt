@@ -17,8 +17,8 @@ use Rattle.elixir_terms.specs.declared.token.Closing.TheVariants.{Square, Curly}
 use Rattle.elixir_terms.specs.declared.token.Token.{Token}
 use Rattle.elixir_terms.specs.declared.token.Token.TheVariants.{Atom, Int, Str, Words, Key, Open, Close, Comma, Arrow}
 use Rattle.elixir_terms.specs.Grammar.{IsTerm, atom, integer, string, words, brackets, Inside, nothing, element, entry, keyword, Follows, end, comma, Pair, enclosed, closing_of}
-use Rattle.elixir_terms.specs.Machine.{is_closed_by, is_none, takes_key, takes_part, part_slot, placed_in, placed, begun, closed, at_part, at_key, at_element, at_separator, at_arrow, step}
-use Rattle.elixir_terms.proofs.Meaning.{InOrder, Continues, Values, Arrows, FilledIn, AfterEntry, Filled, Wants, WantsNext}
+use Rattle.elixir_terms.specs.Machine.{is_closed_by, is_none, takes_key, takes_part, part_slot, placed_in, placed, begun, closed, at_part, at_element, at_separator, at_arrow, step}
+use Rattle.elixir_terms.proofs.Meaning.{InOrder, Continues, Values, Arrows, FilledIn, Filled, Wants, WantsNext}
 use Rattle.elixir_terms.proofs.StepForth.{order_nil}
 
 placed_in_back : (u t : Term) (place : Slot) (frame : Frame) (holes : List Hole) (tokens : List Token) → Wants u (placed_in place frame t holes) tokens → FilledIn place frame (Filled u holes) t tokens

@@ -1,5 +1,5 @@
 -- What a state wants, its next state wants after the token.
-use Rattle.std.proofs.Common.{◌≡◌, ℕ, true, List, [], ◌∷◌, ◌++◌, Some, None, cond, refl, ap, ◌∙◌, append_assoc}
+use Rattle.std.proofs.Common.{◌≡◌, ℕ, true, List, [], ◌∷◌, ◌++◌, Some, None, cond, refl, ◌∙◌, append_assoc}
 use Rattle.std.proofs.lemmas.List.{append-nil}
 use Rattle.elixir_terms.specs.declared.bracket.Bracket.{Bracket}
 use Rattle.elixir_terms.specs.declared.bracket.Bracket.TheVariants as bracket
@@ -14,8 +14,8 @@ use Rattle.elixir_terms.specs.declared.term.Term.TheVariants as term
 use Rattle.elixir_terms.specs.declared.token.Token.{Token}
 use Rattle.elixir_terms.specs.declared.token.Token.TheVariants.{Atom, Int, Str, Words, Key, Open, Close, Comma, Arrow}
 use Rattle.elixir_terms.specs.Grammar.{IsTerm, atom, integer, string, words, brackets, Inside, nothing, element, entry, keyword, Follows, end, comma, Pair, enclosed, closing_of}
-use Rattle.elixir_terms.specs.Machine.{is_closed_by, is_none, takes_key, takes_key_in, takes_part, part_slot, empty, placed_in, placed, begun, closed, at_part, at_key, at_element, at_separator, at_arrow, step}
-use Rattle.elixir_terms.proofs.Meaning.{InOrder, Continues, Values, Arrows, FilledIn, AfterEntry, AfterKeyword, Filled, Wants, WantsNext}
+use Rattle.elixir_terms.specs.Machine.{is_closed_by, is_none, takes_key, takes_key_in, takes_part, part_slot, placed_in, placed, begun, closed, at_element, at_separator, at_arrow, step}
+use Rattle.elixir_terms.proofs.Meaning.{InOrder, Continues, Values, FilledIn, AfterEntry, AfterKeyword, Filled, Wants, WantsNext}
 
 placed_in_forth : (u t : Term) (place : Slot) (frame : Frame) (holes : List Hole) (tokens : List Token) → FilledIn place frame (Filled u holes) t tokens → Wants u (placed_in place frame t holes) tokens
 placed_in_forth u t slot.Element frame holes tokens h = h

@@ -1,46 +1,41 @@
 -- What holds of a text holds no earlier than where the reading stops.
-use Rattle.std.specs.Prelude.{IsTrue, IsFalse, ℤ, pos}
-use Rattle.std.proofs.Common.{◌≡◌, ◌≢◌, ℕ, zero, suc, ◌+◌, ◌<◌, ◌≤◌, ◌⊎◌, inl, inr, Bool, true, false, not, ◌&&◌, eqb, cond, List, [], ◌∷◌, ◌++◌, Option, Some, None, length, take, drop, refl, sym, ap, ◌∙◌, subst, arith, append_assoc, ⊎_elim}
-use Rattle.std.proofs.lemmas.Bool.{true≢false, false≢true}
+use Rattle.std.specs.Prelude.{IsTrue, IsFalse, pos}
+use Rattle.std.proofs.Common.{◌≡◌, ℕ, zero, suc, ◌+◌, ◌<◌, ◌≤◌, ◌⊎◌, inl, inr, Bool, true, false, List, [], ◌∷◌, ◌++◌, Some, None, length, take, drop, refl, sym, ap, ◌∙◌, subst, arith, append_assoc, ⊎_elim}
+use Rattle.std.proofs.lemmas.Bool.{true≢false}
 use Rattle.std.proofs.lemmas.List.{append-nil, length-append, take-append-drop, take-append-le, length-take-le}
 use Rattle.std.proofs.lemmas.Bool.{cases_lt}
 use Rattle.std.proofs.Math.Nat.{eq-or-lt_of_le}
 use Rattle.std.proofs.Math.Seq.{take-append-add}
 use Rattle.elixir_terms.specs.declared.bracket.Bracket.TheVariants as bracket
-use Rattle.elixir_terms.specs.declared.error.Feature.TheVariants.{Heredoc, Float}
 use Rattle.elixir_terms.specs.declared.error.TermCause.{TermCause}
 use Rattle.elixir_terms.specs.declared.error.TermCause.TheVariants as cause
-use Rattle.elixir_terms.specs.declared.expected.Expected.{Expected}
 use Rattle.elixir_terms.specs.declared.state.State.{State}
 use Rattle.elixir_terms.specs.declared.state.State.TheVariants as state
 use Rattle.elixir_terms.specs.declared.term.Term.{Term}
 use Rattle.elixir_terms.specs.declared.token.Token.{Token}
-use Rattle.elixir_terms.specs.declared.token.Token.TheVariants.{Atom, Int, Str, Words, Key, Open, Close, Comma, Arrow}
+use Rattle.elixir_terms.specs.declared.token.Token.TheVariants.{Int, Words, Key, Open}
 use Rattle.elixir_terms.specs.Grammar.{IsTerm}
-use Rattle.elixir_terms.specs.Lexing.{past_blank, IsNarrow, IsWide}
+use Rattle.elixir_terms.specs.Lexing.{past_blank}
 use Rattle.elixir_terms.specs.Local as near
 use Rattle.elixir_terms.specs.Local.{IsOpening, IsCapital, is_plain, IsFree, takes, IsPart, rank, Locally}
 use Rattle.elixir_terms.specs.Machine.{step, expected}
-use Rattle.elixir_terms.specs.Names.{is_from, is_name_start, is_blank}
-use Rattle.elixir_terms.specs.Prefixes.{AreOpen, Leads, none as no_token, token as one_token, IsOpenText, StandsAt, TakesTerm, TakesKey, TakesEither}
-use Rattle.elixir_terms.specs.Refusals.{AreTooDeep, Pairs, KeyAhead, IsOneOf, Holds, charlist, sigil, heredoc, bits, interpolation, interpolated_words, float, alias_alone, alias, escape, escape_in_words, atom_utf8, key_utf8, number, deep, repeated, trailing, trailing_colon, unclosed, unexpected}
-use Rattle.elixir_terms.specs.Tokens.{Begins, Blanks, none, AreTokens}
-use Rattle.elixir_terms.specs.Within.{deepest}
+use Rattle.elixir_terms.specs.Names.{is_from, is_name_start}
+use Rattle.elixir_terms.specs.Prefixes.{AreOpen, Leads, none as no_token, token as one_token, IsOpenText, StandsAt, TakesKey, TakesEither}
+use Rattle.elixir_terms.specs.Refusals.{AreTooDeep, Pairs, KeyAhead, IsOneOf, IsStarted, whole_token, open_words, Holds, charlist, sigil, heredoc, bits, interpolation, interpolated_words, float, alias_alone, alias, escape, escape_in_words, atom_utf8, key_utf8, number, deep, repeated, trailing, trailing_colon, unclosed, unexpected}
+use Rattle.elixir_terms.specs.Tokens.{Begins, AreTokens}
 use Rattle.elixir_terms.proofs.BlankLemmas.{blanks_stop}
 use Rattle.elixir_terms.proofs.CalmLemmas.{decimal_begins}
-use Rattle.elixir_terms.proofs.EndLemmas.{state_ends}
 use Rattle.elixir_terms.proofs.FollowLemmas.{Like, same}
-use Rattle.elixir_terms.proofs.Meaning.{Wants}
-use Rattle.elixir_terms.proofs.OpenLemmas.{runs, start, Ran, runs_append, runs_push, open_runs, after_some, open_next, step_taken, Passes, passes, term_expected, key_expected, passed_back}
+use Rattle.elixir_terms.proofs.OpenLemmas.{runs, start, runs_append, open_runs, after_some, step_taken, passes, term_expected, key_expected}
 use Rattle.elixir_terms.proofs.OptionLemmas.{none_some, some_same}
-use Rattle.elixir_terms.proofs.PlaceLemmas.{blanks_shorter, leads_shorter, Inside, Past, Meets, within, there, behind, meets}
-use Rattle.elixir_terms.proofs.PrefixLemmas.{AllSound, start_sound, trail_sound, next_sound, token_shallow, step_open, part_open}
-use Rattle.elixir_terms.proofs.Runs.{wants_end, wants_first, first_wants}
+use Rattle.elixir_terms.proofs.PlaceLemmas.{leads_shorter, Past, Meets, within, there, behind, meets}
+use Rattle.elixir_terms.proofs.PrefixLemmas.{AllSound, start_sound, trail_sound, step_open, part_open}
+use Rattle.elixir_terms.proofs.Runs.{wants_end, wants_first}
 use Rattle.elixir_terms.proofs.ShutLemmas.{is_single, is_joint, joint_byte, IsPlaced, single_placed, second_joint, placed_joins, solid_like}
-use Rattle.elixir_terms.proofs.SoundLemmas.{need}
-use Rattle.elixir_terms.proofs.TokenLaws.{begins_one, begins_solid, begins_shorter}
+use Rattle.elixir_terms.proofs.StartLemmas.{started_solid, started_shallow, started_like, small_not_deep}
+use Rattle.elixir_terms.proofs.TokenLaws.{begins_solid, begins_shorter}
 use Rattle.elixir_terms.proofs.TokenLemmas.{start_not}
-use Rattle.elixir_terms.proofs.TrailLemmas.{Stood, Trail, trail_solid, trail_runs, trail_leads, Fronts, trail_fronts}
+use Rattle.elixir_terms.proofs.TrailLemmas.{Trail, trail_runs, trail_fronts}
 
 -- what holds near a place between two tokens
 pub record Near (text : List ℕ) (place : ℕ) (why : TermCause) : Type 0 where
@@ -84,7 +79,7 @@ pub record Stop (text : List ℕ) (tokens : List Token) (s : State) (rest : List
   pub part : IsPart (expected s) (take k rest)
   pub first : (j : ℕ) (other : TermCause) → Locally (expected s) rest j other → Beyond k why j other
   pub tells : (tok : Token) (after : List ℕ) → Begins rest tok after → takes (expected s) tok ≡ true → Verdict s rest k why tok after
-  pub deep_here : (tok : Token) (after : List ℕ) → Begins rest tok after → AreTooDeep (tokens ++ tok ∷ []) → (k ≡ 0) × (rank why ≤ 10)
+  pub deep_here : (tok : Token) → IsStarted rest tok → AreTooDeep (tokens ++ tok ∷ []) → (k ≡ 0) × (rank why ≤ 10)
   pub done_here : (t : Term) → s ≡ state.Done t → (rest ≡ []) ⊎ ((k ≡ 0) × (rank why ≤ 12))
   pub end_rank : k ≡ length rest → rank why ≤ 13
   pub most_rank : rank why ≤ 14
@@ -190,19 +185,15 @@ near_beyond {text = text} {tokens = tokens} {s = s} {rest = rest} {at = at} {k =
         lifted at n.at k n.k place why other (omega arith) n.same (stop.first n.k other local)
     by (behind b) = ⊎_elim (λ t. near_behind place other stop n (Int (pos 0)) refl t b) (λ t. near_behind place other stop n (Key []) refl t b) n.wants
 
-deep_beyond : {text rest : List ℕ} {tokens : List Token} {s : State} {at k : ℕ} {why : TermCause} (stop : Stop text tokens s rest at k why) (here : ℕ) (others : List Token) (place after : List ℕ) (tok : Token) → StandsAt text here others place → Begins place tok after → AreTooDeep (others ++ tok ∷ []) → Beyond (at + k) why here cause.TooDeep
-deep_beyond {text = text} {rest = rest} {tokens = tokens} {s = s} {at = at} {k = k} {why = why} stop here others place after tok stands begins too = by (meets others place stop.trail start_sound stands.leads (begins_solid begins))
+deep_beyond : {text rest : List ℕ} {tokens : List Token} {s : State} {at k : ℕ} {why : TermCause} (stop : Stop text tokens s rest at k why) (here : ℕ) (others : List Token) (place : List ℕ) (tok : Token) → StandsAt text here others place → IsStarted place tok → AreTooDeep (others ++ tok ∷ []) → Beyond (at + k) why here cause.TooDeep
+deep_beyond {text = text} {rest = rest} {tokens = tokens} {s = s} {at = at} {k = k} {why = why} stop here others place tok stands started too = by (meets others place stop.trail start_sound stands.leads (started_solid started))
   where
     by : Meets tokens start s rest others place → Beyond (at + k) why here cause.TooDeep
     by (within i) =
-        let one = begins_one begins i.stood.begins in
-        let stepped : step i.here tok ≡ Some i.next = subst (λ t. step i.here t ≡ Some i.next) (sym one.0) i.stood.stepped in
-        let well : need i.here tok ≤ deepest = subst (λ t. need i.here t ≤ deepest) (sym one.0) i.stood.well in
-        let e = state_ends (deepest + 0) i.next (next_sound (deepest + 0) i.here i.next tok (i.sound 0) (token_shallow begins) well stepped) in
-        let ran = runs_push others tok start i.here i.next i.ran stepped in
-        absurd (too.deep e.tokens e.u (first_wants e.u ((others ++ tok ∷ []) ++ e.tokens) (passed_back e.u (others ++ tok ∷ []) e.tokens start i.next e.wanted ran)) e.shallow)
+        let like = started_like i.here i.stood.begins (step_taken i.here i.tok i.next i.stood.stepped) i.stood.well started in
+        absurd (small_not_deep others i.here tok i.ran i.sound (started_shallow started) like.0 like.1 too)
     by (there e p) =
-        let d = stop.deep_here tok after (subst (λ l. Begins l tok after) p begins) (subst (λ ts. AreTooDeep (ts ++ tok ∷ [])) e too) in
+        let d = stop.deep_here tok (subst (λ l. IsStarted l tok) p started) (subst (λ ts. AreTooDeep (ts ++ tok ∷ [])) e too) in
         let x = stop.place in
         let y = stands.place in
         let z = ap length p in
@@ -218,7 +209,11 @@ deep_beyond {text = text} {rest = rest} {tokens = tokens} {s = s} {at = at} {k =
         told b l w (joined byte more single e solid unlike _) =
             let p = single_placed s b.tok w.next single w.stepped in
             let q = none_behind w.next l.last byte more p e solid unlike b.leads w.ran in
-            absurd (second_joint w.next l.next byte more p e unlike (subst (λ x. Begins x tok after) (q.1 (begins_solid begins)) begins) (subst (λ y. step y tok ≡ Some l.next) q.0 l.stepped))
+            no_start w.next l.next byte more p e unlike started (q.1 (started_solid started)) (subst (λ y. step y tok ≡ Some l.next) q.0 l.stepped)
+          where
+            no_start : {x : Token} (placed_ next : State) (byte : ℕ) (more : List ℕ) → IsPlaced placed_ → b.after ≡ byte ∷ more → joint_byte byte ≡ false → IsStarted place x → place ≡ b.after → step placed_ x ≡ Some next → Beyond (at + k) why here cause.TooDeep
+            no_start {x = x} placed_ next byte more p e unlike (whole_token {after = after} begins) same_ stepped = absurd (second_joint placed_ next byte more p e unlike (subst (λ l. Begins l x after) same_ begins) stepped)
+            no_start placed_ next byte more p e unlike (open_words text e_) same_ stepped = absurd (not_joint placed_ next (Words []) p refl stepped)
 
 -- a whole term, and more
 pub whole_last : (others : List Token) (t : Term) → IsTerm others t → runs others start ≡ Some (state.Done t)
@@ -342,7 +337,7 @@ stop_beyond {place = place} {other = other} stop (escape_in_words inside more {a
 stop_beyond {place = place} {other = other} stop (atom_utf8 more {at = here} stands t q u e) = inr (near_beyond place other stop (near_of stands (1) (subst (λ l. past_blank l ≡ None) (sym e) refl) (omega arith) (inl t) (λ s ran sound. near.atom_utf8 more (term_expected _ s ran t) q u e)))
 stop_beyond {place = place} {other = other} stop (key_utf8 white more {at = here} stands t q u b e) = inr (near_beyond place other stop (near_of stands (0) (subst (λ l. past_blank l ≡ None) (sym e) refl) (omega arith) (inr t) (λ s ran sound. near.key_utf8 white more (key_expected _ s ran t) q u b e)))
 stop_beyond {place = place} {other = other} stop (number {at = here} stands t b w) = inr (near_beyond place other stop (near_of stands (0) (begins_solid b) (omega arith) (inl t) (λ s ran sound. near.number (term_expected _ s ran t) b w)))
-stop_beyond stop (deep {rest = place} {after = after} {token = tok} {at = here} {tokens = others} stands begins too) = inr (deep_beyond stop here others place after tok stands begins too)
+stop_beyond stop (deep {rest = place} {token = tok} {at = here} {tokens = others} stands begins too) = inr (deep_beyond stop here others place tok stands begins too)
 stop_beyond stop (repeated {rest = place} outer inside {keys = keys} {key = key} stands starts pairs ahead again) = inl (refl, record { rest = place; outer = outer; inside = inside; keys = keys; key = key; stands = stands; starts = starts; pairs = pairs; ahead = ahead; again = again })
 stop_beyond stop (trailing {more = more} {byte = byte} {at = here} {tokens = others} {t = t} stands whole solid) = inr (trailing_beyond stop here byte others more t stands whole solid)
 stop_beyond stop (trailing_colon {rest = place} {word = word} white more {token = tok} {at = here} stands begins plain b e) = inr (colon_beyond stop here white place word more tok stands begins plain e)

@@ -1,20 +1,17 @@
 -- The tokens that were read at the front of a text.
-use Rattle.std.specs.Prelude.{IsTrue, IsFalse}
-use Rattle.std.proofs.Common.{◌≡◌, ℕ, suc, ◌+◌, ◌<◌, ◌≤◌, ◌⊎◌, inl, inr, Bool, true, false, List, [], ◌∷◌, ◌++◌, Option, Some, None, length, refl, sym, ap, ◌∙◌, subst, arith, append_assoc, ⊎_elim}
-use Rattle.std.proofs.lemmas.List.{append-nil, length-append}
+use Rattle.std.proofs.Common.{◌≡◌, ℕ, ◌<◌, ◌≤◌, List, [], ◌∷◌, ◌++◌, Some, None, length, refl, sym, ap, ◌∙◌, subst, arith, append_assoc}
 use Rattle.elixir_terms.specs.declared.error.TermCause.{TermCause}
 use Rattle.elixir_terms.specs.declared.state.State.{State}
 use Rattle.elixir_terms.specs.declared.token.Token.{Token}
 use Rattle.elixir_terms.specs.Lexing.{past_blank, IsNarrow}
-use Rattle.elixir_terms.specs.Local.{starts_with, is_plain, IsFree, Locally}
+use Rattle.elixir_terms.specs.Local.{IsFree, Locally}
 use Rattle.elixir_terms.specs.Machine.{step, expected, IsNew}
 use Rattle.elixir_terms.specs.Prefixes.{Leads, none as no_token, token as one_token}
 use Rattle.elixir_terms.specs.Tokens.{Begins, Blanks, none, blank, comment, line_end, AreTokens}
 use Rattle.elixir_terms.specs.Within.{deepest}
-use Rattle.elixir_terms.proofs.BlankLemmas.{blank_past, blanks_after, blanks_stop, blanks_meet, blanks_join}
-use Rattle.elixir_terms.proofs.FollowLemmas.{Like, same, like_after, like_self, Moves, moves, Shifts, shifts}
+use Rattle.elixir_terms.proofs.BlankLemmas.{blank_past, blanks_after, blanks_meet, blanks_join}
+use Rattle.elixir_terms.proofs.FollowLemmas.{Like, same, like_after, moves, shifts}
 use Rattle.elixir_terms.proofs.OpenLemmas.{runs}
-use Rattle.elixir_terms.proofs.OptionLemmas.{none_some}
 use Rattle.elixir_terms.proofs.SoundLemmas.{need}
 use Rattle.elixir_terms.proofs.TokenLaws.{begins_one, begins_solid, begins_shorter}
 

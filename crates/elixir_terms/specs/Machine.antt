@@ -1,5 +1,5 @@
 -- The states of the reader between tokens. What a text spells is said without them (Grammar.antt).
-use Rattle.std.specs.Prelude.{◌≡◌, ℕ, Bool, true, false, not, List, [], ◌∷◌, ◌++◌, length, map, Option, Some, None, option_map, if◌then◌else◌}
+use Rattle.std.specs.Prelude.{ℕ, Bool, true, false, not, List, [], ◌∷◌, ◌++◌, length, map, Option, Some, None, option_map, if◌then◌else◌}
 use Rattle.elixir_terms.specs.declared.bracket.Bracket.{Bracket}
 use Rattle.elixir_terms.specs.declared.bracket.Bracket.TheVariants as bracket
 use Rattle.elixir_terms.specs.declared.expected.Expected.{Expected}

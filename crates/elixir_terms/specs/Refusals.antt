@@ -1,5 +1,5 @@
 -- Where and why a text is refused.
-use Rattle.std.specs.Prelude.{◌≡◌, ◌≢◌, ℕ, suc, ◌+◌, ◌<◌, ◌≤◌, ◌⊎◌, List, [], ◌∷◌, ◌++◌, length, take, map, None, IsTrue, IsFalse, ℤ}
+use Rattle.std.specs.Prelude.{◌≡◌, ◌≢◌, ℕ, suc, ◌+◌, ◌<◌, ◌≤◌, ◌⊎◌, List, [], ◌∷◌, ◌++◌, length, take, None, IsTrue, IsFalse, ℤ}
 use Rattle.std.specs.Char.{is_ascii_digit}
 use Rattle.std.specs.Str.{IsUtf8, IsValidUpTo}
 use Rattle.elixir_terms.specs.declared.bracket.Bracket.TheVariants as bracket
@@ -9,7 +9,7 @@ use Rattle.elixir_terms.specs.declared.error.TermCause.TheVariants as cause
 use Rattle.elixir_terms.specs.declared.term.Term.{Term}
 use Rattle.elixir_terms.specs.declared.term.Term.TheVariants as term
 use Rattle.elixir_terms.specs.declared.token.Token.{Token}
-use Rattle.elixir_terms.specs.declared.token.Token.TheVariants.{Int, Key, Open, Comma, Arrow}
+use Rattle.elixir_terms.specs.declared.token.Token.TheVariants.{Int, Words, Key, Open, Comma, Arrow}
 use Rattle.elixir_terms.specs.Grammar.{IsTerm, Pair}
 use Rattle.elixir_terms.specs.Lexing.{past_blank, IsWide}
 use Rattle.elixir_terms.specs.Local.{IsOpening, IsCapital, IsDecimal, IsNoEscape, IsFloat, IsFree, is_plain, rank}
@@ -54,6 +54,12 @@ abbrev pub IsOneOf : Term → List Term → Type 0
 IsOneOf t [] = ⊥
 IsOneOf t (other ∷ others) = (t ≡ other) ⊎ IsOneOf t others
 
+-- a token stands at the front of the text, or words that may lack their end
+pub data IsStarted : List ℕ → Token → Type 0 where
+  whole_token : {text after : List ℕ} {token : Token} → Begins text token after → IsStarted text token
+  -- `~w(`
+  open_words : {text : List ℕ} (more : List ℕ) → text ≡ 126 ∷ 119 ∷ 40 ∷ more → IsStarted text (Words [])
+
 -- the term ends there: no colon directly follows it where it is a string or a bare atom
 abbrev pub IsEnded : List ℕ → List Token → List ℕ → Type 0
 IsEnded text (token ∷ []) rest = IsFree text token rest
@@ -82,7 +88,7 @@ pub data Holds : List ℕ → ℕ → TermCause → Type 0 where
   atom_utf8 : {text rest inside bytes : List ℕ} (more : List ℕ) {at : ℕ} {tokens : List Token} → StandsAt text at tokens rest → TakesTerm tokens → Quoted inside bytes → (IsUtf8 bytes → ⊥) → rest ≡ 58 ∷ 34 ∷ inside ++ 34 ∷ more → Holds text (suc at) cause.BadUtf8
   key_utf8 : {text rest inside bytes : List ℕ} (blank : ℕ) (more : List ℕ) {at : ℕ} {tokens : List Token} → StandsAt text at tokens rest → TakesKey tokens → Quoted inside bytes → (IsUtf8 bytes → ⊥) → IsTrue (is_blank blank) → rest ≡ 34 ∷ inside ++ 34 ∷ 58 ∷ blank ∷ more → Holds text at cause.BadUtf8
   number : {text rest after : List ℕ} {n : ℤ} {at : ℕ} {tokens : List Token} → StandsAt text at tokens rest → TakesTerm tokens → Begins rest (Int n) after → IsWide (Int n) → Holds text at cause.NumberTooBig
-  deep : {text rest after : List ℕ} {token : Token} {at : ℕ} {tokens : List Token} → StandsAt text at tokens rest → Begins rest token after → AreTooDeep (tokens ++ token ∷ []) → Holds text at cause.TooDeep
+  deep : {text rest : List ℕ} {token : Token} {at : ℕ} {tokens : List Token} → StandsAt text at tokens rest → IsStarted rest token → AreTooDeep (tokens ++ token ∷ []) → Holds text at cause.TooDeep
   repeated : {text rest : List ℕ} {at : ℕ} (outer inside : List Token) {keys : List Term} {key : Term} → StandsAt text at (outer ++ Open bracket.Map ∷ inside) rest → AreOpen (outer ++ Open bracket.Map ∷ inside) → Pairs inside keys → KeyAhead (outer ++ Open bracket.Map ∷ inside) rest key → IsOneOf key keys → Holds text at cause.DuplicateKey
   trailing : {text more : List ℕ} {byte at : ℕ} {tokens : List Token} {t : Term} → StandsAt text at tokens (byte ∷ more) → IsTerm tokens t → past_blank (byte ∷ more) ≡ None → Holds text at cause.TrailingText
   -- at the beginning of the text: a string or a bare atom, and a keyword's colon after it

@@ -1,5 +1,5 @@
 -- What a refusal says.
-use Rattle.std.specs.Prelude.{ℕ, List, Bool, true, false, IsFalse}
+use Rattle.std.specs.Prelude.{Bool, true, false}
 use Rattle.elixir_terms.specs.declared.error.TermCause.{TermCause}
 use Rattle.elixir_terms.specs.declared.error.TermCause.TheVariants.{OutOfMemory}
 

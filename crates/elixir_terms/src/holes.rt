@@ -1,8 +1,9 @@
 // Where terms are wanted, from the innermost open bracket out.
-ghost use Rattle.std.specs.Prelude.{◌≡◌, ◌≤◌, [], ◌∷◌, length, Some, IsTrue, ◌↔◌, MatchOption};
-ghost use Rattle.elixir_terms.specs.Levels.{Enters, HasRoom};
+ghost use Rattle.std.specs.Prelude.{◌≡◌, ◌+◌, ◌<◌, ◌≤◌, [], ◌∷◌, length, Some, IsTrue, ◌↔◌, MatchOption};
+ghost use Rattle.elixir_terms.specs.Levels.{Enters, HasRoom, levels};
 ghost use Rattle.elixir_terms.specs.Machine.{is_none};
 ghost use Rattle.elixir_terms.specs.Limits.{GivesWhere};
+ghost use Rattle.elixir_terms.specs.Within.{deepest};
 
 use crate::error::{Fault, TermCause};
 use crate::frame::Hole;
@@ -53,6 +54,13 @@ impl Holes {
         ensures { IsTrue result ↔ HasRoom self.now }
     {
         self.depth < DEEPEST
+    }
+
+    /// Whether one may stand as an element in the innermost hole's bracket.
+    pub fn has_room_inside(&self) -> bool
+        ensures { IsTrue result ↔ 1 + levels self.now < deepest }
+    {
+        self.depth + 1 < DEEPEST
     }
 
     /// Whether there is none.

@@ -1,5 +1,5 @@
 // The reader of a whole text.
-ghost use Rattle.std.specs.Prelude.{◌≡◌, ℕ, ◌+◌, ◌≤◌, ◌<◌, [], List, None, length, IsTrue, IsFalse, IfOk, IfErr};
+ghost use Rattle.std.specs.Prelude.{MatchOption, ◌≡◌, ℕ, ◌+◌, ◌≤◌, ◌<◌, [], List, None, length, IsTrue, IsFalse, IfOk, IfErr};
 ghost use Rattle.std.specs.Str.{IsUtf8};
 ghost use Rattle.elixir_terms.specs.declared.error.TermCause.TheVariants.{Unclosed};
 ghost use Rattle.elixir_terms.specs.declared.state.State.TheVariants.{Done};
@@ -8,7 +8,7 @@ ghost use Rattle.elixir_terms.specs.declared.token.Token.{Token};
 ghost use Rattle.elixir_terms.specs.Lexing.{past_blank};
 ghost use Rattle.elixir_terms.specs.Local.{takes};
 ghost use Rattle.elixir_terms.specs.Machine.{expected, step};
-ghost use Rattle.elixir_terms.specs.Reading.{Moves, Stops, noted};
+ghost use Rattle.elixir_terms.specs.Reading.{BeginsDeepWords, HasRoomAt, IsOpenAt, Moves, Stops, noted};
 ghost use Rattle.elixir_terms.specs.Refusals.{IsRefusal};
 ghost use Rattle.elixir_terms.specs.Refused.{is_memory};
 ghost use Rattle.elixir_terms.specs.Spells.{Spells};
@@ -129,8 +129,8 @@ fn read_token(alloc: Global, state: State, text: &[u8]) -> Result<(State, &[u8])
     ensures shorter { IfOk result (λ found. length found.1.now < length text.now) }
     ensures stops { IfErr result (λ fault. IsFalse (is_memory fault.cause) → (k : ℕ) × (fault.left + k ≡ length text.now) × Stops state text.now k fault.cause) }
 {
-    if let State::Done { .. } = state {
-        return Err(Fault::before(text, TermCause::TrailingText));
+    if let Some(cause) = stop_before(&state, text) {
+        return Err(Fault::before(text, cause));
     }
     let (token, after) = first_token(alloc, text, state.expected())?;
     let again = state.repeats_keyword(alloc, &token)?;
@@ -139,6 +139,30 @@ fn read_token(alloc: Global, state: State, text: &[u8]) -> Result<(State, &[u8])
         return Err(Fault::before(text, TermCause::DuplicateKey));
     }
     Ok((next, after))
+}
+
+/// Why nothing is read of the text, where that is plain before its first token is.
+fn stop_before(state: &State, text: &[u8]) -> Option<TermCause>
+    ensures { MatchOption result (IsOpenAt state.now text.now) (λ cause. Stops state.now text.now 0 cause) }
+{
+    if let State::Done { .. } = state {
+        return Some(TermCause::TrailingText);
+    }
+    if begins_deep_words(state, text) {
+        return Some(TermCause::TooDeep);
+    }
+    None
+}
+
+/// Whether words begin the text where a term may, and make too many levels. Their end may be missing.
+fn begins_deep_words(state: &State, text: &[u8]) -> bool
+    ensures room { IsFalse result → HasRoomAt state.now text.now }
+    ensures deep { IsTrue result → BeginsDeepWords state.now text.now }
+{
+    match text {
+        [b'~', b'w', b'(', ..] => !state.has_room_for_words(),
+        _ => false,
+    }
 }
 
 /// No text spells two terms.

@@ -1,6 +1,7 @@
 // What the reader knows between two tokens.
-ghost use Rattle.std.specs.Prelude.{◌≡◌, ◌≤◌, ℕ, List, IfOk, IsFalse, ◌↔◌};
+ghost use Rattle.std.specs.Prelude.{◌≡◌, ◌≤◌, ℕ, List, [], IfOk, IsTrue, IsFalse, ◌↔◌};
 ghost use Rattle.elixir_terms.specs.declared.frame.Slot.TheVariants.{Keyword, EntryValue};
+ghost use Rattle.elixir_terms.specs.declared.token.Token.TheVariants.{Words};
 ghost use Rattle.elixir_terms.specs.Levels.{Enters};
 ghost use Rattle.elixir_terms.specs.Machine.{placed, placed_in, begun, closed, at_part, at_key, at_element, at_separator, at_arrow, step, expected, depth, NewKeyword, NewEntry, BeginsWell, PartWell, ElementFits, HasLevels};
 ghost use Rattle.elixir_terms.specs.Limits.{GivesWhere};
@@ -91,6 +92,19 @@ impl State {
         match self {
             State::Element { holes, .. } | State::Arrow { holes, .. } => holes.len(),
             _ => 0,
+        }
+    }
+
+    /// Whether words are within the limit on levels here, where a term may stand.
+    #[tactic(auto, using(crate::proofs::DepthLemmas::inside_well, crate::proofs::DepthLemmas::well_inside))]
+    pub fn has_room_for_words(&self) -> bool
+        ensures room { IsTrue result → IsTrue (expected self.now).term → HasLevels self.now (Words []) }
+        ensures deep { IsFalse result → IsTrue (expected self.now).term × (HasLevels self.now (Words []) → ⊥) }
+    {
+        match self {
+            State::Value { holes } => holes.has_room(),
+            State::Element { frame, holes } => !frame.takes_part() || holes.has_room_inside(),
+            State::Separator { .. } | State::Arrow { .. } | State::Done { .. } => true,
         }
     }
 

@@ -1,6 +1,6 @@
 use Rattle.std.proofs.Common.{◌≤◌, length, subst, sym, arith}
 use Rattle.std.specs.Str.{IsValidUpTo}
-use Rattle.elixir_terms.specs.Refusals.{IsRefusal, long, utf8}
+use Rattle.elixir_terms.specs.Refusals.{long, utf8}
 use Rattle.elixir_terms.specs.Within.{longest}
 use Rattle.elixir_terms.proofs.reading.read.Goals as goal
 

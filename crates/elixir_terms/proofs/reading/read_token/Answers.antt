@@ -1,12 +1,12 @@
 use Rattle.std.proofs.Common.{sym, subst, arith}
 use Rattle.std.proofs.lemmas.Result.{err_from_is_err_and}
-use Rattle.elixir_terms.specs.Reading.{Stands, Stops, trailing, again}
+use Rattle.elixir_terms.specs.Reading.{Stands, Stops, again}
 use Rattle.elixir_terms.proofs.MoveLemmas.{old_by, stood_by, stops_lexed, stops_deep}
 use Rattle.elixir_terms.proofs.reading.read_token.Goals as goal
 
-pub returns-in-Done-clause-stops : goal.returns-in-Done-clause-stops
-returns-in-Done-clause-stops c = λ m.
-    (0, omega (arith, c.before-in-Done.ensures.place), subst (λ why. Stops c.args.state c.args.text.now 0 why) (sym c.before-in-Done.ensures.cause) (trailing c.in-Done.term c.in-Done.is))
+pub returns-in-Some-clause-stops : goal.returns-in-Some-clause-stops
+returns-in-Some-clause-stops c = λ m.
+    (0, omega (arith, c.before-in-Some.ensures.place), subst (λ why. Stops c.args.state c.args.text.now 0 why) (sym c.before-in-Some.ensures.cause) c.in-Some.ensures)
 
 pub returns-in_err-token : goal.returns-in_err-token
 returns-in_err-token c =
@@ -16,7 +16,7 @@ returns-in_err-token c =
       shorter = tt;
       stops = λ m.
           let r = c.in_err-token.ensures.refused m in
-          (r.0, r.1, stops_lexed c.args.state c.expected.result c.args.text.now r.0 c.in_err-token.field-0.0.cause c.expected.ensures c.in_default.not-Done r.2);
+          (r.0, r.1, stops_lexed c.args.state c.expected.result c.args.text.now r.0 c.in_err-token.field-0.0.cause c.expected.ensures c.in_default.ensures.0 c.in_default.ensures.1 r.2);
     })
 
 pub returns-in_err-next : goal.returns-in_err-next
