@@ -1,4 +1,3 @@
-pub mod ChildLemmas
 pub mod ListLemmas
 pub mod OneOrder
 pub mod OnePlan

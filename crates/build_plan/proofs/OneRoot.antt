@@ -27,7 +27,7 @@ use Rattle.build_plan.specs.declared.error.PlanError.TheVariants as refused
 use Rattle.build_plan.specs.Dependencies.{AreChildren, AreVersions, HasVersion, version_by}
 use Rattle.build_plan.specs.Faults.{of_child}
 use Rattle.build_plan.specs.Lines.{AreLines, IsLine, line_of}
-use Rattle.build_plan.proofs.ChildLemmas.{OneProject, once}
+use Rattle.build_plan.specs.ChildLaws.{OneProject, once}
 use Rattle.build_plan.proofs.ListLemmas.{one_at, same_zip}
 use Rattle.build_plan.proofs.Stages.{ListsRows, meets, passes, lists, LivesTogether, diverges, lives}
 use Rattle.build_plan.proofs.Steps.{HasOne, same_ok}

@@ -1,3 +1,4 @@
+pub mod ChildLaws
 pub mod Dependencies
 pub mod Faults
 pub mod Found
