@@ -1,8 +1,10 @@
+pub mod ChildFaults
 pub mod ChildLaws
 pub mod Dependencies
 pub mod Faults
 pub mod Found
 pub mod Jobs
+pub mod Kept
 pub mod Lines
 pub mod Needs
 pub mod Options

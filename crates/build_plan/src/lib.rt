@@ -10,6 +10,7 @@ mod dependencies;
 mod error;
 mod found;
 mod laws;
+mod manifests;
 mod planning;
 mod sources;
 mod versions;

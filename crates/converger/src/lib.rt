@@ -19,3 +19,4 @@ mod web;
 pub use converged::{ConvergeError, Converged, Versions, converge, for_env};
 pub use divergence::{Divergence, Divergences, Rule};
 pub use laws::{divergences_by_parts, one_divergence_list, one_reach};
+pub use reach::admits;
