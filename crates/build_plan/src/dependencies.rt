@@ -46,7 +46,9 @@ pub(crate) fn dependencies<S: Store>(
     ensures cause { Counted (S.faults store.old) (S.faults store.new) (is_read result) }
 {
     let mut manifests = Manifests::new(alloc, store);
-    take_stock(alloc, &mut manifests, root)
+    let inventory = take_stock(alloc, &mut manifests, root);
+    let Manifests { store: _, found: _ } = manifests;
+    inventory
 }
 
 /// Reads what the dependencies of a root declare, over manifests that are kept.

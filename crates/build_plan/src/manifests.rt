@@ -18,7 +18,6 @@ use std::collections::BTreeMap;
 use tree_store::Store;
 
 /// The manifests of dependencies in a store, each of which is read once.
-#[derive(Drop)]
 pub(crate) struct Manifests<'a, S> {
     pub store: &'a mut S,
     /// What was found, by folder.
