@@ -2,6 +2,9 @@
 use Rattle.std.proofs.Common.{◌≡◌, ℕ, eqb, filter, ◌∷◌, length, Bool, true, false, not, cond, List, Option, Some, None, option_and_then, Result, Ok, Err, IfSome, IsTrue, IsFalse, refl, sym, ◌∙◌, ap, subst, codes, bytes_eq, ◌&&◌, []}
 use Rattle.std.proofs.lemmas.Bool.{eqb-true, eqb-false}
 use Rattle.std.proofs.lemmas.List.{nil_from_length}
+use Rattle.std.specs.Str.{is_utf8, chars}
+use lib.Utf8.{encode}
+use Rattle.semver.proofs.OnLiterals.{semver_on_literals}
 use Rattle.elixir_terms.specs.declared.term.Term.{Term}
 use Rattle.mx_base.specs.declared.file.File.{File}
 use Rattle.mx_base.specs.Order.{bytes_at}
@@ -137,4 +140,5 @@ declared_here (Some files) app winner found decls lies told are =
 
 -- the version without a manifest
 pub no_version : IsTrue (is_version (codes "0.0.0"))
+unfolding semver_on_literals is_utf8 chars encode
 no_version = refl

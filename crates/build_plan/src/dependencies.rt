@@ -47,7 +47,11 @@ pub(crate) fn dependencies<S: Store>(
 {
     let mut manifests = Manifests::new(alloc, store);
     let inventory = take_stock(alloc, &mut manifests, root);
-    let Manifests { store: _, found: _ } = manifests;
+    // Taken apart, so that the store stands as it was left.
+    let Manifests {
+        store: _store,
+        found: _found,
+    } = manifests;
     inventory
 }
 

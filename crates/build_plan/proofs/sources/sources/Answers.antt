@@ -24,10 +24,11 @@ returns-then-len-eq-MOST_FILES-clause-read g c =
     let answered = subst (λ (o : Option (List File)). IfSome o (λ files. IsFound files found → c.in_ok-source.field-0 ≡ source_at found.dir files path)) at.invariant.sources c.in_ok-source.ensures.source in
     let one = subst (λ (o : Option File). IfSome told (λ files. IsFound files found → o ≡ source_at found.dir files path)) c.in-Some.is answered in
     let many = at.sources.ok.0 in
-    let size = c.len.ensures ∙ ap length c.as_slice-size.ensures in
+    let counts = c.len.ensures in
+    let size = ap length c.as_slice-size.ensures in
     let past : (most_files ≤ length at.sources.items) ⊎ (at.left < length file.bytes) =
     elim c.then-len-eq-MOST_FILES.branch [
-      | then-len-eq-MOST_FILES-via-then-len-eq-MOST_FILES w ↦ let full = w.if-len-eq-MOST_FILES.true in inl (omega (arith, full, many))
+      | then-len-eq-MOST_FILES-via-then-len-eq-MOST_FILES w ↦ let full = w.if-len-eq-MOST_FILES.true in inl (omega (arith, full, counts, many))
       | then-len-eq-MOST_FILES-via-else-len-eq-MOST_FILES+then-size-left w ↦ let big = w.if-size-left.true in inr (omega (arith, big, size))
     ] in
     passes told found c.args.room at.left at.sources.items file i path within is one at.invariant.found past at.invariant.room
@@ -50,17 +51,18 @@ loop-path-preserved g c =
     elim c.match-branch-2.branch [
       | in-Some+else-len-eq-MOST_FILES+else-size-left+in_ok-push w ↦
           let other = w.if-len-eq-MOST_FILES.false in
+          let counts = w.len.ensures in
           let long = at.sources.ok.0 in
           let pushed = ap length (ap (λ v. v.items) w.sources-is ∙ w.in_ok-push.ensures.items) ∙ length-append at.sources.items (w.in-Some.source ∷ []) in
           let before = at.invariant.few in
-          omega (arith, other, long, pushed, before)
+          omega (arith, other, counts, long, pushed, before)
       | in_default w ↦ let same = ap (λ v. length v.items) w.sources-is in let before = at.invariant.few in omega (arith, same, before)
     ] in
     let room : bytes_in c.match-branch-2.sources.items + c.match-branch-2.left ≡ c.args.room =
     elim c.match-branch-2.branch [
       | in-Some+else-len-eq-MOST_FILES+else-size-left+in_ok-push w ↦
           let fits = w.if-size-left.false in
-          let size = w.len.ensures ∙ ap length w.as_slice-size.ensures in
+          let size = ap length w.as_slice-size.ensures in
           let pushed = ap bytes_in (ap (λ v. v.items) w.sources-is ∙ w.in_ok-push.ensures.items) ∙ bytes-push at.sources.items w.in-Some.source in
           let rest = w.left-is in
           let before = at.invariant.room in
