@@ -60,7 +60,7 @@ loop-winner-preserved g c =
           (subst (λ (ws : List ℕ). IsFoundAt rows.rows (get_or ws i 0) found) c.winners-winner-items.ensures.winners here));
       found = found_more told at.found.items c.push.new.self.items found c.in_ok-push.ensures.items at.invariant.found
           (subst (λ (o : Option (List File)). IsFoundIn o found.dir found) at.invariant.sources c.in_ok-take.ensures.found).says;
-      kept = subst (λ (o : Option (List File)). AreKept o c.take.new.self.found) at.invariant.sources c.in_ok-take.ensures.kept;
+      kept = subst (λ (o : Option (List File)). AreKept o c.take.new.self.found.now) at.invariant.sources c.in_ok-take.ensures.kept;
       same_reference = c.in_ok-take.ensures.same_reference ∙ at.invariant.same_reference;
       sources = c.in_ok-take.ensures.sources ∙ at.invariant.sources;
       same = c.in_ok-take.ensures.same ∙ at.invariant.same;

@@ -12,15 +12,15 @@ returns-in_ok-clone-in-Hex-clause-refused g c =
 
 pub returns-in-Some-clause-at : goal.returns-in-Some-clause-at
 returns-in-Some-clause-at g c =
-    let here = kept_at (g.S.Store.sources c.args.self.now.store.now) c.args.self.now.found c.in-Path.dir c.in-Some.found c.requires c.in-Some.ensures.value in
+    let here = kept_at (g.S.Store.sources c.args.self.now.store.now) c.args.self.now.found.now c.in-Path.dir c.in-Some.found c.requires c.in-Some.ensures.value in
     c.in-Path.is ∙ ap (λ (d : List ℕ). Path d) (sym here.at)
 
 pub returns-in-Some-clause-found : goal.returns-in-Some-clause-found
 returns-in-Some-clause-found g c =
     let told = g.S.Store.sources c.args.self.now.store.now in
-    let here = kept_at told c.args.self.now.found c.in-Path.dir c.in-Some.found c.requires c.in-Some.ensures.value in
+    let here = kept_at told c.args.self.now.found.now c.in-Path.dir c.in-Some.found c.requires c.in-Some.ensures.value in
     subst (λ (d : List ℕ). IsFoundIn told d c.in-Some.found) (sym here.at) here
 
 pub returns-in-Some-clause-kept : goal.returns-in-Some-clause-kept
 returns-in-Some-clause-kept g c =
-    kept_fewer (g.S.Store.sources c.args.self.now.store.now) c.args.self.now.found c.remove.new.self c.in-Path.dir c.requires c.in-Some.ensures.updates
+    kept_fewer (g.S.Store.sources c.args.self.now.store.now) c.args.self.now.found.now c.remove.new.self c.in-Path.dir c.requires c.in-Some.ensures.updates
