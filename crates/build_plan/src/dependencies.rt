@@ -51,12 +51,7 @@ pub(crate) fn dependencies<S: Store>(
         store,
         found: &mut found,
     };
-    let inventory = take_stock(alloc, &mut manifests, root);
-    let Manifests {
-        store: _store,
-        found: _found,
-    } = manifests;
-    inventory
+    take_stock(alloc, &mut manifests, root)
 }
 
 /// Reads what the dependencies of a root declare, over manifests that are kept.

@@ -65,6 +65,14 @@ impl<S: Store> Manifests<'_, S> {
     }
 }
 
+impl<S> Drop for Manifests<'_, S> {
+    fn drop(self)
+        ensures { self.exit.0.now ≡ self.entry.store.now }
+    {
+        let Manifests { store: _, found: _ } = self;
+    }
+}
+
 impl<S: Store> Children for Manifests<'_, S> {
     type Fault = ChildFault;
 
