@@ -9,6 +9,7 @@ mod children;
 mod dependencies;
 mod error;
 mod found;
+mod laws;
 mod manifests;
 mod planning;
 mod sources;
@@ -16,4 +17,5 @@ mod versions;
 
 pub use children::ChildFault;
 pub use error::{DivergedLine, DivergedLines, PlanError};
+pub use laws::one_plan;
 pub use planning::plan;
