@@ -1,26 +1,40 @@
 -- What is found in a folder.
-use Rattle.std.proofs.Common.{◌≡◌, ℕ, Bool, true, false, not, cond, List, Option, Some, None, option_and_then, Result, Ok, Err, IfSome, IsTrue, IsFalse, refl, sym, ◌∙◌, ap, subst, codes, bytes_eq, ◌&&◌, []}
+use Rattle.std.proofs.Common.{◌≡◌, ℕ, eqb, filter, ◌∷◌, length, Bool, true, false, not, cond, List, Option, Some, None, option_and_then, Result, Ok, Err, IfSome, IsTrue, IsFalse, refl, sym, ◌∙◌, ap, subst, codes, bytes_eq, ◌&&◌, []}
+use Rattle.std.proofs.lemmas.Bool.{eqb-true, eqb-false}
+use Rattle.std.proofs.lemmas.List.{nil_from_length}
+use Rattle.std.specs.Str.{is_utf8, chars}
+use lib.Utf8.{encode}
+use Rattle.semver.proofs.OnLiterals.{semver_on_literals}
 use Rattle.elixir_terms.specs.declared.term.Term.{Term}
 use Rattle.mx_base.specs.declared.file.File.{File}
 use Rattle.mx_base.specs.Order.{bytes_at}
 use Rattle.tree_store.specs.Files.{paths_below, is_in_build}
+use Rattle.dep_options.specs.declared.decl.Decl.{Decl}
+use Rattle.dep_options.specs.declared.decl.DepSource.TheVariants.{Hex, Path}
+use Rattle.converger.specs.Reach.{admits}
 use Rattle.dep_options.specs.Views.{string_of, Named}
 use Rattle.dep_options.specs.Options.{first_of}
 use Rattle.project_file.specs.declared.project.Project.{Project}
 use Rattle.project_file.specs.declared.error.ProjectError.{ProjectError}
-use Rattle.project_file.specs.Files.{IsLoaded, manifest_at}
+use Rattle.project_file.specs.declared.error.ProjectError.TheVariants as project
+use Rattle.project_file.specs.Files.{IsLoaded, is_outside, manifest_at}
 use Rattle.project_file.specs.Manifest.{Stated, entries_of, stated, stated_by, stated_of, if_version, is_version, version_of, IsProject}
 use Rattle.project_file.specs.Manifest.IsProject.{bare, whole}
 use Rattle.build_plan.specs.declared.found.Found.{Found}
-use Rattle.build_plan.specs.Dependencies.{has_files, is_apart, is_empty}
+use Rattle.build_plan.specs.declared.children.ChildFault.{ChildFault}
+use Rattle.build_plan.specs.declared.children.ChildFault.TheVariants as child
+use Rattle.build_plan.specs.ChildFaults.{of_manifest}
+use Rattle.build_plan.specs.Dependencies.{AreChildren, declared_by, has_files, is_apart, is_empty}
+use Rattle.build_plan.specs.Dependencies.AreChildren.{unlocked, missing, refused, declared}
+use Rattle.build_plan.specs.Faults.{is_failed, is_memory}
 use Rattle.build_plan.specs.Found.{IsFound}
 
 version_if : (text version : List ℕ) → if_version text ≡ Some version → is_version version ≡ true
 version_if text version = at (is_version text) refl
   where
     at : (b : Bool) → is_version text ≡ b → cond b (Some text) None ≡ Some version → is_version version ≡ true
-    at true yes is = let same : text ≡ version = cc in subst (λ (v : List ℕ). is_version v ≡ true) same yes
-    at false no is = let clash : ◌≡◌ {A = Option (List ℕ)} None (Some version) = is in cc
+    at true good is = let same : text ≡ version = cc in subst (λ (v : List ℕ). is_version v ≡ true) same good
+    at false bad is = let clash : ◌≡◌ {A = Option (List ℕ)} None (Some version) = is in cc
 
 version_string : (text : Option (List ℕ)) (version : List ℕ) → option_and_then if_version text ≡ Some version → is_version version ≡ true
 version_string None version is = let clash : ◌≡◌ {A = Option (List ℕ)} None (Some version) = is in cc
@@ -58,7 +72,7 @@ pub apart_outside : (dir : List ℕ) → IsTrue (is_apart dir) → IsFalse (is_i
 apart_outside dir apart = both_hold (bytes_eq dir []) (is_in_build dir) apart
 
 negated : (a b : Bool) → a ≡ not b → b ≡ false → a ≡ true
-negated a b is no = is ∙ ap not no
+negated a b is empty = is ∙ ap not empty
 
 -- what was read in a folder where files lie is what the files say
 pub told_here : (told : Option (List File)) (found : Found) (dir path : List ℕ) → found.dir ≡ dir → IsFalse (is_empty found.paths.items) → IfSome told (λ files. has_files files dir ≡ not (is_empty found.paths.items)) → IfSome told (λ files. found.paths.items ≡ paths_below dir files) → path ≡ manifest_at dir → IfSome told (λ files. found.text ≡ bytes_at path files) → ((files : List File) → found.text ≡ bytes_at (manifest_at dir) files → IsLoaded files dir (Ok found.project)) → IfSome told (λ files. IsTrue (has_files files dir) × IsFound files found)
@@ -72,3 +86,59 @@ told_here (Some files) found dir path at some has paths place text loaded =
         loaded = subst (λ (d : List ℕ). IsLoaded files d (Ok found.project)) (sym at) (loaded files read);
       },
     )
+
+some_paths : (paths : List (List ℕ)) → (paths ≡ [] → ⊥) → IsFalse (is_empty paths)
+some_paths [] some = absurd (some refl)
+some_paths (path ∷ paths) some = refl
+
+-- the test whether there are any
+pub none_listed : (paths : List (List ℕ)) (count : ℕ) (empty : Bool) → length paths ≡ count → empty ≡ eqb count 0 → empty ≡ true → IsTrue (is_empty paths)
+none_listed paths count empty counts is nothing = ap is_empty (nil_from_length paths (counts ∙ eqb-true count 0 (sym is ∙ nothing)))
+
+pub some_listed : (paths : List (List ℕ)) (count : ℕ) (empty : Bool) → length paths ≡ count → empty ≡ eqb count 0 → empty ≡ false → IsFalse (is_empty paths)
+some_listed paths count empty counts is some = some_paths paths (λ nothing. eqb-false count 0 (sym is ∙ some) (sym counts ∙ ap length nothing))
+
+-- no file lies there
+pub missing_here : (told : Option (List File)) (app dir name folder : List ℕ) (paths : List (List ℕ)) → name ≡ app → folder ≡ dir → IsTrue (is_empty paths) → IfSome told (λ files. has_files files dir ≡ not (is_empty paths)) → IfSome told (λ files. (winner : Decl) → winner.source ≡ Path dir → AreChildren files app winner (Err (child.PathMissing name folder)))
+missing_here None app dir name folder paths same at empty has = tt
+missing_here (Some files) app dir name folder paths same at empty has =
+    λ winner lies.
+    subst (λ (n : List ℕ). AreChildren files app winner (Err (child.PathMissing n folder))) (sym same)
+    (subst (λ (d : List ℕ). AreChildren files app winner (Err (child.PathMissing app d))) (sym at) (missing dir lies (has ∙ ap not empty)))
+
+refused_as : (files : List File) (app dir path : List ℕ) (fault : ProjectError) → path ≡ manifest_at dir → IsTrue (has_files files dir) → (IsFalse (is_outside fault) → IsLoaded files dir (Err fault)) → IsFalse (is_failed (of_manifest path fault)) → IsFalse (is_memory (of_manifest path fault)) → (winner : Decl) → winner.source ≡ Path dir → AreChildren files app winner (Err (of_manifest path fault))
+refused_as files app dir path project.Read place has says inside free = cc
+refused_as files app dir path project.OutOfMemory place has says inside free = cc
+refused_as files app dir path (project.Term error) place has says inside free =
+    λ winner lies. subst (λ (p : List ℕ). AreChildren files app winner (Err (child.Project p (project.Term error)))) (sym place) (refused dir lies has (says refl))
+refused_as files app dir path project.Shape place has says inside free =
+    λ winner lies. subst (λ (p : List ℕ). AreChildren files app winner (Err (child.Project p project.Shape))) (sym place) (refused dir lies has (says refl))
+refused_as files app dir path (project.Options error) place has says inside free =
+    λ winner lies. subst (λ (p : List ℕ). AreChildren files app winner (Err (child.Project p (project.Options error)))) (sym place) (refused dir lies has (says refl))
+
+-- the manifest is refused
+pub refused_here : (told : Option (List File)) (app dir path : List ℕ) (paths : List (List ℕ)) (text : Option (List ℕ)) (fault : ProjectError) (result : ChildFault) → result ≡ of_manifest path fault → path ≡ manifest_at dir → IsFalse (is_empty paths) → IfSome told (λ files. has_files files dir ≡ not (is_empty paths)) → IfSome told (λ files. text ≡ bytes_at path files) → (IsFalse (is_outside fault) → (files : List File) → text ≡ bytes_at (manifest_at dir) files → IsLoaded files dir (Err fault)) → IsFalse (is_failed result) → IsFalse (is_memory result) → IfSome told (λ files. (winner : Decl) → winner.source ≡ Path dir → AreChildren files app winner (Err result))
+refused_here None app dir path paths text fault result is place some has read says inside free = tt
+refused_here (Some files) app dir path paths text fault result is place some has read says inside free =
+    subst (λ (r : ChildFault). (winner : Decl) → winner.source ≡ Path dir → AreChildren files app winner (Err r)) (sym is)
+    (refused_as files app dir path fault place (negated (has_files files dir) (is_empty paths) has some)
+    (λ told. says told files (read ∙ ap (λ (p : List ℕ). bytes_at p files) place))
+    (subst (λ (r : ChildFault). IsFalse (is_failed r)) is inside)
+    (subst (λ (r : ChildFault). IsFalse (is_memory r)) is free))
+
+-- nothing is locked
+pub unlocked_here : (told : Option (List File)) (app name package_name : List ℕ) (winner : Decl) → name ≡ app → winner.source ≡ Hex package_name → IfSome told (λ files. AreChildren files app winner (Err (child.NotLocked name)))
+unlocked_here None app name package_name winner same is = tt
+unlocked_here (Some files) app name package_name winner same is =
+    subst (λ (n : List ℕ). AreChildren files app winner (Err (child.NotLocked n))) (sym same) (unlocked package_name is)
+
+-- what an app declares, by what was found in its folder
+pub declared_here : (told : Option (List File)) (app : List ℕ) (winner : Decl) (found : Found) (decls : List Decl) → winner.source ≡ Path found.dir → IfSome told (λ files. IsTrue (has_files files found.dir) × IsFound files found) → decls ≡ filter (λ decl. admits decl.only winner.env) (declared_by found.project) → IfSome told (λ files. AreChildren files app winner (Ok decls))
+declared_here None app winner found decls lies told are = tt
+declared_here (Some files) app winner found decls lies told are =
+    subst (λ (ds : List Decl). AreChildren files app winner (Ok ds)) (sym are) (declared found.dir lies told.0 told.1.loaded)
+
+-- the version without a manifest
+pub no_version : IsTrue (is_version (codes "0.0.0"))
+unfolding semver_on_literals is_utf8 chars encode
+no_version = refl

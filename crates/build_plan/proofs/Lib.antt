@@ -1,4 +1,5 @@
 pub mod FolderLemmas
+pub mod KeptLemmas
 pub mod ListLemmas
 pub mod OneOrder
 pub mod OnePlan

@@ -1,7 +1,9 @@
 -- The sources that are found, one path after another.
-use Rattle.std.proofs.Common.{◌≡◌, ℕ, suc, ◌+◌, ◌⊎◌, inl, inr, codes, zero-add, add_assoc, arith, ◌<◌, ◌≤◌, List, [], ◌∷◌, ◌++◌, map, filter_map, drop, length, get_or, Option, Some, None, IfSome, sym, ◌∙◌, ap, subst, append_assoc, append-nil, add-one, drop-cons}
+use Rattle.std.proofs.Common.{◌≡◌, ℕ, suc, ◌+◌, ◌⊎◌, inl, inr, codes, arith, Bool, true, bytes_eq, ◌<◌, ◌≤◌, List, [], ◌∷◌, ◌++◌, map, sum, filter_map, drop, length, get_or, Option, Some, None, IfSome, sym, ◌∙◌, ap, subst, append_assoc, append-nil, add-one, drop-cons}
 use Rattle.std.specs.List.{cons_option}
+use Rattle.std.proofs.lemmas.Slice.Eq.{bytes_eq-Decides}
 use Rattle.std.proofs.lemmas.List.{map-append, drop_all, length-append}
+use Rattle.std.proofs.lemmas.List.Sums.{sum_by-append}
 use Rattle.mx_base.specs.declared.file.File.{File}
 use Rattle.mx_base.specs.Order.{ArePathsInOrder, AreInOrder, paths_of, bytes_at}
 use Rattle.mx_base.specs.Path.{child_of, folder_text, path_from}
@@ -85,12 +87,14 @@ goes_to_end (Some files) found sources i all so_far =
     ∙ ap (filter_map (source_at found.dir files)) says.paths
 
 pub bytes-append : (files more : List File) → bytes_in (files ++ more) ≡ bytes_in files + bytes_in more
-bytes-append [] more = sym (zero-add (bytes_in more))
-bytes-append (file ∷ files) more =
-    ap (λ (n : ℕ). length file.bytes + n) (bytes-append files more) ∙ sym (add_assoc (length file.bytes) (bytes_in files) (bytes_in more))
+bytes-append files more =
+    let size : File → ℕ = λ file. length file.bytes in
+    ap sum (map-append size files more) ∙ sum_by-append (λ n. n) (map size files) (map size more)
 
 pub bytes-push : (files : List File) (file : File) → bytes_in (files ++ file ∷ []) ≡ bytes_in files + length file.bytes
-bytes-push files file = let pushed = bytes-append files (file ∷ []) in omega (arith, pushed)
+bytes-push files file =
+    let pushed : bytes_in (files ++ file ∷ []) ≡ bytes_in files + (0 + length file.bytes) = bytes-append files (file ∷ []) in
+    omega (arith, pushed)
 
 -- a file that is too many, or too large for what is left
 pub passes : (told : Option (List File)) (found : Found) (room left : ℕ) (sources : List File) (file : File) (i : ℕ) (path : List ℕ) → i < length found.paths.items → path ≡ get_or found.paths.items i path → IfSome told (λ files. IsFound files found → Some file ≡ source_at found.dir files path) → GoesOn told found found.paths.items i sources → (most_files ≤ length sources) ⊎ (left < length file.bytes) → bytes_in sources + left ≡ room → IfSome told (λ files. IsFound files found → (most_files < length (sources_of found.dir files)) ⊎ (room < bytes_in (sources_of found.dir files)))
@@ -114,3 +118,6 @@ pub manifest_told : (told : Option (List File)) (found : Found) (path rest : Lis
 manifest_told None found path rest place is = tt
 manifest_told (Some files) found path rest place is =
     λ says. says.text ∙ ap (λ (p : List ℕ). bytes_at p files) (sym (place ∙ ap (child_of found.dir) is))
+
+pub same_bytes : (rest name read : List ℕ) (equal : Bool) → read ≡ rest → equal ≡ bytes_eq read name → equal ≡ true → rest ≡ name
+same_bytes rest name read equal is test same = sym is ∙ (bytes_eq-Decides read name).0 (sym test ∙ same)

@@ -1,10 +1,14 @@
 -- What was found for winners.
-use Rattle.std.proofs.Common.{◌≡◌, ℕ, ◌<◌, Bool, true, false, List, [], ◌∷◌, length, slice_get, Option, Some, Ok, Err, IsTrue, IsFalse, ◌⊎◌, inl, inr, refl, sym, ◌∙◌, ap, subst}
+use Rattle.std.proofs.Common.{◌≡◌, ℕ, ◌<◌, ◌++◌, get_or, Bool, true, false, List, [], ◌∷◌, length, slice_get, Option, Some, None, Result, Ok, Err, IfErr, IfSome, IsTrue, IsFalse, ◌⊎◌, inl, inr, refl, sym, ◌∙◌, ap, subst}
 use Rattle.std.specs.List.{All, Contains}
-use Rattle.std.proofs.lemmas.List.Elements.{All-nil, All-cons, All-contains}
-use Rattle.std.proofs.lemmas.Option.{same_Some, slice_get_within}
+use Rattle.std.specs.Result.{IsErrAnd}
+use Rattle.std.proofs.lemmas.List.Elements.{All-nil, All-cons, All-contains, All-push}
+use Rattle.std.proofs.lemmas.Option.{same_Some, slice_get_read, slice_get_within}
 use Rattle.mx_base.specs.declared.file.File.{File}
 use Rattle.dep_options.specs.declared.decl.Decl.{Decl}
+use Rattle.dep_options.specs.declared.decl.DepSource.TheVariants.{Path}
+use Rattle.build_plan.specs.declared.found.Found.{Found}
+use Rattle.build_plan.specs.Found.{IsFound, IsFoundAt, IsSound}
 use Rattle.dep_rows.specs.declared.error.RowsError.{RowsError}
 use Rattle.dep_rows.specs.declared.error.RowsError.TheVariants as listing
 use Rattle.dep_rows.specs.declared.row.Row.{Row}
@@ -15,7 +19,7 @@ use Rattle.build_plan.specs.declared.children.ChildFault.{ChildFault}
 use Rattle.build_plan.specs.declared.children.ChildFault.TheVariants as child
 use Rattle.build_plan.specs.declared.error.PlanError.{PlanError}
 use Rattle.build_plan.specs.ChildFaults.{of_rows, RefusesWinner}
-use Rattle.build_plan.specs.Dependencies.{AreChildren}
+use Rattle.build_plan.specs.Dependencies.{AreChildren, has_files}
 use Rattle.build_plan.specs.Faults.{is_failed, is_memory, of_child, is_read_error, is_memory_error}
 use Rattle.build_plan.specs.Plan.{RefusesRows}
 use Rattle.build_plan.specs.ChildLaws.{OneProject, once}
@@ -74,3 +78,43 @@ refuses files root (listing.Children fault) cause read memory =
     ]
 refuses files root listing.TooManyRows cause read memory = inr (cause, refl)
 refuses files root listing.OutOfMemory cause read memory = cc
+
+read_failed : (fault : ChildFault) → IsFalse (is_read_error (of_child fault)) → IsFalse (is_failed fault)
+read_failed child.Read is = is
+read_failed (child.PathMissing app dir) is = refl
+read_failed (child.Project path error) is = refl
+read_failed (child.NotLocked app) is = refl
+read_failed child.OutOfMemory is = refl
+
+wanted_memory : (fault : ChildFault) → IsFalse (is_memory_error (of_child fault)) → IsFalse (is_memory fault)
+wanted_memory child.Read is = refl
+wanted_memory (child.PathMissing app dir) is = refl
+wanted_memory (child.Project path error) is = refl
+wanted_memory (child.NotLocked app) is = refl
+wanted_memory child.OutOfMemory is = is
+
+-- a second look refuses no winner of the rows
+pub refused_later : OneProject → (told : Option (List File)) (root : List Decl) (rows : List Row) (winners : List ℕ) (fault : ChildFault) → IfSome told (λ files. AreRows (AreChildren files) root rows winners) → (IsFalse (is_failed fault) → IsFalse (is_memory fault) → IfSome told (λ files. RefusesWinner files rows winners fault)) → IsFalse (is_read_error (of_child fault)) → IsFalse (is_memory_error (of_child fault)) → IfSome told (λ files. RefusesRows files root (of_child fault))
+refused_later one None root rows winners fault are refused read memory = tt
+refused_later one (Some files) root rows winners fault are refused read memory =
+    absurd (none_refused one files root rows winners fault are (refused (read_failed fault read) (wanted_memory fault memory)))
+
+-- what a question mark hands on
+pub handed_on : {X E : Type 0} (result : Result X E) (error : E) (Q : E → Type 0) → IsErrAnd result (λ e. e ≡ error) → Q error → IfErr result Q
+handed_on (Ok x) error Q is holds = tt
+handed_on (Err e) error Q is holds = subst Q (sym is) holds
+
+-- the winner at a place is refused
+pub winner_refused : (told : Option (List File)) (rows : List Row) (winners : List ℕ) (place : ℕ) (row : Row) (fault : ChildFault) → Contains winners place → place < length rows → row ≡ get_or rows place row → IfSome told (λ files. AreChildren files row.app row.decl (Err fault)) → IfSome told (λ files. RefusesWinner files rows winners fault)
+winner_refused None rows winners place row fault among below is answer = tt
+winner_refused (Some files) rows winners place row fault among below is answer =
+    record { place = place; row = row; wins = among; stands = slice_get_read rows (length rows) place row refl below is; answer = answer }
+
+-- this was found for the winner at a place
+pub found_at : (rows : List Row) (place : ℕ) (row : Row) (found : Found) → place < length rows → row ≡ get_or rows place row → row.decl.source ≡ Path found.dir → IsSound found → IsFoundAt rows place found
+found_at rows place row found below is lies sound =
+    record { row = row; stands = slice_get_read rows (length rows) place row refl below is; source = lies; sound = sound }
+
+pub found_more : (told : Option (List File)) (all more : List Found) (found : Found) → more ≡ all ++ found ∷ [] → IfSome told (λ files. All (IsFound files) all) → IfSome told (λ files. IsTrue (has_files files found.dir) × IsFound files found) → IfSome told (λ files. All (IsFound files) more)
+found_more None all more found is are here = tt
+found_more (Some files) all more found is are here = subst (λ (fs : List Found). All (IsFound files) fs) (sym is) (All-push (IsFound files) all found are here.1)

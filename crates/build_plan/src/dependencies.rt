@@ -20,6 +20,7 @@ use dep_options::Decl;
 use dep_rows::{Rows, RowsError, rows};
 use project_file::one_project;
 use std::alloc::Global;
+use std::collections::BTreeMap;
 use tree_store::Store;
 
 /// The declarations of a project, and what is found in the folders of the winners, in their order.
@@ -45,7 +46,11 @@ pub(crate) fn dependencies<S: Store>(
     ensures returned { S.folder_faults store.new ≡ S.folder_faults store.old }
     ensures cause { Counted (S.faults store.old) (S.faults store.new) (is_read result) }
 {
-    let mut manifests = Manifests::new(alloc, store);
+    let mut found = BTreeMap::new(alloc);
+    let mut manifests = Manifests {
+        store,
+        found: &mut found,
+    };
     take_stock(alloc, &mut manifests, root)
 }
 
@@ -55,7 +60,7 @@ fn take_stock<S: Store>(
     manifests: &mut Manifests<'_, S>,
     root: &[Decl],
 ) -> Result<Inventory, PlanError>
-    requires { AreKept (S.sources manifests.old.store.now) manifests.old.found }
+    requires { AreKept (S.sources manifests.old.store.now) manifests.old.found.now }
     ensures rows { IfOk result (λ all. IfSome (S.sources manifests.old.store.now) (λ files. AreRows (AreChildren files) root.now all.rows.rows all.rows.winners)) }
     ensures within { IfOk result (λ all. IsWithinLimit all.rows) }
     ensures at { IfOk result (λ all. AllZip (IsFoundAt all.rows.rows) all.rows.winners all.found.items) }
@@ -79,7 +84,7 @@ fn found_for<S: Store>(
     manifests: &mut Manifests<'_, S>,
     rows: &Rows,
 ) -> Result<Vec<Found>, ChildFault>
-    requires { AreKept (S.sources manifests.old.store.now) manifests.old.found }
+    requires { AreKept (S.sources manifests.old.store.now) manifests.old.found.now }
     ensures at { IfOk result (λ all. AllZip (IsFoundAt rows.now.rows) rows.now.winners all.items) }
     ensures found { IfOk result (λ all. IfSome (S.sources manifests.old.store.now) (λ files. All (IsFound files) all.items)) }
     ensures refused { IfErr result (λ fault. IsFalse (is_failed fault) → IsFalse (is_memory fault) → IfSome (S.sources manifests.old.store.now) (λ files. RefusesWinner files rows.now.rows rows.now.winners fault)) }

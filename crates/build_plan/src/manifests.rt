@@ -18,25 +18,13 @@ use std::collections::BTreeMap;
 use tree_store::Store;
 
 /// The manifests of dependencies in a store, each of which is read once.
-#[derive(Drop)]
 pub(crate) struct Manifests<'a, S> {
     pub store: &'a mut S,
     /// What was found, by folder.
-    pub found: BTreeMap<RelPath, Found>,
+    pub found: &'a mut BTreeMap<RelPath, Found>,
 }
 
-impl<'a, S: Store> Manifests<'a, S> {
-    pub(crate) fn new(alloc: Global, store: &'a mut S) -> Manifests<'a, S>
-        ensures same_reference { result.store.ghost_name ≡ store.entry.ghost_name }
-        ensures store { result.store.now ≡ store.old }
-        ensures kept { AreKept (S.sources store.old) result.found }
-    {
-        Manifests {
-            store,
-            found: BTreeMap::new(alloc),
-        }
-    }
-
+impl<S: Store> Manifests<'_, S> {
     /// What lies in the folder of a winner. It isn't kept any more.
     pub(crate) fn take(
         &mut self,
@@ -44,11 +32,11 @@ impl<'a, S: Store> Manifests<'a, S> {
         app: &AppName,
         winner: &Decl,
     ) -> Result<Found, ChildFault>
-        requires { AreKept (S.sources self.old.store.now) self.old.found }
+        requires { AreKept (S.sources self.old.store.now) self.old.found.now }
         ensures at { IfOk result (λ found. winner.now.source ≡ DepSource.Path found.dir) }
         ensures found { IfOk result (λ found. IsFoundIn (S.sources self.old.store.now) found.dir found) }
         ensures refused { IfErr result (λ fault. IsFalse (is_failed fault) → IsFalse (is_memory fault) → IfSome (S.sources self.old.store.now) (λ files. AreChildren files app.now winner.now (Err fault))) }
-        ensures kept { AreKept (S.sources self.old.store.now) self.new.found }
+        ensures kept { AreKept (S.sources self.old.store.now) self.new.found.now }
         ensures same_reference { self.new.store.ghost_name ≡ self.old.store.ghost_name }
         ensures sources { S.sources self.new.store.now ≡ S.sources self.old.store.now }
         ensures same { S.slot self.new.store.now ≡ S.slot self.old.store.now }
@@ -66,14 +54,22 @@ impl<'a, S: Store> Manifests<'a, S> {
 
     /// Keeps what was found in a folder.
     fn keep(&mut self, found: Found) -> Result<(), AllocError>
-        requires kept { AreKept (S.sources self.old.store.now) self.old.found }
+        requires kept { AreKept (S.sources self.old.store.now) self.old.found.now }
         requires found { IsFoundIn (S.sources self.old.store.now) found.dir found }
-        ensures kept { AreKept (S.sources self.old.store.now) self.new.found }
+        ensures kept { AreKept (S.sources self.old.store.now) self.new.found.now }
         ensures same_reference { self.new.store.ghost_name ≡ self.old.store.ghost_name }
         ensures store { self.new.store.now ≡ self.old.store.now }
     {
         self.found.insert(found.dir.clone()?, found)?;
         Ok(())
+    }
+}
+
+impl<S> Drop for Manifests<'_, S> {
+    fn drop(self)
+        ensures { self.exit.0.now ≡ self.entry.store.now }
+    {
+        let Manifests { store: _, found: _ } = self;
     }
 }
 
@@ -96,7 +92,7 @@ impl<S: Store> Children for Manifests<'_, S> {
 
     ghost made_over = { λ manifests. record { reference = manifests.store.ghost_name; sources = S.sources manifests.store.now; slot = S.slot manifests.store.now; folder_faults = S.folder_faults manifests.store.now } };
 
-    ghost stands = { λ manifests. AreKept (S.sources manifests.store.now) manifests.found };
+    ghost stands = { λ manifests. AreKept (S.sources manifests.store.now) manifests.found.now };
 
     ghost one = { λ manifests. children_once (S.sources manifests.store.now) };
 
