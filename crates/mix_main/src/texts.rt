@@ -8,14 +8,15 @@ ghost use Rattle.mix_main.specs.Status.{is_write_fault, status_of, EndsWords};
 ghost use Rattle.mix_main.specs.declared.stop.Stop.TheVariants.{Refused, Write};
 ghost use Rattle.mix_main.specs.Texts.{refusal_line, memory_line, bad_words_line, manifest_text, term_text, term_cause, options_text, option_cause, named_cause};
 
-use crate::refusal::Refusal;
 use crate::report::push_number;
 use crate::status::Status;
 use crate::stop::Stop;
+use build_plan::{DivergedLine, PlanError};
+use converger::Rule;
 use dep_options::{OptionCause, OptionError};
-use elixir_terms::{TermCause, TermError};
-use mx_base::{Sink, Text};
-use project_file::ProjectError;
+use elixir_terms::{Feature, TermCause, TermError};
+use mx_base::{AppName, Sink, Text};
+use project_file::{ProjectError, SettingsError};
 use std::alloc::{AllocError, Global};
 
 /// Writes a text, with which a status goes.
@@ -64,7 +65,7 @@ fn bad_words_line(alloc: Global, at: usize) -> Result<Vec<u8>, AllocError>
 
 /// Writes the line of a refusal.
 #[tactic(auto, using(crate::proofs::EndLemmas::says_tells, crate::proofs::EndLemmas::says_takes))]
-pub(crate) fn say_refusal<K: Sink>(alloc: Global, refusal: &Refusal, out: &mut K) -> Status
+pub(crate) fn say_refusal<K: Sink>(alloc: Global, refusal: &PlanError, out: &mut K) -> Status
     ensures tells { Tells result (Refused refusal.now) }
     ensures takes { TakesLine result (Refused refusal.now) (K.taken out.old) (K.taken out.new) }
     ensures cause { Counted (K.faults out.old) (K.faults out.new) (is_write_fault result) }
@@ -75,37 +76,39 @@ pub(crate) fn say_refusal<K: Sink>(alloc: Global, refusal: &Refusal, out: &mut K
     }
 }
 
-fn status_of(refusal: &Refusal) -> Status
+fn status_of(refusal: &PlanError) -> Status
     ensures { result ≡ status_of refusal.now }
 {
     match refusal {
-        Refusal::NoProject | Refusal::PathMissing { .. } => Status::Missing,
-        Refusal::Project { .. } => Status::Refused,
+        PlanError::Settings(_)
+        | PlanError::Project { .. }
+        | PlanError::TooManyRows
+        | PlanError::TooLarge(_) => Status::Refused,
+        PlanError::Diverged(_) | PlanError::Cycle(_) => Status::Conflict,
+        PlanError::NoProject | PlanError::PathMissing { .. } | PlanError::NotLocked(_) => {
+            Status::Missing
+        }
+        PlanError::Read => Status::ReadFault,
+        PlanError::OutOfMemory => Status::OutOfMemory,
     }
 }
 
-fn refusal_line(alloc: Global, refusal: &Refusal) -> Result<Vec<u8>, AllocError>
+fn refusal_line(alloc: Global, refusal: &PlanError) -> Result<Vec<u8>, AllocError>
     ensures { IfOk result (λ line. line.items ≡ refusal_line refusal.now) }
 {
-    let mut line = Vec::from_slice(alloc, b"mixc: ")?;
+    let mut line = Vec::new(alloc);
     match refusal {
-        Refusal::NoProject => line.extend_from_slice(b"no project\n")?,
-        Refusal::Project { path, fault } => {
-            line.extend_from_slice(path.as_str().as_bytes())?;
-            line.extend_from_slice(b": ")?;
-            push_manifest(alloc, &mut line, fault)?;
-            line.extend_from_slice(b"\n")?;
-        }
-        Refusal::PathMissing { app, dir } => {
-            line.extend_from_slice(b"path missing: ")?;
-            line.extend_from_slice(app.as_str().as_bytes())?;
-            line.extend_from_slice(b" ")?;
-            line.extend_from_slice(dir.as_str().as_bytes())?;
+        PlanError::Diverged(lines) => push_diverged(alloc, &mut line, lines.as_slice())?,
+        refusal => {
+            line.extend_from_slice(b"mixc: ")?;
+            push_refusal(alloc, &mut line, refusal)?;
             line.extend_from_slice(b"\n")?;
         }
     }
     Ok(line)
 }
+
+// TODO(helper): push_refusal, push_diverged, push_settings
 
 // Why a manifest is refused.
 fn push_manifest(alloc: Global, line: &mut Vec<u8>, fault: &ProjectError) -> Result<(), AllocError>
@@ -130,14 +133,7 @@ fn push_term(alloc: Global, line: &mut Vec<u8>, error: &TermError) -> Result<(),
     line.extend_from_slice(term_cause(error.cause))
 }
 
-fn term_cause(cause: TermCause) -> &'static [u8]
-    ensures { result.now ≡ term_cause cause }
-{
-    match cause {
-        TermCause::NotRead => b"NotRead",
-        TermCause::OutOfMemory => b"OutOfMemory",
-    }
-}
+// TODO(helper): term_cause with its features
 
 // Which declaration is refused, and why.
 fn push_options(alloc: Global, line: &mut Vec<u8>, error: &OptionError) -> Result<(), AllocError>
