@@ -114,9 +114,13 @@ who (Some app) = app
 abbrev pub place_text : Option (List ℕ) → ℕ → List ℕ
 place_text by index = who by ++ codes " at " ++ decimal index
 
+-- a rule and the app that breaks it
+abbrev pub rule_text : Rule → List ℕ → List ℕ
+rule_text rule app = rule_name rule ++ codes " " ++ app ++ codes ": "
+
 -- a divergence: its rule and its app, the winner, and the other
 abbrev pub diverged_line : DivergedLine → List ℕ
-diverged_line line = fault_line (rule_name line.rule ++ codes " " ++ line.app ++ codes ": " ++ place_text line.winner_by line.winner_index ++ codes ", " ++ place_text line.other_by line.other_index)
+diverged_line line = fault_line (rule_text line.rule line.app ++ place_text line.winner_by line.winner_index ++ codes ", " ++ place_text line.other_by line.other_index)
 
 abbrev pub after_space : List ℕ → List ℕ
 after_space app = codes " " ++ app

@@ -8,7 +8,9 @@
 mod clear;
 mod command;
 mod fill;
+mod manifest_texts;
 mod plain;
+mod refusal_texts;
 mod report;
 mod status;
 mod stop;
@@ -19,5 +21,11 @@ pub use command::run;
 pub use plain::plain_compile;
 pub use status::Status;
 
+#[cfg(test)]
+mod fault_tests;
+#[cfg(test)]
+mod plan_tests;
+#[cfg(test)]
+mod refusal_tests;
 #[cfg(test)]
 mod tests;

@@ -15,7 +15,7 @@ use crate::report::{any_failed, report_of};
 use crate::status::Status;
 use crate::stop::Stop;
 use crate::texts::say_stop;
-use build_plan::plan;
+use build_plan::{one_plan, plan};
 use compile_model::{Compiler, seq_build};
 use mx_base::{AppName, Sink};
 use std::alloc::Global;
@@ -60,6 +60,7 @@ pub fn plain_compile<S: Store, C: Compiler, K: Sink>(
     ensures here { AllHere (S.slot store.new) }
     ensures sources { S.sources store.new ≡ S.sources store.old }
 {
+    one_plan();
     match compile(alloc, env, store, compiler, out) {
         Ok(false) => Status::Built,
         Ok(true) => Status::SomeFailed,

@@ -1,22 +1,19 @@
 // The lines that say why there is no report.
-ghost use Rattle.std.specs.Prelude.{◌≡◌, ◌≢◌, ◌⊎◌, ◌++◌, IfOk, OnOk, IsFalse};
+ghost use Rattle.std.specs.Prelude.{◌≡◌, ◌≢◌, ◌⊎◌, IfOk, IsFalse};
 ghost use Rattle.mx_base.specs.Sink.{with_bytes};
 ghost use Rattle.mix_main.specs.declared.status.Status.TheVariants.{BadWords, OutOfMemory, WriteFault};
 ghost use Rattle.mx_base.specs.Causes.{Counted};
 ghost use Rattle.mix_main.specs.Ends.{Says, Tells, TakesLine, TakesPrefix, FaultLine};
 ghost use Rattle.mix_main.specs.Status.{is_write_fault, status_of, EndsWords};
 ghost use Rattle.mix_main.specs.declared.stop.Stop.TheVariants.{Refused, Write};
-ghost use Rattle.mix_main.specs.Texts.{refusal_line, memory_line, bad_words_line, manifest_text, term_text, term_cause, options_text, option_cause, named_cause};
+ghost use Rattle.mix_main.specs.Texts.{memory_line, bad_words_line};
 
+use crate::refusal_texts::refusal_line;
 use crate::report::push_number;
 use crate::status::Status;
 use crate::stop::Stop;
-use build_plan::{DivergedLine, PlanError};
-use converger::Rule;
-use dep_options::{OptionCause, OptionError};
-use elixir_terms::{Feature, TermCause, TermError};
-use mx_base::{AppName, Sink, Text};
-use project_file::{ProjectError, SettingsError};
+use build_plan::PlanError;
+use mx_base::Sink;
 use std::alloc::{AllocError, Global};
 
 /// Writes a text, with which a status goes.
@@ -91,83 +88,6 @@ fn status_of(refusal: &PlanError) -> Status
         PlanError::Read => Status::ReadFault,
         PlanError::OutOfMemory => Status::OutOfMemory,
     }
-}
-
-fn refusal_line(alloc: Global, refusal: &PlanError) -> Result<Vec<u8>, AllocError>
-    ensures { IfOk result (λ line. line.items ≡ refusal_line refusal.now) }
-{
-    let mut line = Vec::new(alloc);
-    match refusal {
-        PlanError::Diverged(lines) => push_diverged(alloc, &mut line, lines.as_slice())?,
-        refusal => {
-            line.extend_from_slice(b"mixc: ")?;
-            push_refusal(alloc, &mut line, refusal)?;
-            line.extend_from_slice(b"\n")?;
-        }
-    }
-    Ok(line)
-}
-
-// TODO(helper): push_refusal, push_diverged, push_settings
-
-// Why a manifest is refused.
-fn push_manifest(alloc: Global, line: &mut Vec<u8>, fault: &ProjectError) -> Result<(), AllocError>
-    ensures { OnOk result (line.new.items ≡ line.old.items ++ manifest_text fault.now) }
-{
-    match fault {
-        ProjectError::Read => line.extend_from_slice(b"read fault"),
-        ProjectError::Term(error) => push_term(alloc, line, error),
-        ProjectError::Shape => line.extend_from_slice(b"shape"),
-        ProjectError::Options(error) => push_options(alloc, line, error),
-        ProjectError::OutOfMemory => line.extend_from_slice(b"out of memory"),
-    }
-}
-
-// Why a text is no term, and where.
-fn push_term(alloc: Global, line: &mut Vec<u8>, error: &TermError) -> Result<(), AllocError>
-    ensures { OnOk result (line.new.items ≡ line.old.items ++ term_text error.now) }
-{
-    line.extend_from_slice(b"refused at ")?;
-    push_number(alloc, line, error.at)?;
-    line.extend_from_slice(b": ")?;
-    line.extend_from_slice(term_cause(error.cause))
-}
-
-// TODO(helper): term_cause with its features
-
-// Which declaration is refused, and why.
-fn push_options(alloc: Global, line: &mut Vec<u8>, error: &OptionError) -> Result<(), AllocError>
-    ensures { OnOk result (line.new.items ≡ line.old.items ++ options_text error.now) }
-{
-    line.extend_from_slice(b"dependency ")?;
-    push_number(alloc, line, error.index)?;
-    line.extend_from_slice(b": ")?;
-    push_cause(line, &error.cause)?;
-    Ok(())
-}
-
-fn push_cause(line: &mut Vec<u8>, cause: &OptionCause) -> Result<(), AllocError>
-    ensures { OnOk result (line.new.items ≡ line.old.items ++ option_cause cause.now) }
-{
-    match cause {
-        OptionCause::Shape => line.extend_from_slice(b"Shape"),
-        OptionCause::BadRequirement => line.extend_from_slice(b"BadRequirement"),
-        OptionCause::UnknownOption(name) => push_named(line, b"UnknownOption", name),
-        OptionCause::UnsupportedSource(name) => push_named(line, b"UnsupportedSource", name),
-        OptionCause::BadValue(name) => push_named(line, b"BadValue", name),
-        OptionCause::NoSource => line.extend_from_slice(b"NoSource"),
-        OptionCause::OutOfMemory => line.extend_from_slice(b"OutOfMemory"),
-    }
-}
-
-// A cause with the name that it is about.
-fn push_named(line: &mut Vec<u8>, cause: &[u8], name: &Text) -> Result<(), AllocError>
-    ensures { OnOk result (line.new.items ≡ line.old.items ++ named_cause cause.now name.now) }
-{
-    line.extend_from_slice(cause)?;
-    line.extend_from_slice(b"(")?;
-    line.extend_from_slice(name.as_slice())?;
-    line.extend_from_slice(b")")
 }
 
 /// Writes the line of a stop.
