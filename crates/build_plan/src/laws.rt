@@ -8,5 +8,4 @@ ghost use Rattle.build_plan.specs.Plan.{IsPlan};
 /// The files of a project have one plan in an environment, or are refused in one way.
 pub fn one_plan()
     ensures { (files : List File) (env : List ℕ) (one other : Result (List Job) PlanError) → IsPlan files env one → IsPlan files env other → one ≡ other }
-{
-}
+{}

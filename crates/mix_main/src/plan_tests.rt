@@ -23,7 +23,11 @@ fn assert_with_p(
 ) -> Result<(), Fail> {
     let root = format!(in alloc; "[app: :demo, version: \"0.1.0\", deps: [{deps}]]")?;
     let p = format!(in alloc; "[app: :p, version: \"1.0.0\", deps: [{declared}]]")?;
-    let files = [("project.exs", root.as_str()), A, ("p/project.exs", p.as_str())];
+    let files = [
+        ("project.exs", root.as_str()),
+        A,
+        ("p/project.exs", p.as_str()),
+    ];
     assert_told(rt, alloc, &files, code, text)
 }
 
@@ -67,11 +71,15 @@ fn each_divergence_has_a_line(rt: HostRuntime) -> Result<(), Fail> {
 #[test]
 fn apps_without_needs_stand_in_the_order_of_the_root(rt: HostRuntime) -> Result<(), Fail> {
     let files = [
-        ("project.exs", r#"[app: :demo, version: "0.1.0", deps: [{:c, path: "c"}, {:a, path: "a"}]]"#),
+        (
+            "project.exs",
+            r#"[app: :demo, version: "0.1.0", deps: [{:c, path: "c"}, {:a, path: "a"}]]"#,
+        ),
         ("a/x", "A"),
         ("c/x", "C"),
     ];
-    let text = "==> c 0.0.0 built\n==> a 0.0.0 built\n2 dependencies: 2 built, 0 failed, 0 skipped\n";
+    let text =
+        "==> c 0.0.0 built\n==> a 0.0.0 built\n2 dependencies: 2 built, 0 failed, 0 skipped\n";
     assert_told(&rt, rt.alloc(), &files, 0, text)
 }
 
@@ -85,10 +93,22 @@ fn a_cycle_is_told_from_the_first_app_on(rt: HostRuntime) -> Result<(), Fail> {
         let root = format!(in rt.alloc(); "[app: :demo, version: \"0.1.0\", deps: [{deps}]]")?;
         let files = [
             ("project.exs", root.as_str()),
-            ("a/project.exs", r#"[app: :a, version: "1.0.0", deps: [{:b, path: "../b"}]]"#),
-            ("b/project.exs", r#"[app: :b, version: "1.0.0", deps: [{:c, path: "../c"}]]"#),
-            ("c/project.exs", r#"[app: :c, version: "1.0.0", deps: [{:a, path: "../a"}]]"#),
-            ("d/project.exs", r#"[app: :d, version: "1.0.0", deps: [{:d, path: "../d"}]]"#),
+            (
+                "a/project.exs",
+                r#"[app: :a, version: "1.0.0", deps: [{:b, path: "../b"}]]"#,
+            ),
+            (
+                "b/project.exs",
+                r#"[app: :b, version: "1.0.0", deps: [{:c, path: "../c"}]]"#,
+            ),
+            (
+                "c/project.exs",
+                r#"[app: :c, version: "1.0.0", deps: [{:a, path: "../a"}]]"#,
+            ),
+            (
+                "d/project.exs",
+                r#"[app: :d, version: "1.0.0", deps: [{:d, path: "../d"}]]"#,
+            ),
         ];
         assert_told(&rt, rt.alloc(), &files, 4, line)?;
     }
@@ -107,7 +127,13 @@ fn a_registry_package_is_not_locked(rt: HostRuntime) -> Result<(), Fail> {
   ],
 ]
 "#;
-    assert_told(&rt, rt.alloc(), &[("project.exs", shop)], 9, "mixc: not locked: plug\n")
+    assert_told(
+        &rt,
+        rt.alloc(),
+        &[("project.exs", shop)],
+        9,
+        "mixc: not locked: plug\n",
+    )
 }
 
 #[test]

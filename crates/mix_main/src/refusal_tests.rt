@@ -128,13 +128,19 @@ fn a_dependency_is_refused_by_its_path(rt: HostRuntime) -> Result<(), Fail> {
     let root = r#"[app: :demo, version: "0.1.0", deps: [{:a, path: "libs/a"}]]"#;
     let files = [
         ("project.exs", root),
-        ("libs/a/project.exs", r#"[app: :a, version: "1.0.0", deps: [{:b, git: "b"}]]"#),
+        (
+            "libs/a/project.exs",
+            r#"[app: :a, version: "1.0.0", deps: [{:b, git: "b"}]]"#,
+        ),
     ];
     let line = "mixc: libs/a/project.exs: dependency 0: UnsupportedSource(git)\n";
     assert_told(&rt, alloc, &files, 3, line)?;
     let files = [
         ("project.exs", root),
-        ("libs/a/project.exs", r#"[app: :a, version: "1.0.0", deps: [{:b, path: "../b"}]]"#),
+        (
+            "libs/a/project.exs",
+            r#"[app: :a, version: "1.0.0", deps: [{:b, path: "../b"}]]"#,
+        ),
     ];
     assert_told(&rt, alloc, &files, 9, "mixc: path missing: b libs/b\n")
 }

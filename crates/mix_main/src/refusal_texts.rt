@@ -39,11 +39,7 @@ fn settings_line(alloc: Global, fault: &SettingsError) -> Result<Vec<u8>, AllocE
     Ok(line)
 }
 
-fn manifest_line(
-    alloc: Global,
-    path: &RelPath,
-    fault: &ProjectError,
-) -> Result<Vec<u8>, AllocError>
+fn manifest_line(alloc: Global, path: &RelPath, fault: &ProjectError) -> Result<Vec<u8>, AllocError>
     ensures { IfOk result (λ line. line.items ≡ fault_line (path.now ++ codes ": " ++ manifest_text fault.now)) }
 {
     let mut line = Vec::from_slice(alloc, b"mixc: ")?;
@@ -107,11 +103,7 @@ fn diverged_lines(alloc: Global, lines: &[DivergedLine]) -> Result<Vec<u8>, Allo
 }
 
 // A divergence: its rule and its app, the winner, and the other.
-fn push_diverged(
-    alloc: Global,
-    text: &mut Vec<u8>,
-    line: &DivergedLine,
-) -> Result<(), AllocError>
+fn push_diverged(alloc: Global, text: &mut Vec<u8>, line: &DivergedLine) -> Result<(), AllocError>
     ensures { OnOk result (text.new.items ≡ text.old.items ++ diverged_line line.now) }
 {
     push_rule(text, line.rule, &line.app)?;

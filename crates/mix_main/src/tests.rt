@@ -32,9 +32,15 @@ const CHAIN: [(&str, &str); 7] = [
     ("project.exs", CHAIN_ROOT),
     ("a/project.exs", r#"[app: :a, version: "1.0.0"]"#),
     ("a/x", "A"),
-    ("b/project.exs", r#"[app: :b, version: "1.0.0", deps: [{:a, path: "../a"}]]"#),
+    (
+        "b/project.exs",
+        r#"[app: :b, version: "1.0.0", deps: [{:a, path: "../a"}]]"#,
+    ),
     ("b/x", "B"),
-    ("c/project.exs", r#"[app: :c, version: "1.0.0", deps: [{:b, path: "../b"}]]"#),
+    (
+        "c/project.exs",
+        r#"[app: :c, version: "1.0.0", deps: [{:b, path: "../b"}]]"#,
+    ),
     ("c/x", "C"),
 ];
 
@@ -44,13 +50,20 @@ const FAILED_NEED: [(&str, &str); 8] = [
     ("a/project.exs", r#"[app: :a, version: "1.0.0"]"#),
     ("a/x", "A"),
     ("b/fail", "no\n"),
-    ("b/project.exs", r#"[app: :b, version: "1.0.0", deps: [{:a, path: "../a"}]]"#),
+    (
+        "b/project.exs",
+        r#"[app: :b, version: "1.0.0", deps: [{:a, path: "../a"}]]"#,
+    ),
     ("b/x", "B"),
-    ("c/project.exs", r#"[app: :c, version: "1.0.0", deps: [{:b, path: "../b"}]]"#),
+    (
+        "c/project.exs",
+        r#"[app: :c, version: "1.0.0", deps: [{:b, path: "../b"}]]"#,
+    ),
     ("c/x", "C"),
 ];
 
-const FAILED_NEED_TEXT: &str = "==> a 1.0.0 built\n==> b 1.0.0 failed with status 1\n  no\n==> c 1.0.0 skipped, needs b\n3 dependencies: 1 built, 1 failed, 1 skipped\n";
+const FAILED_NEED_TEXT: &str =
+    "==> a 1.0.0 built\n==> b 1.0.0 failed with status 1\n  no\n==> c 1.0.0 skipped, needs b\n3 dependencies: 1 built, 1 failed, 1 skipped\n";
 
 pub(crate) fn project(alloc: Global, files: &[(&str, &str)]) -> Result<Contents, Fail> {
     let mut contents = Contents::new(alloc);
@@ -167,7 +180,10 @@ fn what_needs_a_failed_app_is_skipped(rt: HostRuntime) -> Result<(), Fail> {
     let alloc = rt.alloc();
     assert_told(&rt, alloc, &FAILED_NEED, 1, FAILED_NEED_TEXT)?;
     for (app, bytes) in &[("a", "A"), ("b", ""), ("c", "")] {
-        assert_eq!(rt; output(alloc, &FAILED_NEED, app)?.as_slice(), bytes.as_bytes());
+        assert_eq!(rt;
+            output(alloc, &FAILED_NEED, app)?.as_slice(),
+            bytes.as_bytes()
+        );
     }
     Ok(())
 }
