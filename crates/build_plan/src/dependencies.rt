@@ -1,5 +1,5 @@
 // All declarations of a project, and what is found in the folders of its dependencies.
-ghost use Rattle.std.specs.Prelude.{◌≡◌, ◌×◌, ◌⊎◌, IfOk, IfErr, IfSome, IsFalse};
+ghost use Rattle.std.specs.Prelude.{◌≡◌, IfOk, IfErr, IfSome, IsFalse};
 ghost use Rattle.std.specs.List.{All, AllZip};
 ghost use Rattle.mx_base.specs.Causes.{Counted};
 ghost use Rattle.dep_rows.specs.Listed.{IsWithinLimit};

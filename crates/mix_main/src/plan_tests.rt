@@ -33,10 +33,12 @@ fn assert_with_p(
 
 #[test]
 fn an_app_for_test_alone_is_not_reached_elsewhere(rt: HostRuntime) -> Result<(), Fail> {
+    let alloc = rt.alloc();
     let deps = r#"{:a, path: "a", only: :test}, {:p, path: "p"}"#;
+    assert_with_p(&rt, alloc, deps, "", 0, P_BUILT)?;
     let declared = r#"{:a, path: "../a"}"#;
     let line = "mixc: V4 a: (root) at 0, p at 0\n";
-    assert_with_p(&rt, rt.alloc(), deps, declared, 4, line)
+    assert_with_p(&rt, alloc, deps, declared, 4, line)
 }
 
 #[test]

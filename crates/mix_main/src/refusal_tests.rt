@@ -37,7 +37,6 @@ const PLANNED_DECLARATIONS: &str = r#"[{:b, "~> 1.0", path: "b"}]
 [{:b, path: "b", runtime: false}]
 [{:b, path: "b", app: false}]
 [{:b, path: "b", system_env: [{"A", "1"}]}]
-[{:b, path: "b"}, {:c, path: "c", only: :test}]
 "#;
 
 const B_BUILT: &str = "==> b 1.0.0 built\n1 dependencies: 1 built, 0 failed, 0 skipped\n";
