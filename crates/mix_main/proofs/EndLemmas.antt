@@ -1,5 +1,5 @@
 -- What a status tells of a stop.
-use Rattle.std.proofs.Common.{◌≡◌, ◌∙◌, ◌⊎◌, inl, inr, ℕ, Bool, List, [], ◌∷◌, take, codes, Option, Some, None, IfSome, Result, Ok, Err, IfErr, ap, subst, refl, sym}
+use Rattle.std.proofs.Common.{◌≡◌, ◌∙◌, ◌⊎◌, inl, inr, ℕ, Bool, List, [], ◌∷◌, take, codes, Option, Some, None, IfSome, IsFalse, Result, Ok, Err, IfErr, ap, subst, refl, sym}
 use Rattle.mx_base.specs.Sink.{with_bytes}
 use Rattle.mx_base.specs.declared.file.File.{File}
 use Rattle.compile_model.specs.declared.outcome.Outcome.{Outcome}
@@ -10,6 +10,8 @@ use Rattle.tree_store.specs.Slot.{Slot}
 use Rattle.build_plan.specs.Plan.{IsPlan}
 use Rattle.mix_main.specs.Words.{bad_word, IsCommand}
 use Rattle.build_plan.specs.declared.error.PlanError.{PlanError}
+use Rattle.build_plan.specs.declared.error.PlanError.TheVariants as plan
+use Rattle.build_plan.specs.Faults.{is_read_error}
 use Rattle.mix_main.specs.declared.stop.Stop.{Stop}
 use Rattle.mix_main.specs.declared.stop.Stop.TheVariants as stop
 use Rattle.mix_main.specs.declared.status.Status.{Status}
@@ -32,6 +34,20 @@ says_tells text status Died old new s says tells = subst (λ (r : Status). Tells
 says_tells text status OutOfMemory old new s says tells = tt
 says_tells text status Missing old new s says tells = subst (λ (r : Status). Tells r s) (sym says.0) tells
 says_tells text status WriteFault old new s says tells = tt
+
+-- a refusal's own status tells of it
+pub refusal_tells : (refusal : PlanError) → IsFalse (is_read_error refusal) → Tells (status_of refusal) (stop.Refused refusal)
+refusal_tells plan.Read of_files = cc
+refusal_tells (plan.Settings fault) of_files = (plan.Settings fault, refl, refl)
+refusal_tells plan.NoProject of_files = (plan.NoProject, refl, refl)
+refusal_tells (plan.Project path fault) of_files = (plan.Project path fault, refl, refl)
+refusal_tells (plan.PathMissing app dir) of_files = (plan.PathMissing app dir, refl, refl)
+refusal_tells (plan.NotLocked app) of_files = (plan.NotLocked app, refl, refl)
+refusal_tells plan.TooManyRows of_files = (plan.TooManyRows, refl, refl)
+refusal_tells (plan.Diverged lines) of_files = (plan.Diverged lines, refl, refl)
+refusal_tells (plan.Cycle apps) of_files = (plan.Cycle apps, refl, refl)
+refusal_tells (plan.TooLarge app) of_files = (plan.TooLarge app, refl, refl)
+refusal_tells plan.OutOfMemory of_files = tt
 
 -- the sink took the stop's own line, with a status of its own
 pub says_takes : (status result : Status) (old new : Option (List ℕ)) (s : Stop) → Says (stop_line s) status result old new → (status ≡ OutOfMemory → stop_line s ≡ memory_line) → TakesLine result s old new

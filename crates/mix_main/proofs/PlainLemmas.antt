@@ -31,10 +31,10 @@ if_some_map (Some x) P Q step h = step x h
 pub finished : (compile : Content → Outcome) → ((content : Content) → AreInOrder (compile content).files) → (env : List ℕ) (files : List File) (jobs : List Job) (fates : List Fate) (failed : Bool) (text : List ℕ) (old mid new : BuildKey → Slot) (took takes : Option (List ℕ))
     → IsPlan files env (Ok jobs) → jobs_differ jobs ≡ true → fates ≡ seq compile jobs → ClearsEnv env old mid → ((q : BuildKey) → new q ≡ filled_by env q jobs fates (mid q))
     → text ≡ report jobs fates → takes ≡ with_bytes took text → failed ≡ list_any is_failed fates → Finished compile env files failed old new took takes
-finished compile law env files jobs fates failed text old mid new took takes planned differ is clears fills says writes any =
+finished compile law env files jobs fates failed text old mid new took takes plan differ is clears fills says writes any =
     record {
       jobs = jobs;
-      planned = planned;
+      planned = plan;
       tree = leaves_tree env jobs (seq compile jobs) old mid new differ (seq_in_order compile law jobs) clears (λ q. fills q ∙ ap (λ (fs : List Fate). filled_by env q jobs fs (mid q)) is);
       report = writes ∙ ap (with_bytes took) (says ∙ ap (report jobs) is);
       any_failed = any ∙ ap (list_any is_failed) is;

@@ -1,8 +1,9 @@
 -- Why a compile stops.
-use Rattle.std.specs.Prelude.{ℕ, List, Bool, true, false, Result, Ok, Err}
+use Rattle.std.specs.Prelude.{ℕ, List, Bool, true, false, Result, Ok, Err, IsFalse}
 use Rattle.mx_base.specs.Causes.{Rose}
 use Rattle.mx_base.specs.declared.file.File.{File}
 use Rattle.build_plan.specs.Plan.{IsPlan}
+use Rattle.build_plan.specs.Faults.{is_read_error}
 use Rattle.tree_store.specs.declared.store.StoreFault.{StoreFault}
 use Rattle.tree_store.specs.declared.store.StoreFault.TheVariants as store
 use Rattle.compile_model.specs.declared.seq.SeqFault.{SeqFault}
@@ -74,6 +75,15 @@ StopCause reads reads' trees trees' deaths deaths' Tree = Rose trees trees'
 StopCause reads reads' trees trees' deaths deaths' Died = Rose deaths deaths'
 StopCause reads reads' trees trees' deaths deaths' Memory = Unit {0}
 StopCause reads reads' trees trees' deaths deaths' Write = Unit {0}
+
+-- a refusal says something of the files
+abbrev pub IsOfFiles : Stop → Type 0
+IsOfFiles (Refused refusal) = IsFalse (is_read_error refusal)
+IsOfFiles Read = Unit {0}
+IsOfFiles Tree = Unit {0}
+IsOfFiles Died = Unit {0}
+IsOfFiles Memory = Unit {0}
+IsOfFiles Write = Unit {0}
 
 -- a refusal is the first of these files
 abbrev pub RefusedFirst : List File → List ℕ → Stop → Type 0

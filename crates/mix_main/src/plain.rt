@@ -6,7 +6,7 @@ ghost use Rattle.build_plan.specs.declared.error.PlanError.{PlanError};
 ghost use Rattle.build_plan.specs.Plan.{IsPlan};
 ghost use Rattle.mix_main.specs.Ends.{AfterPlan, Compiled, CompileWrites, EndsPlanned, EndsRefused, Finished, FaultLine, HasPlan, IfDied, IfWrite, IsReport, MayStand, NothingFailed, RefusesInput, TakesPrefix};
 ghost use Rattle.mix_main.specs.Status.{IsBuilt, IsRefusal, is_write_fault, status_of};
-ghost use Rattle.mix_main.specs.Stop.{StopCause, RefusedFirst, IfRefused, UnlessWrite, is_write};
+ghost use Rattle.mix_main.specs.Stop.{StopCause, IsOfFiles, RefusedFirst, IfRefused, UnlessWrite, is_write};
 ghost use Rattle.mix_main.specs.Tree.{ClearsEnv, StaysElsewhere};
 
 use crate::clear::clear_env;
@@ -81,6 +81,7 @@ fn compile<S: Store, C: Compiler, K: Sink>(
     ensures compiled { IfOk result (λ failed. IfSome (S.sources store.old) (λ files. Finished C.compile_of env.now files failed (S.slot store.old) (S.slot store.new) (K.taken out.old) (K.taken out.new))) }
     ensures clean { OnOk result (NothingFailed (S.faults store.old) (S.faults store.new) (S.folder_faults store.old) (S.folder_faults store.new) (C.deaths compiler.old) (C.deaths compiler.new)) }
     ensures stopped { IfErr result (StopCause (S.faults store.old) (S.faults store.new) (S.folder_faults store.old) (S.folder_faults store.new) (C.deaths compiler.old) (C.deaths compiler.new)) }
+    ensures of_files { IfErr result IsOfFiles }
     ensures refused { IfErr result (λ stop. IfSome (S.sources store.old) (λ files. RefusedFirst files env.now stop)) }
     ensures after_plan { IfErr result (λ stop. AfterPlan stop (IfSome (S.sources store.old) (HasPlan env.now))) }
     ensures same { IfErr result (λ stop. IfRefused stop (S.slot store.new ≡ S.slot store.old)) }

@@ -106,6 +106,7 @@ fn diverged_lines(alloc: Global, lines: &[DivergedLine]) -> Result<Vec<u8>, Allo
 fn push_diverged(alloc: Global, text: &mut Vec<u8>, line: &DivergedLine) -> Result<(), AllocError>
     ensures { OnOk result (text.new.items ≡ text.old.items ++ diverged_line line.now) }
 {
+    text.extend_from_slice(b"mixc: ")?;
     push_rule(text, line.rule, &line.app)?;
     push_place(alloc, text, &line.winner_by, line.winner_index)?;
     text.extend_from_slice(b", ")?;
@@ -113,11 +114,10 @@ fn push_diverged(alloc: Global, text: &mut Vec<u8>, line: &DivergedLine) -> Resu
     text.extend_from_slice(b"\n")
 }
 
-// The beginning of a divergence's line.
+// A rule and the app that breaks it.
 fn push_rule(text: &mut Vec<u8>, rule: Rule, app: &AppName) -> Result<(), AllocError>
     ensures { OnOk result (text.new.items ≡ text.old.items ++ rule_text rule app.now) }
 {
-    text.extend_from_slice(b"mixc: ")?;
     text.extend_from_slice(rule_name(rule))?;
     text.extend_from_slice(b" ")?;
     text.extend_from_slice(app.as_str().as_bytes())?;

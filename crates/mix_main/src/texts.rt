@@ -6,7 +6,9 @@ ghost use Rattle.mx_base.specs.Causes.{Counted};
 ghost use Rattle.mix_main.specs.Ends.{Says, Tells, TakesLine, TakesPrefix, FaultLine};
 ghost use Rattle.mix_main.specs.Status.{is_write_fault, status_of, EndsWords};
 ghost use Rattle.mix_main.specs.declared.stop.Stop.TheVariants.{Refused, Write};
+ghost use Rattle.mix_main.specs.Stop.{IsOfFiles};
 ghost use Rattle.mix_main.specs.Texts.{memory_line, bad_words_line};
+ghost use Rattle.build_plan.specs.Faults.{is_read_error};
 
 use crate::refusal_texts::refusal_line;
 use crate::report::push_number;
@@ -60,9 +62,10 @@ fn bad_words_line(alloc: Global, at: usize) -> Result<Vec<u8>, AllocError>
     Ok(line)
 }
 
-/// Writes the line of a refusal.
-#[tactic(auto, using(crate::proofs::EndLemmas::says_tells, crate::proofs::EndLemmas::says_takes))]
-pub(crate) fn say_refusal<K: Sink>(alloc: Global, refusal: &PlanError, out: &mut K) -> Status
+// Writes the line of a refusal.
+#[tactic(auto, using(crate::proofs::EndLemmas::refusal_tells, crate::proofs::EndLemmas::says_tells, crate::proofs::EndLemmas::says_takes))]
+fn say_refusal<K: Sink>(alloc: Global, refusal: &PlanError, out: &mut K) -> Status
+    requires { IsFalse (is_read_error refusal.now) }
     ensures tells { Tells result (Refused refusal.now) }
     ensures takes { TakesLine result (Refused refusal.now) (K.taken out.old) (K.taken out.new) }
     ensures cause { Counted (K.faults out.old) (K.faults out.new) (is_write_fault result) }
@@ -93,7 +96,8 @@ fn status_of(refusal: &PlanError) -> Status
 /// Writes the line of a stop.
 #[tactic(auto, using(crate::proofs::EndLemmas::says_tells, crate::proofs::EndLemmas::says_takes))]
 pub(crate) fn say_stop<K: Sink>(alloc: Global, stop: &Stop, out: &mut K) -> Status
-    requires { stop.now ≢ Write }
+    requires told { stop.now ≢ Write }
+    requires of_files { IsOfFiles stop.now }
     ensures tells { Tells result stop.now }
     ensures takes { TakesLine result stop.now (K.taken out.old) (K.taken out.new) }
     ensures cause { Counted (K.faults out.old) (K.faults out.new) (is_write_fault result) }
