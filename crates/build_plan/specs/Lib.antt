@@ -1,7 +1,9 @@
+pub mod ChildFaults
 pub mod Dependencies
 pub mod Faults
 pub mod Found
 pub mod Jobs
+pub mod Kept
 pub mod Lines
 pub mod Needs
 pub mod Options

@@ -9,10 +9,13 @@ mod children;
 mod dependencies;
 mod error;
 mod found;
+mod laws;
+mod manifests;
 mod planning;
 mod sources;
 mod versions;
 
 pub use children::ChildFault;
 pub use error::{DivergedLine, DivergedLines, PlanError};
+pub use laws::one_plan;
 pub use planning::plan;

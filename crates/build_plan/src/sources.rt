@@ -1,13 +1,22 @@
 // The source files of a dependency.
-ghost use Rattle.std.specs.Prelude.{◌≡◌, IfOk, IfSome};
+ghost use Rattle.std.specs.Prelude.{◌≡◌, ◌≤◌, length, codes, IfOk, IfSome, IsFalse};
 ghost use Rattle.mx_base.specs.Causes.{Counted};
+ghost use Rattle.mx_base.specs.Order.{bytes_at};
+ghost use Rattle.mx_base.specs.Path.{child_of, first_segment};
 ghost use Rattle.tree_store.specs.Faults.{is_failed};
+ghost use Rattle.tree_store.specs.Files.{is_in_build};
+ghost use Rattle.dep_options.specs.Options.{is_kept_apart};
 ghost use Rattle.build_plan.specs.Found.{AreSources, IsFound, IsSound};
+ghost use Rattle.build_plan.specs.Jobs.{most_files};
+ghost use Rattle.build_plan.specs.Sources.{bytes_in, is_source, source_at};
 
-use crate::found::Found;
-use mx_base::Files;
+use crate::found::{Found, MANIFEST};
+use mx_base::{Bytes, File, Files, RelPath};
 use std::alloc::Global;
 use tree_store::{Store, StoreFault};
+
+/// How many source files a dependency may have.
+const MOST_FILES: usize = 20_000;
 
 /// Reads the sources of a dependency, with their paths from its folder, and answers none where they are more than
 /// 20,000 files or than so many bytes. A file that has gone since its path was listed is none.
@@ -19,10 +28,91 @@ pub(crate) fn sources<S: Store>(
 ) -> Result<Option<Files>, StoreFault>
     requires { IsSound found.now }
     ensures read { IfOk result (λ sources. IfSome (S.sources store.old) (λ files. IsFound files found.now → AreSources files found.now.dir room sources)) }
+    ensures fits { IfOk result (λ sources. IfSome sources (λ all. (length all ≤ most_files) × (bytes_in all ≤ room))) }
     ensures sources { S.sources store.new ≡ S.sources store.old }
     ensures same { S.slot store.new ≡ S.slot store.old }
     ensures returned { S.folder_faults store.new ≡ S.folder_faults store.old }
     ensures cause { Counted (S.faults store.old) (S.faults store.new) (is_failed result) }
 {
-    Err(StoreFault::OutOfMemory)
+    let mut sources = Vec::new(alloc);
+    let mut left = room;
+    for path in &found.paths {
+        if let Some(source) = source(alloc, store, found, path)? {
+            let size = source.bytes.as_slice().len();
+            if sources.len() == MOST_FILES || size > left {
+                return Ok(None);
+            }
+            left -= size;
+            sources.push(source)?;
+        }
+    }
+    Ok(Some(Files::from_vec(sources)))
+}
+
+/// The file at a path, as a source of the dependency.
+fn source<S: Store>(
+    alloc: Global,
+    store: &mut S,
+    found: &Found,
+    path: &RelPath,
+) -> Result<Option<File>, StoreFault>
+    requires { IsFalse (is_in_build path.now) }
+    ensures source { IfOk result (λ source. IfSome (S.sources store.old) (λ files. IsFound files found.now → source ≡ source_at found.now.dir files path.now)) }
+    ensures place { IfOk result (λ source. IfSome source (λ file. path.now ≡ child_of found.now.dir file.path)) }
+    ensures sources { S.sources store.new ≡ S.sources store.old }
+    ensures same { S.slot store.new ≡ S.slot store.old }
+    ensures returned { S.folder_faults store.new ≡ S.folder_faults store.old }
+    ensures cause { Counted (S.faults store.old) (S.faults store.new) (is_failed result) }
+{
+    let Some(rest) = path.from_folder(alloc, &found.dir)? else {
+        return Ok(None);
+    };
+    if !is_source(&rest) {
+        return Ok(None);
+    }
+    match bytes(alloc, store, found, path, &rest)? {
+        Some(bytes) => Ok(Some(File { path: rest, bytes })),
+        None => Ok(None),
+    }
+}
+
+/// The bytes of a file of the dependency. The manifest was read before.
+fn bytes<S: Store>(
+    alloc: Global,
+    store: &mut S,
+    found: &Found,
+    path: &RelPath,
+    rest: &RelPath,
+) -> Result<Option<Bytes>, StoreFault>
+    requires outside { IsFalse (is_in_build path.now) }
+    requires place { path.now ≡ child_of found.now.dir rest.now }
+    ensures bytes { IfOk result (λ bytes. IfSome (S.sources store.old) (λ files. IsFound files found.now → bytes ≡ bytes_at path.now files)) }
+    ensures sources { S.sources store.new ≡ S.sources store.old }
+    ensures same { S.slot store.new ≡ S.slot store.old }
+    ensures returned { S.folder_faults store.new ≡ S.folder_faults store.old }
+    ensures cause { Counted (S.faults store.old) (S.faults store.new) (is_failed result) }
+{
+    if rest.as_str() == MANIFEST {
+        Ok(found.text.clone()?)
+    } else {
+        store.get(alloc, path)
+    }
+}
+
+fn is_source(path: &RelPath) -> bool
+    ensures { result ≡ is_source path.now }
+{
+    !is_kept_apart(path) && path.as_str() != "mix.lock"
+}
+
+/// Whether a path leads into a folder whose files are no sources.
+fn is_kept_apart(path: &RelPath) -> bool
+    ensures { result ≡ is_kept_apart (first_segment path.now) }
+{
+    let text = path.as_str();
+    let first = match text.split_once('/') {
+        Some((first, _)) => first,
+        None => text,
+    };
+    first == "_build" || first == "deps" || first == "hex"
 }

@@ -6,3 +6,5 @@ pub mod StrayLemmas
 pub mod MarkedLemmas
 pub mod CaseLemmas
 pub mod SoundLemmas
+pub mod OneLemmas
+pub mod OneAnswer

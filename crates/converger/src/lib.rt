@@ -8,6 +8,7 @@ mod cases;
 mod converged;
 mod divergence;
 mod divergences;
+mod laws;
 mod reach;
 mod strays;
 #[cfg(test)]
@@ -17,3 +18,5 @@ mod web;
 
 pub use converged::{ConvergeError, Converged, Versions, converge, for_env};
 pub use divergence::{Divergence, Divergences, Rule};
+pub use laws::{divergences_by_parts, one_divergence_list, one_reach};
+pub use reach::admits;

@@ -296,6 +296,7 @@ good_at (steps {tok = tok} {tokens = tokens} {s = s} {next = next} {begin = begi
   where
     head : tok ∷ tokens ≡ x ∷ (others ++ more) → tok ≡ x
     head e = cc
+
     tail : tok ∷ tokens ≡ x ∷ (others ++ more) → tokens ≡ others ++ more
     tail e = cc
 
@@ -447,14 +448,33 @@ held_of {tokens = tokens} {s = s} {rest = rest} {place = place} trail others inn
     let here_ : s ≡ lifted outer alone.0 = some_same (sym there_ ∙ ap (option_and_then (runs i.more)) stepped ∙ inside_) in
     let good = good_at trail start_good others pre (state.Element frame holes) i.split ran in
     record {
-      key = key; fit = key_fit key frame holes m good.fit o; pre = pre; tok = tok; more = more; after = after; place = end; reads = reads; some = cons_some i.tok i.more; begins = begins; leads = leads;
-      frame = frame; holes = holes; inner = alone.0; inner_ran = alone.1; here = here_; ran = ran; map_ = m; free = ahead.free; split = i.split;
+      key = key;
+      fit = key_fit key frame holes m good.fit o;
+      pre = pre;
+      tok = tok;
+      more = more;
+      after = after;
+      place = end;
+      reads = reads;
+      some = cons_some i.tok i.more;
+      begins = begins;
+      leads = leads;
+      frame = frame;
+      holes = holes;
+      inner = alone.0;
+      inner_ran = alone.1;
+      here = here_;
+      ran = ran;
+      map_ = m;
+      free = ahead.free;
+      split = i.split;
       whole_ran = runs_append others (pre ++ tok ∷ more) start ∙ ap (option_and_then (runs (pre ++ tok ∷ more))) ran ∙ ap (λ l. runs l (state.Element frame holes)) (sym e) ∙ ahead.arrow;
       sound = arrow_sound key frame holes good.sound m ahead.free o;
     }
   where
     pre_runs : (i : Inside tokens start s rest others place) → runs (i.tok ∷ i.more) i.here ≡ Some s
     pre_runs i = ap (option_and_then (runs i.more)) i.stood.stepped ∙ trail_runs i.trail
+
     cons_some : (t : Token) (ts : List Token) → t ∷ ts ≡ [] → ⊥
     cons_some t ts e = cc
 
@@ -498,6 +518,7 @@ again_within {tokens = tokens} {s = s} {rest = rest} {place = place} trail other
   where
     ahead : Ahead frame holes inner key
     ahead = ahead_of others inner key frame holes ran m h op
+
     by : Spans (i.tok ∷ i.more) i.here rest inner → Held tokens s rest others
     by (whole mid mid_ran n) =
         let arrow_ : mid ≡ state.Arrow key frame holes = some_same (sym (subst (λ x. runs inner x ≡ Some mid) at mid_ran) ∙ ahead.arrow) in

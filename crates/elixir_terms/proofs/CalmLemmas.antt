@@ -129,6 +129,7 @@ capital_key byte more {tok = tok} {after = after} c h = named (name_len (byte �
     by : (len : ℕ) (o : Option (List ℕ)) → key_or_atom (byte ∷ take len more) (drop len more) o ≡ Some (tok, after) → (name : List ℕ) × (tok ≡ Key name)
     by len (Some a) e = (byte ∷ take len more, ap (λ (f : Token × List ℕ). f.0) (sym (some_same e)))
     by len None e = absurd (not_capital byte c (byte ∷ take len more) (take len more) refl (cond_some (is_bare_atom (byte ∷ take len more)) _ _ e).0)
+
     named : (len : ℕ) → name_len (byte ∷ more) ≡ len → name_of len (byte ∷ more) ≡ Some (tok, after) → (name : List ℕ) × (tok ≡ Key name)
     named zero e h = absurd (none_some h)
     named (suc len) e h = by len (after_colon (drop len more)) (sym (name_more len (byte ∷ more)) ∙ h)

@@ -67,7 +67,6 @@ pub fitting : (whole : ℕ) (u : Term) → IsShallow whole u → (holes : List H
 fitting whole u h [] t tokens f = record { left = whole; all = omega arith; fits = subst (λ x. IsShallow whole x) (sym f.1) h }
 fitting whole u h (hole ∷ holes) t tokens f = fitting_in whole u hole.slot hole.frame holes t tokens (fitting whole u h holes) f
 
-
 begins_need : (whole : ℕ) (tok : Token) (tokens : List Token) {word : List Token} (rest : List Token) {t : Term} (holes : List Hole) → IsTerm word t → tok ∷ tokens ≡ word ++ rest → Fitting whole holes t → begin_need tok holes ≤ whole
 begins_need whole tok tokens rest holes (atom {name = name}) e f = let e1 : tok ≡ Atom name = cc in rw e1 (omega arith)
 begins_need whole tok tokens rest holes (integer {n = n}) e f = let e1 : tok ≡ Int n = cc in rw e1 (omega arith)

@@ -62,6 +62,7 @@ splits (x ∷ xs) ys (z ∷ zs) ws e =
   where
     heads : x ∷ (xs ++ ys) ≡ z ∷ (zs ++ ws) → x ≡ z
     heads e = cc
+
     tails : x ∷ (xs ++ ys) ≡ z ∷ (zs ++ ws) → xs ++ ys ≡ zs ++ ws
     tails e = cc
 

@@ -142,6 +142,7 @@ front_ends end [] rest other e solid h l = ⊎_elim (λ n. nothing rest other (s
     nothing rest other e ended = inl refl
     nothing rest other e (broken more) = inr (more, refl)
     nothing rest other e (same byte) = absurd (cc)
+
     not_solid : (rest more : List ℕ) → rest ≡ 10 ∷ more → past_blank rest ≡ None → ⊥
     not_solid rest more e h = let f : past_blank (10 ∷ more) ≡ None = subst (λ l. past_blank l ≡ None) e h in cc
 

@@ -228,6 +228,7 @@ part_open {tokens = tokens} {text = text} {rest = rest} s f part ran h p like = 
   where
     nothing : part ≡ [] → IsOpenText (f.front ++ part)
     nothing e = subst (λ l. IsOpenText l) (sym (ap (λ l. f.front ++ l) e ∙ append-nil f.front)) (front_open s f ran h)
+
     something : ((tok : Token) × (more : List ℕ) × Begins (part ++ more) tok [] × IsTrue (takes (expected s) tok)) → IsOpenText (f.front ++ part)
     something q =
         let tok = q.0 in
@@ -239,7 +240,11 @@ part_open {tokens = tokens} {text = text} {rest = rest} s f part ran h p like = 
         let begins : Begins (part ++ (more ++ k.text)) tok k.text = subst (λ l. Begins l tok k.text) (ap (λ l. l ++ k.text) whole ∙ append_assoc part more k.text) (m.moved k.text (apart_like [] k.text k.apart)) in
         ⊎_elim nothing (λ l.
         let leads = f.moved (part ++ (more ++ k.text)) l in
-        let spelled : AreTokens (tok ∷ k.tokens) (part ++ (more ++ k.text)) = (part ++ (more ++ k.text), k.text, none, begins, k.spelled) in
-        (more ++ k.text, tokens ++ tok ∷ k.tokens, k.u, subst (λ x. AreTokens (tokens ++ tok ∷ k.tokens) x) (sym (append_assoc f.front part (more ++ k.text))) (leads_join (tok ∷ k.tokens) leads spelled),
-        first_wants k.u (tokens ++ tok ∷ k.tokens) (passed_back k.u tokens (tok ∷ k.tokens) start s (step_back k.u s tok k.tokens (subst (λ o. WantsNext k.u o k.tokens) (sym n.1) k.wanted)) ran)))
+        let spelled : AreTokens (tok ∷ k.tokens) (part ++ (more ++ k.text)) = (part ++ (more ++ k.text), k.text, none, begins, k.spelled) in (
+          more ++ k.text,
+          tokens ++ tok ∷ k.tokens,
+          k.u,
+          subst (λ x. AreTokens (tokens ++ tok ∷ k.tokens) x) (sym (append_assoc f.front part (more ++ k.text))) (leads_join (tok ∷ k.tokens) leads spelled),
+          first_wants k.u (tokens ++ tok ∷ k.tokens) (passed_back k.u tokens (tok ∷ k.tokens) start s (step_back k.u s tok k.tokens (subst (λ o. WantsNext k.u o k.tokens) (sym n.1) k.wanted)) ran),
+        ))
         (like (more ++ k.text))

@@ -407,6 +407,7 @@ entry_again {text = text} {tokens = tokens} {s = s} {rest = rest} places tok aft
     fresh w open_ =
         let outer : List Hole = record { frame = h.frame; slot = slot.EntryKey } ∷ h.holes in
         old (subst IsNew (sym w.same) (lifted_new outer w.inner (wants_new h.key h.fit w.inner h.more w.wanted) open_ (λ hole hs e. first_slot h.frame hole h.holes hs e)))
+
     by : (w : Within_ h (state.Arrow whole frame holes)) → tokens ++ h.tok ∷ [] ≡ b.front ++ b.word → (inner : State) → w.inner ≡ inner → length r.rest ≤ length b.mark.0
     by w split (state.Done t) e =
         let outer : List Hole = record { frame = h.frame; slot = slot.EntryKey } ∷ h.holes in
@@ -432,16 +433,20 @@ entry_refusal {text = text} {tokens = tokens} {s = s} {rest = rest} places tok a
     let p = place_of trail in
     let sum = p.1 in
     let before = found.before in
-    let stop = again_stop p.0 tok after trail sum read well in
-    (at, omega arith, far.first short utf8
-    (entry_holds at places tok after whole frame holes trail read well stepped old b (omega arith) found)
-    (λ where_ other h. ⊎_elim
-    (λ r. subst (λ c. Beyond at cause.DuplicateKey where_ c) (sym r.0) (let e = entry_again places tok after whole frame holes trail read stepped old b before r.1 (again trail r.1) in let y = r.1.stands.place in beyond_at at where_ (omega arith)))
-    (λ l. sooner at (p.0 + 0) where_ other (omega arith) l)
-    (stop_beyond stop h)))
+    let stop = again_stop p.0 tok after trail sum read well in (
+      at,
+      omega arith,
+      far.first short utf8
+          (entry_holds at places tok after whole frame holes trail read well stepped old b (omega arith) found)
+          (λ where_ other h. ⊎_elim
+          (λ r. subst (λ c. Beyond at cause.DuplicateKey where_ c) (sym r.0) (let e = entry_again places tok after whole frame holes trail read stepped old b before r.1 (again trail r.1) in let y = r.1.stands.place in beyond_at at where_ (omega arith)))
+          (λ l. sooner at (p.0 + 0) where_ other (omega arith) l)
+          (stop_beyond stop h)),
+    )
   where
     beyond_at : (at where_ : ℕ) → at ≤ where_ → Beyond at cause.DuplicateKey where_ cause.DuplicateKey
     beyond_at at where_ h = ⊎_elim (λ e. inr (e, omega arith)) (λ l. inl l) (eq-or-lt_of_le h)
+
     sooner : (at later_ where_ : ℕ) (other : TermCause) → at ≤ later_ → Beyond later_ cause.DuplicateKey where_ other → Beyond at cause.DuplicateKey where_ other
     sooner at later_ where_ other h b = ⊎_elim (λ l. inl (omega arith)) (λ l. let e = l.0 in ⊎_elim (λ s. inr (omega arith, l.1)) (λ s. inl (omega arith)) (eq-or-lt_of_le h)) b
 

@@ -117,8 +117,10 @@ colon_holds {text = text} {rest = rest} at word more tok stands none_ begins pla
   where
     first : StandsAt text at [] rest
     first = subst (λ ts. StandsAt text at ts rest) none_ stands
+
     leads_to : Leads [] text rest → Begins rest tok (58 ∷ more) → Leads (tok ∷ []) text (58 ∷ more)
     leads_to (no_token b) begins = one_token b begins (no_token none)
+
     by : (c : Bool) → is_colon (58 ∷ more) ≡ c → Holds text (at + length word) cause.TrailingText
     by true c = let k = colon_cut more c in far.trailing_colon k.0 k.1 first begins plain k.3 (e ∙ ap (λ l. word ++ 58 ∷ l) k.2)
     by false c =
@@ -306,6 +308,7 @@ trailing_refusal {text = text} {tokens = tokens} {t = t} {rest = rest} at short 
   where
     whole : IsTerm tokens t
     whole = subst (λ l. IsTerm l t) (append-nil tokens) (first_wants t (tokens ++ []) (passed_back t tokens [] start (state.Done t) (refl, refl) (trail_runs trail)))
+
     by : (l : List ℕ) → rest ≡ l → far.IsRefusal text at cause.TrailingText
     by [] e = absurd (some e)
     by (byte ∷ more) e =

@@ -140,10 +140,12 @@ snag s rest k why tok after first begins t = by (is_plain rest tok && starts_wit
   where
     small : (is_plain rest tok && starts_with 58 after) ≡ false → IsNarrow tok → Snag rest k why tok after
     small free narrow = marred_snag (calm (expected s) (outer_key s) begins t narrow free first.holds)
+
     wide : (n : ℤ) → tok ≡ Int n → IsWide (Int n) → Snag rest k why tok after
     wide n same w =
         let b = first.first 0 cause.NumberTooBig (number (term_key (expected s) n tok same t) (subst (λ x. Begins rest x after) same begins) w) in
         wides n same (⊎_elim (λ l. absurd (omega arith)) (λ l. l.0) b) (⊎_elim (λ l. absurd (omega arith)) (λ l. l.1) b) w
+
     free_ : (is_plain rest tok && starts_with 58 after) ≡ false → (x : Token) → tok ≡ x → Snag rest k why tok after
     free_ free (Int n) same = ⊎_elim (λ narrow. small free (subst (λ y. IsNarrow y) (sym same) narrow)) (λ w. wide n same w) (wide_or n)
     free_ free (Atom name) same = small free (subst (λ y. IsNarrow y) (sym same) tt)
@@ -154,6 +156,7 @@ snag s rest k why tok after first begins t = by (is_plain rest tok && starts_wit
     free_ free (Close closing) same = small free (subst (λ y. IsNarrow y) (sym same) tt)
     free_ free Comma same = small free (subst (λ y. IsNarrow y) (sym same) tt)
     free_ free Arrow same = small free (subst (λ y. IsNarrow y) (sym same) tt)
+
     by : (b : Bool) → (is_plain rest tok && starts_with 58 after) ≡ b → Snag rest k why tok after
     by false free = free_ free tok refl
     by true e = ties (tied rest tok after e) (and_parts (is_plain rest tok) (starts_with 58 after) e).0
@@ -379,6 +382,7 @@ fault_again {tokens = tokens} {s = s} {rest = rest} at k here why stop first r (
   where
     same : k ≡ 0 → at + k ≡ here
     same z = let x = stop.place in let y = r.stands.place in let w = ap length p in omega arith
+
     by : Snag rest k why st.tok st.after → Beyond (at + k) why here cause.DuplicateKey
     by (wides n same_ z q w) = inr (same z, omega arith)
     by (three more same_ z q e_) = inr (same z, omega arith)

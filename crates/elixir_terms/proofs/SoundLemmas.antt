@@ -238,9 +238,11 @@ key_sound : (all : ℕ) (frame : Frame) (holes : List Hole) (key : List ℕ) (le
 key_sound all frame holes key left s h e n =
     cond_sound all (takes_key frame) (Some (state.Value (record { frame = frame; slot = slot.Keyword key } ∷ holes)))
     (λ taken.
-    let same : left ≡ keyword_cost frame.bracket + (left - keyword_cost frame.bracket) = omega arith in
-    (left - keyword_cost frame.bracket, omega arith,
-    ((λ x k. keyword_more (left - keyword_cost frame.bracket) frame.bracket frame.items frame.entries frame.keywords key x s.0 taken s.1 (subst (λ m. IsShallow m s.0) same s.2) k), subst (λ m. HolesSound m holes) same h)))
+    let same : left ≡ keyword_cost frame.bracket + (left - keyword_cost frame.bracket) = omega arith in (
+      left - keyword_cost frame.bracket,
+      omega arith,
+      ((λ x k. keyword_more (left - keyword_cost frame.bracket) frame.bracket frame.items frame.entries frame.keywords key x s.0 taken s.1 (subst (λ m. IsShallow m s.0) same s.2) k), subst (λ m. HolesSound m holes) same h),
+    ))
 
 element_sound : (all : ℕ) (frame : Frame) (holes : List Hole) (tok : Token) (left : ℕ) → Sound left frame → HolesSound left holes → left + levels holes ≡ all → TokenShallow tok → element_need frame holes tok ≤ all → NextSound all (at_element frame holes tok)
 element_sound all frame holes (Close closing) left s h e k n = closed_sound all left frame closing holes s h e

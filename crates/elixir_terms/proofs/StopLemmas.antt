@@ -276,6 +276,7 @@ colon_beyond {text = text} {rest = rest} {tokens = tokens} {s = s} {at = at} {k 
   where
     local : Locally (expected start) place (length word) cause.TrailingText
     local = near.colon_after (white ∷ more) refl begins plain e
+
     by : Meets tokens start s rest [] place → Beyond (at + k) why (here + length word) cause.TrailingText
     by (within i) = let first : i.here ≡ start = sym (some_same i.ran) in absurd (i.stood.calm (length word) cause.TrailingText (subst (λ x. Locally (expected x) place (length word) cause.TrailingText) (sym first) local))
     by (there n p) =

@@ -80,7 +80,10 @@ impl Opened {
     pub fn with_entry(self, alloc: Global, key: Term, value: Term) -> Result<Opened, AllocError>
         ensures { IfOk result (λ opened. opened ≡ with_entry self key value) }
     {
-        let Opened { mut frame, mut known } = self;
+        let Opened {
+            mut frame,
+            mut known,
+        } = self;
         known.insert(code_of(alloc, &key)?)?;
         frame.entries.push((key, value))?;
         Ok(Opened { frame, known })
@@ -91,7 +94,10 @@ impl Opened {
     pub fn with_keyword(self, alloc: Global, key: Text, value: Term) -> Result<Opened, AllocError>
         ensures { IfOk result (λ opened. opened ≡ with_keyword self key value) }
     {
-        let Opened { mut frame, mut known } = self;
+        let Opened {
+            mut frame,
+            mut known,
+        } = self;
         let key = Term::Atom(key);
         known.insert(code_of(alloc, &key)?)?;
         frame.keywords.push((key, value))?;

@@ -176,7 +176,11 @@ fn the_65th_level_is_refused(rt: HostRuntime) -> Result<(), Fail> {
             at,
             cause: TermCause::TooDeep,
         };
-        assert_eq!(rt; refusal(alloc, text.as_slice()), Some(want), "{opening} {inside}");
+        assert_eq!(rt;
+            refusal(alloc, text.as_slice()),
+            Some(want),
+            "{opening} {inside}"
+        );
     }
     Ok(())
 }

@@ -5,9 +5,9 @@ ghost use Rattle.elixir_terms.specs.Levels.{Enters};
 ghost use Rattle.elixir_terms.specs.Machine.{placed, placed_in, begun, closed, at_part, at_key, at_element, at_separator, at_arrow, step, expected, depth, NewKeyword, NewEntry, BeginsWell, PartWell, ElementFits, HasLevels};
 ghost use Rattle.elixir_terms.specs.Limits.{GivesWhere};
 
+use crate::bracket::Bracket;
 use crate::error::{Fault, TermCause};
 use crate::expected::Expected;
-use crate::bracket::Bracket;
 use crate::frame::{Hole, Slot};
 use crate::holes::Holes;
 use crate::opened::Opened;
@@ -99,7 +99,10 @@ impl State {
         ensures { IfOk result (λ repeats. IsFalse repeats ↔ NewKeyword self.now token.now) }
     {
         match (self, token) {
-            (State::Element { frame, .. }, Token::Key(key)) => frame.has_key(alloc, &Term::Atom(key.clone()?)),
+            (State::Element { frame, .. }, Token::Key(key)) => frame.has_key(
+                alloc,
+                &Term::Atom(key.clone()?),
+            ),
             _ => Ok(false),
         }
     }
@@ -150,7 +153,13 @@ fn placed(alloc: Global, term: Term, mut holes: Holes) -> Result<State, AllocErr
 }
 
 /// A whole term goes into a slot of a bracket.
-fn placed_in(alloc: Global, slot: Slot, frame: Opened, term: Term, holes: Holes) -> Result<State, AllocError>
+fn placed_in(
+    alloc: Global,
+    slot: Slot,
+    frame: Opened,
+    term: Term,
+    holes: Holes,
+) -> Result<State, AllocError>
     ensures { IfOk result (λ state. state ≡ placed_in slot frame term holes) }
 {
     let frame = match slot {
@@ -190,7 +199,13 @@ fn begun(alloc: Global, token: Token, holes: Holes, left: usize) -> Result<State
 }
 
 /// A bracket closes.
-fn closed(alloc: Global, frame: Opened, closing: Closing, holes: Holes, left: usize) -> Result<State, Fault>
+fn closed(
+    alloc: Global,
+    frame: Opened,
+    closing: Closing,
+    holes: Holes,
+    left: usize,
+) -> Result<State, Fault>
     ensures { GivesWhere (Unit {0}) left result (closed frame closing holes) }
 {
     if !frame.bracket().is_closed_by(closing) {
@@ -203,7 +218,13 @@ fn closed(alloc: Global, frame: Opened, closing: Closing, holes: Holes, left: us
 }
 
 /// A term without a keyword's key begins in a bracket.
-fn at_part(alloc: Global, frame: Opened, holes: Holes, token: Token, left: usize) -> Result<State, Fault>
+fn at_part(
+    alloc: Global,
+    frame: Opened,
+    holes: Holes,
+    token: Token,
+    left: usize,
+) -> Result<State, Fault>
     ensures { GivesWhere (PartWell frame holes token) left result (at_part frame holes token) }
 {
     if !frame.takes_part() {
@@ -227,7 +248,13 @@ fn at_key(frame: Opened, holes: Holes, key: Text, left: usize) -> Result<State, 
 }
 
 /// A token directly after an opening bracket or a comma.
-fn at_element(alloc: Global, frame: Opened, holes: Holes, token: Token, left: usize) -> Result<State, Fault>
+fn at_element(
+    alloc: Global,
+    frame: Opened,
+    holes: Holes,
+    token: Token,
+    left: usize,
+) -> Result<State, Fault>
     ensures { GivesWhere (ElementFits frame holes token) left result (at_element frame holes token) }
 {
     match token {
@@ -238,7 +265,13 @@ fn at_element(alloc: Global, frame: Opened, holes: Holes, token: Token, left: us
 }
 
 /// A token directly after a part of a bracket.
-fn at_separator(alloc: Global, frame: Opened, holes: Holes, token: Token, left: usize) -> Result<State, Fault>
+fn at_separator(
+    alloc: Global,
+    frame: Opened,
+    holes: Holes,
+    token: Token,
+    left: usize,
+) -> Result<State, Fault>
     ensures { GivesWhere (Unit {0}) left result (at_separator frame holes token) }
 {
     match token {
@@ -249,7 +282,13 @@ fn at_separator(alloc: Global, frame: Opened, holes: Holes, token: Token, left: 
 }
 
 /// A token directly after the key of a map's entry.
-fn at_arrow(key: Term, frame: Opened, holes: Holes, token: Token, left: usize) -> Result<State, Fault>
+fn at_arrow(
+    key: Term,
+    frame: Opened,
+    holes: Holes,
+    token: Token,
+    left: usize,
+) -> Result<State, Fault>
     ensures { GivesWhere (Enters (record { frame = frame; slot = EntryValue key }) holes) left result (at_arrow key frame holes token) }
 {
     let Token::Arrow = token else {

@@ -1,0 +1,11 @@
+pub mod ChildLemmas
+pub mod FolderLemmas
+pub mod ListLemmas
+pub mod OneOrder
+pub mod OnePlan
+pub mod OneRoot
+pub mod SourceLemmas
+pub mod Stages
+pub mod Steps
+pub mod VersionLemmas
+pub mod WinnerLemmas

@@ -1,0 +1,112 @@
+-- The order of the winners that are reached, and the jobs in it.
+use Rattle.std.proofs.Common.{◌≡◌, ℕ, ◌+◌, ◌<◌, ◌≤◌, inl, inr, Bool, true, false, List, [], ◌∷◌, ◌++◌, length, take, Option, Some, Result, Ok, Err, IsTrue, refl, sym, ◌∙◌, ap, ap₂, subst, arith}
+use Rattle.std.specs.List.{slice_get}
+use Rattle.std.proofs.lemmas.Bool.{both_ways, cases_order}
+use Rattle.std.proofs.lemmas.List.{length_push}
+use Rattle.mx_base.specs.declared.file.File.{File}
+use Rattle.compile_model.specs.declared.job.Job.{Job}
+use Rattle.converger.specs.Reach.{AreReached}
+use Rattle.converger.proofs.OneAnswer.{one_reach}
+use Rattle.dep_order.specs.Cycle.{IsCycleOf}
+use Rattle.dep_order.specs.Listing.{IsOrderOf}
+use Rattle.dep_order.specs.Reach.{IsClosureOf}
+use Rattle.dep_order.proofs.Cycles.{one_cycle, order_or_cycle}
+use Rattle.dep_order.proofs.Listings.{one_order}
+use Rattle.dep_rows.specs.declared.row.Row.{Row}
+use Rattle.dep_rows.proofs.Places.{get_longer, get_end}
+use Rattle.project_file.specs.declared.project.Project.{Project}
+use Rattle.project_file.specs.declared.settings.Settings.{Settings}
+use Rattle.build_plan.specs.declared.error.PlanError.{PlanError}
+use Rattle.build_plan.specs.declared.error.PlanError.TheVariants as refused
+use Rattle.build_plan.specs.Dependencies.{version_by}
+use Rattle.build_plan.specs.Jobs.{IsJobAt, AreFirstJobs, AllFit, is_too_large, job_with, places_in}
+use Rattle.build_plan.specs.Needs.{graph_of, apps_of}
+use Rattle.build_plan.proofs.ChildLemmas.{OneProject}
+use Rattle.build_plan.proofs.ListLemmas.{Agree, begins, one_at, same_filter, same_list}
+use Rattle.build_plan.proofs.OneRoot.{one_found}
+use Rattle.build_plan.proofs.Stages.{Orders, circles, orders, MakesJobs, passes_size, makes}
+use Rattle.build_plan.proofs.Steps.{HasOne}
+
+module _ (rows : List Row) (env : List ℕ) where
+  no_order : (places others order nodes : List ℕ) → AreReached rows env places → AreReached rows env others → IsOrderOf (graph_of rows places) order → IsCycleOf (graph_of rows others) nodes → ⊥
+  no_order places others order nodes are also ordered around =
+      order_or_cycle (graph_of rows places) order nodes ordered (subst (λ (ps : List ℕ). IsCycleOf (graph_of rows ps) nodes) (one_reach rows env others places also are) around)
+
+  order_same : {a b : Result (List ℕ × List ℕ) PlanError} → Orders rows env a → Orders rows env b → a ≡ b
+  order_same (circles places nodes are around) (circles others more also back) =
+      let same : places ≡ others = one_reach rows env places others are also in
+      ap₂ (λ (ps ns : List ℕ). Err (refused.Cycle (apps_of rows ps ns))) same
+      (one_cycle (graph_of rows places) nodes more around (subst (λ (ps : List ℕ). IsCycleOf (graph_of rows ps) more) (sym same) back))
+  order_same (circles places nodes are around) (orders others order also ordered) = absurd (no_order others places order nodes also are ordered around)
+  order_same (orders places order are ordered) (circles others nodes also around) = absurd (no_order places others order nodes are also ordered around)
+  order_same (orders places order are ordered) (orders others more also same_ordered) =
+      let same : places ≡ others = one_reach rows env places others are also in
+      ap₂ (λ (ps ns : List ℕ). Ok (ps, ns)) same
+      (one_order (graph_of rows places) order more ordered (subst (λ (ps : List ℕ). IsOrderOf (graph_of rows ps) more) (sym same) same_ordered))
+
+  pub order_one : HasOne (Orders rows env)
+  order_one a b p q = order_same p q
+
+-- what a place reaches is one list
+one_closure : (graph : List (List ℕ)) (order : List ℕ) (node other : ℕ) (reached more : List ℕ) → node ≡ other → IsClosureOf graph order node reached → IsClosureOf graph order other more → reached ≡ more
+one_closure graph order node other reached more same is also =
+    is.kept
+    ∙ same_filter is.is_reached at.is_reached order (λ x h. (at.tells x).1 ((is.tells x).0 h)) (λ x h. (is.tells x).1 ((at.tells x).0 h))
+    ∙ sym at.kept
+  where
+    at : IsClosureOf graph order node more
+    at = subst (λ (n : ℕ). IsClosureOf graph order n more) (sym same) also
+
+module _ (one : OneProject) (files : List File) (settings : Settings) (rows : List Row) (places order : List ℕ) where
+  one_job : (k : ℕ) (job other : Job) → IsJobAt files settings rows places order k job → IsJobAt files settings rows places order k other → job ≡ other
+  one_job k job other is also =
+      let node = one_at order k k is.node also.node refl is.at also.at in
+      let place = one_at places is.node also.node is.place also.place node is.wins also.wins in
+      let row = one_at rows is.place also.place is.row also.row place is.stands also.stands in
+      let found = one_found one files is.row.decl.source is.dir also.dir is.found also.found is.source (ap (λ (r : Row). r.decl.source) row ∙ also.source) is.loaded also.loaded in
+      let reached = one_closure (graph_of rows places) order is.node also.node is.reached also.reached node is.needs also.needs in
+      is.is
+      ∙ ap₂ (λ (r : Row) (d : List ℕ). job_with files settings r d (version_by is.found) (places_in order is.reached) (apps_of rows places is.reached)) row found.0
+      ∙ ap₂ (λ (f : Option Project) (ns : List ℕ). job_with files settings also.row also.dir (version_by f) (places_in order ns) (apps_of rows places ns)) found.1 reached
+      ∙ sym also.is
+
+  agree : (jobs others : List Job) → AreFirstJobs files settings rows places order jobs → AreFirstJobs files settings rows places order others → Agree jobs others
+  agree jobs others are also k job other stands there = one_job k job other (are.each k job stands) (also.each k other there)
+
+  -- no job before the last one passes a limit
+  none_earlier : (jobs : List Job) (job : Job) (others : List Job) → length jobs < length others → Agree (jobs ++ job ∷ []) others → AllFit others → IsTrue (is_too_large jobs job) → ⊥
+  none_earlier jobs job others less same fit large =
+      let b = begins jobs job others less same in
+      both_ways (is_too_large jobs job) (ap (λ (js : List Job). is_too_large js job) (sym b.front) ∙ fit (length jobs) job b.next) large
+
+  front_agrees : (jobs others : List Job) (other : Job) → Agree jobs (others ++ other ∷ []) → Agree jobs others
+  front_agrees jobs others other same k x y stands there = same k x y stands (get_longer others (other ∷ []) k y there)
+
+  one_too_large : (jobs others : List Job) (job other : Job) → AreFirstJobs files settings rows places order (jobs ++ job ∷ []) → AreFirstJobs files settings rows places order (others ++ other ∷ []) → AllFit jobs → AllFit others → IsTrue (is_too_large jobs job) → IsTrue (is_too_large others other) → job ≡ other
+  one_too_large jobs others job other are also fit also_fit large too =
+      elim (cases_order (length jobs) (length others)) [
+        | inl same ↦
+            agree (jobs ++ job ∷ []) (others ++ other ∷ []) are also (length jobs) job other (get_end jobs job)
+            (ap (slice_get (others ++ other ∷ [])) same ∙ get_end others other)
+        | inr differ ↦ elim differ [
+          | inl less ↦ absurd (none_earlier jobs job others less (front_agrees (jobs ++ job ∷ []) others other (agree (jobs ++ job ∷ []) (others ++ other ∷ []) are also)) also_fit large)
+          | inr more ↦ absurd (none_earlier others other jobs more (front_agrees (others ++ other ∷ []) jobs job (agree (others ++ other ∷ []) (jobs ++ job ∷ []) also are)) fit too)
+        ]
+      ]
+
+  not_both : (jobs others : List Job) (job : Job) → AreFirstJobs files settings rows places order (jobs ++ job ∷ []) → AreFirstJobs files settings rows places order others → length others ≡ length order → AllFit others → IsTrue (is_too_large jobs job) → ⊥
+  not_both jobs others job are also whole fit large =
+      let few = are.few in
+      let long = length_push jobs job in
+      none_earlier jobs job others (omega (arith, few, long, whole)) (agree (jobs ++ job ∷ []) others are also) fit large
+
+  jobs_same : {a b : Result (List Job) PlanError} → MakesJobs files settings rows places order a → MakesJobs files settings rows places order b → a ≡ b
+  jobs_same (passes_size jobs job are fit large) (passes_size others other also also_fit too) =
+      ap (λ (j : Job). Err (refused.TooLarge j.app)) (one_too_large jobs others job other are also fit also_fit large too)
+  jobs_same (passes_size jobs job are fit large) (makes {jobs = others} also whole also_fit) = absurd (not_both jobs others job are also whole also_fit large)
+  jobs_same (makes {jobs = others} also whole also_fit) (passes_size jobs job are fit large) = absurd (not_both jobs others job are also whole also_fit large)
+  jobs_same (makes {jobs = jobs} are whole fit) (makes {jobs = others} also also_whole also_fit) =
+      ap (λ (js : List Job). Ok js) (same_list jobs others (whole ∙ sym also_whole) (agree jobs others are also))
+
+  pub jobs_one : HasOne (MakesJobs files settings rows places order)
+  jobs_one a b p q = jobs_same p q

@@ -1,0 +1,38 @@
+-- The files have one plan, or one refusal.
+use Rattle.std.proofs.Common.{◌≡◌, ℕ, List, [], Result}
+use Rattle.mx_base.specs.declared.file.File.{File}
+use Rattle.compile_model.specs.declared.job.Job.{Job}
+use Rattle.dep_rows.specs.declared.row.Row.{Row}
+use Rattle.project_file.specs.declared.error.SettingsError.{SettingsError}
+use Rattle.project_file.specs.declared.project.Project.{Project}
+use Rattle.project_file.specs.declared.settings.Settings.{Settings}
+use Rattle.project_file.specs.Files.{AreSettings, IsLoaded}
+use Rattle.build_plan.specs.declared.error.PlanError.{PlanError}
+use Rattle.build_plan.specs.Plan.{IsPlan}
+use Rattle.build_plan.proofs.ChildLemmas.{OneProject}
+use Rattle.build_plan.proofs.OneOrder.{jobs_one, order_one}
+use Rattle.build_plan.proofs.OneRoot.{rows_one, together_one}
+use Rattle.build_plan.proofs.Stages.{FromFiles, FromOrder, FromRoot, FromRows, FromSettings, ListsRows, LivesTogether, MakesJobs, Orders, root_answer, settings_answer, staged}
+use Rattle.build_plan.proofs.Steps.{Becomes, HasOne, becomes_one, then_one}
+
+-- the settings say one thing
+abbrev pub OneSettings : Type 0
+OneSettings = (files : List File) (answer other : Result Settings SettingsError) → AreSettings files answer → AreSettings files other → answer ≡ other
+
+module _ (one : OneProject) (files : List File) (env : List ℕ) (set : Settings) where
+  order_on : (listed : List Row × List ℕ) → HasOne (FromOrder files set listed env)
+  order_on listed =
+      then_one (Orders listed.0 env) (λ ordered. MakesJobs files set listed.0 ordered.0 ordered.1) (order_one listed.0 env) (λ ordered. jobs_one one files set listed.0 ordered.0 ordered.1)
+
+  rows_on : (listed : List Row × List ℕ) → HasOne (FromRows files set env listed)
+  rows_on listed = then_one (LivesTogether files listed.0 listed.1) (λ live. FromOrder files set listed env) (together_one one files listed.0 listed.1) (λ live. order_on listed)
+
+  root_on : (root : Project) → HasOne (FromRoot files env set root)
+  root_on root = then_one (ListsRows files root.decls) (FromRows files set env) (rows_one one files root.decls) rows_on
+
+  settings_on : HasOne (FromSettings files env set)
+  settings_on = then_one (Becomes (IsLoaded files []) root_answer) (FromRoot files env set) (becomes_one (IsLoaded files []) root_answer (one files [])) root_on
+
+pub one_plan : OneSettings → OneProject → (files : List File) (env : List ℕ) (answer other : Result (List Job) PlanError) → IsPlan files env answer → IsPlan files env other → answer ≡ other
+one_plan settings one files env answer other plan also =
+    then_one (Becomes (AreSettings files) settings_answer) (FromSettings files env) (becomes_one (AreSettings files) settings_answer (settings files)) (λ set. settings_on one files env set) answer other (staged plan) (staged also)

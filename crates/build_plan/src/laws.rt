@@ -1,0 +1,16 @@
+// What the definitions imply.
+ghost use Rattle.std.specs.Prelude.{◌≡◌, ℕ, List, Result};
+ghost use Rattle.mx_base.specs.declared.file.File.{File};
+ghost use Rattle.compile_model.specs.declared.job.Job.{Job};
+ghost use Rattle.build_plan.specs.Plan.{IsPlan};
+ghost use Rattle.build_plan.specs.declared.error.PlanError.{PlanError};
+
+use project_file::{one_project, one_settings};
+
+/// The files of a project have one plan in an environment, or one refusal that is met first.
+pub fn one_plan()
+    ensures { (files : List File) (env : List ℕ) (one other : Result (List Job) PlanError) → IsPlan files env one → IsPlan files env other → one ≡ other }
+{
+    one_settings();
+    one_project();
+}
