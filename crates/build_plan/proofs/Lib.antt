@@ -1,4 +1,3 @@
-pub mod ChildLemmas
 pub mod FolderLemmas
 pub mod ListLemmas
 pub mod OneOrder

@@ -1,5 +1,5 @@
 -- Lists that agree where both have something.
-use Rattle.std.proofs.Common.{◌≡◌, ℕ, zero, suc, ◌+◌, ◌<◌, Bool, true, false, List, [], ◌∷◌, ◌++◌, length, take, map, filter, Option, Some, refl, sym, ◌∙◌, ap, ap₂, arith}
+use Rattle.std.proofs.Common.{◌≡◌, ℕ, suc, ◌<◌, Bool, true, false, List, [], ◌∷◌, ◌++◌, length, take, map, filter, Some, refl, sym, ◌∙◌, ap, ap₂, arith}
 use Rattle.std.specs.List.{slice_get, AllZip}
 use Rattle.std.proofs.Math.Path.{fun_ext}
 use Rattle.std.proofs.lemmas.Option.{same_Some}
@@ -39,7 +39,7 @@ bool_same false true there back = back refl
 bool_same false false there back = refl
 
 pub same_filter : {X : Type 0} (p q : X → Bool) (xs : List X) → ((x : X) → p x ≡ true → q x ≡ true) → ((x : X) → q x ≡ true → p x ≡ true) → filter p xs ≡ filter q xs
-same_filter p q xs there back = ap (λ (r : X → Bool). filter r xs) (fun_ext (λ x. bool_same (p x) (q x) (there x) (back x)))
+same_filter {X = X} p q xs there back = ap (λ (r : X → Bool). filter r xs) (fun_ext (λ x. bool_same (p x) (q x) (there x) (back x)))
 
 -- place by place one thing, as far as `f` shows
 pub same_zip : {A B C : Type 0} (R : A → B → Type 0) (f : B → C) → ((a : A) (b c : B) → R a b → R a c → f b ≡ f c) → (xs : List A) (ys zs : List B) → AllZip R xs ys → AllZip R xs zs → map f ys ≡ map f zs

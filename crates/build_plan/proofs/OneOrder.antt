@@ -1,5 +1,5 @@
 -- The order of the winners that are reached, and the jobs in it.
-use Rattle.std.proofs.Common.{◌≡◌, ℕ, ◌+◌, ◌<◌, ◌≤◌, inl, inr, Bool, true, false, List, [], ◌∷◌, ◌++◌, length, take, Option, Some, Result, Ok, Err, IsTrue, refl, sym, ◌∙◌, ap, ap₂, subst, arith}
+use Rattle.std.proofs.Common.{◌≡◌, ℕ, ◌<◌, inl, inr, List, [], ◌∷◌, ◌++◌, length, Option, Result, Ok, Err, IsTrue, refl, sym, ◌∙◌, ap, ap₂, subst, arith}
 use Rattle.std.specs.List.{slice_get}
 use Rattle.std.proofs.lemmas.Bool.{both_ways, cases_order}
 use Rattle.std.proofs.lemmas.List.{length_push}
@@ -21,7 +21,7 @@ use Rattle.build_plan.specs.declared.error.PlanError.TheVariants as refused
 use Rattle.build_plan.specs.Dependencies.{version_by}
 use Rattle.build_plan.specs.Jobs.{IsJobAt, AreFirstJobs, AllFit, is_too_large, job_with, places_in}
 use Rattle.build_plan.specs.Needs.{graph_of, apps_of}
-use Rattle.build_plan.proofs.ChildLemmas.{OneProject}
+use Rattle.build_plan.specs.ChildLaws.{OneProject}
 use Rattle.build_plan.proofs.ListLemmas.{Agree, begins, one_at, same_filter, same_list}
 use Rattle.build_plan.proofs.OneRoot.{one_found}
 use Rattle.build_plan.proofs.Stages.{Orders, circles, orders, MakesJobs, passes_size, makes}

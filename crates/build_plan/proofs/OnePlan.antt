@@ -9,10 +9,10 @@ use Rattle.project_file.specs.declared.settings.Settings.{Settings}
 use Rattle.project_file.specs.Files.{AreSettings, IsLoaded}
 use Rattle.build_plan.specs.declared.error.PlanError.{PlanError}
 use Rattle.build_plan.specs.Plan.{IsPlan}
-use Rattle.build_plan.proofs.ChildLemmas.{OneProject}
+use Rattle.build_plan.specs.ChildLaws.{OneProject}
 use Rattle.build_plan.proofs.OneOrder.{jobs_one, order_one}
 use Rattle.build_plan.proofs.OneRoot.{rows_one, together_one}
-use Rattle.build_plan.proofs.Stages.{FromFiles, FromOrder, FromRoot, FromRows, FromSettings, ListsRows, LivesTogether, MakesJobs, Orders, root_answer, settings_answer, staged}
+use Rattle.build_plan.proofs.Stages.{FromOrder, FromRoot, FromRows, FromSettings, ListsRows, LivesTogether, MakesJobs, Orders, root_answer, settings_answer, staged}
 use Rattle.build_plan.proofs.Steps.{Becomes, HasOne, becomes_one, then_one}
 
 -- the settings say one thing

@@ -1,5 +1,5 @@
 -- The rows of a root, the versions of their winners, and what is said of their divergences.
-use Rattle.std.proofs.Common.{◌≡◌, ℕ, ◌<◌, ◌≤◌, List, [], ◌∷◌, length, map, Option, Some, Result, Ok, Err, refl, sym, ◌∙◌, ap, ap₂, subst, arith}
+use Rattle.std.proofs.Common.{◌≡◌, ℕ, ◌<◌, List, [], ◌∷◌, length, map, Option, Some, Result, Ok, Err, refl, sym, ◌∙◌, ap, ap₂, subst, arith}
 use Rattle.std.specs.Prelude.{option_map}
 use Rattle.std.proofs.lemmas.List.{map-id}
 use Rattle.std.proofs.lemmas.List.Elements.{All-weaker}
@@ -8,15 +8,14 @@ use Rattle.semver.specs.Parse.{version_parts}
 use Rattle.semver.specs.declared.Version.{Version}
 use Rattle.mx_base.specs.declared.file.File.{File}
 use Rattle.converger.specs.declared.divergence.Divergence.{Divergence}
-use Rattle.converger.specs.declared.divergence.Rule.{Rule}
 use Rattle.converger.specs.Converged.{NoneDiverges}
 use Rattle.converger.specs.Divergence.{AreDivergences, Diverges}
 use Rattle.converger.proofs.OneAnswer.{by_parts, one_divergence_list}
 use Rattle.dep_options.specs.declared.decl.Decl.{Decl}
 use Rattle.dep_options.specs.declared.decl.DepSource.{DepSource}
-use Rattle.dep_options.specs.declared.decl.DepSource.TheVariants.{Hex, Path}
+use Rattle.dep_options.specs.declared.decl.DepSource.TheVariants.{Path}
 use Rattle.dep_rows.specs.declared.row.Row.{Row}
-use Rattle.dep_rows.specs.Rows.{AnswersOnce, AreRows, Meets, PassesLimit}
+use Rattle.dep_rows.specs.Rows.{AnswersOnce}
 use Rattle.dep_rows.proofs.Outcomes.{one_list, rows_or_limit, rows_or_fault, fault_or_limit, one_fault}
 use Rattle.project_file.specs.declared.project.Project.{Project}
 use Rattle.project_file.specs.Files.{IsLoaded}
@@ -27,7 +26,7 @@ use Rattle.build_plan.specs.declared.error.PlanError.TheVariants as refused
 use Rattle.build_plan.specs.Dependencies.{AreChildren, AreVersions, HasVersion, version_by}
 use Rattle.build_plan.specs.Faults.{of_child}
 use Rattle.build_plan.specs.Lines.{AreLines, IsLine, line_of}
-use Rattle.build_plan.proofs.ChildLemmas.{OneProject, once}
+use Rattle.build_plan.specs.ChildLaws.{OneProject, once}
 use Rattle.build_plan.proofs.ListLemmas.{one_at, same_zip}
 use Rattle.build_plan.proofs.Stages.{ListsRows, meets, passes, lists, LivesTogether, diverges, lives}
 use Rattle.build_plan.proofs.Steps.{HasOne, same_ok}

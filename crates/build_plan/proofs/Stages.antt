@@ -76,12 +76,12 @@ abbrev pub FromFiles : List File → List ℕ → Result (List Job) PlanError �
 FromFiles files env = Then (Becomes (AreSettings files) settings_answer) (FromSettings files env)
 
 from_root : (files : List File) (env : List ℕ) (set : Settings) (root : Project) {answer : Result (List Job) PlanError} → AreSettings files (Ok set) → IsLoaded files [] (Ok (Some root)) → FromRoot files env set root answer → FromFiles files env answer
-from_root files env set root said loaded next = goes_on set (Ok set, said, refl) (goes_on root (Ok (Some root), loaded, refl) next)
+from_root files env set root said holds next = goes_on set (Ok set, said, refl) (goes_on root (Ok (Some root), holds, refl) next)
 
 pub staged : {files : List File} {env : List ℕ} {answer : Result (List Job) PlanError} → IsPlan files env answer → FromFiles files env answer
 staged (settings {error = error} said) = stops (Err error, said, refl)
 staged (no_project set said none) = goes_on set (Ok set, said, refl) (stops (Ok None, none, refl))
-staged (project set {fault = fault} said loaded) = goes_on set (Ok set, said, refl) (stops (Err fault, loaded, refl))
+staged (project set {fault = fault} said why) = goes_on set (Ok set, said, refl) (stops (Err fault, why, refl))
 staged {files = files} {env = env} (dependency set root is met) = from_root files env set root is.set is.loaded (stops (meets met))
 staged {files = files} {env = env} (too_many set root is many) = from_root files env set root is.set is.loaded (stops (passes many))
 staged {files = files} {env = env} (diverged set root rows winners versions divergences is listed are some said) =

@@ -18,7 +18,7 @@ use Rattle.build_plan.specs.ChildFaults.{of_rows, RefusesWinner}
 use Rattle.build_plan.specs.Dependencies.{AreChildren}
 use Rattle.build_plan.specs.Faults.{is_failed, is_memory, of_child, is_read_error, is_memory_error}
 use Rattle.build_plan.specs.Plan.{RefusesRows}
-use Rattle.build_plan.proofs.ChildLemmas.{OneProject, once}
+use Rattle.build_plan.specs.ChildLaws.{OneProject, once}
 
 -- the children of the winner at a place are known
 record IsAnswered {Fault : Type 0} (children : ChildrenOf Fault) (rows : List Row) (place : ℕ) : Type 0 where

@@ -13,7 +13,7 @@ use Rattle.build_plan.specs.Found.{IsFound, IsSound}
 pub record IsFoundIn (told : Option (List File)) (dir : List ℕ) (found : Found) : Type 0 where
   pub at : found.dir ≡ dir
   pub sound : IsSound found
-  pub told : IfSome told (λ files. IsTrue (has_files files dir) × IsFound files found)
+  pub says : IfSome told (λ files. IsTrue (has_files files dir) × IsFound files found)
 
 -- what is kept for a folder was found there
 abbrev pub AreKept : Option (List File) → BTreeMap (List ℕ) Found → Type 0

@@ -1,4 +1,5 @@
 pub mod ChildFaults
+pub mod ChildLaws
 pub mod Dependencies
 pub mod Faults
 pub mod Found

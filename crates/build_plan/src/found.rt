@@ -5,9 +5,10 @@ ghost use Rattle.std.specs.Option.{option_copied};
 ghost use Rattle.mx_base.specs.declared.file.File.{File};
 ghost use Rattle.mx_base.specs.Causes.{Counted};
 ghost use Rattle.mx_base.specs.Order.{ArePathsInOrder, bytes_at};
-ghost use Rattle.tree_store.specs.Faults as store;
+ghost use Rattle.tree_store.specs.Faults as faults;
 ghost use Rattle.tree_store.specs.Files.{is_in_build, paths_below};
 ghost use Rattle.dep_options.specs.declared.decl.Decl.{Decl};
+ghost use Rattle.dep_options.specs.declared.decl.DepSource.TheVariants.{Path};
 ghost use Rattle.dep_rows.specs.Children.{fails};
 ghost use Rattle.converger.specs.Reach.{admits};
 ghost use Rattle.project_file.specs.Files.{IsLoaded, manifest_at, is_outside, is_read};
@@ -71,7 +72,7 @@ pub(crate) fn find<S: Store>(
     dir: &RelPath,
 ) -> Result<Found, ChildFault>
     ensures found { IfOk result (λ found. IsFoundIn (S.sources store.old) dir.now found) }
-    ensures refused { IfErr result (λ fault. IsFalse (is_failed fault) → IsFalse (is_memory fault) → IfSome (S.sources store.old) (λ files. (winner : Decl) → winner.source ≡ DepSource.Path dir.now → AreChildren files app.now winner (Err fault))) }
+    ensures refused { IfErr result (λ fault. IsFalse (is_failed fault) → IsFalse (is_memory fault) → IfSome (S.sources store.old) (λ files. (winner : Decl) → winner.source ≡ Path dir.now → AreChildren files app.now winner (Err fault))) }
     ensures sources { S.sources store.new ≡ S.sources store.old }
     ensures same { S.slot store.new ≡ S.slot store.old }
     ensures returned { S.folder_faults store.new ≡ S.folder_faults store.old }
@@ -111,7 +112,7 @@ fn paths_in<S: Store>(
     ensures sources { S.sources store.new ≡ S.sources store.old }
     ensures same { S.slot store.new ≡ S.slot store.old }
     ensures returned { S.folder_faults store.new ≡ S.folder_faults store.old }
-    ensures cause { Counted (S.faults store.old) (S.faults store.new) (store.is_failed result) }
+    ensures cause { Counted (S.faults store.old) (S.faults store.new) (faults.is_failed result) }
 {
     if is_apart(dir) {
         store.list(alloc, dir)

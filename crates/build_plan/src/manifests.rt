@@ -6,7 +6,7 @@ ghost use Rattle.dep_rows.specs.Children.{fails};
 ghost use Rattle.build_plan.specs.Dependencies.{AreChildren};
 ghost use Rattle.build_plan.specs.Faults.{is_failed, is_memory};
 ghost use Rattle.build_plan.specs.Kept.{AreKept, IsFoundIn, MadeOver};
-ghost use Rattle.build_plan.proofs.ChildLemmas.{children_once, fault_is_told};
+ghost use Rattle.build_plan.specs.ChildLaws.{children_once, fault_is_told};
 
 use crate::children::ChildFault;
 use crate::found::{Found, find};

@@ -50,6 +50,7 @@ pub(crate) fn sources<S: Store>(
 }
 
 /// The file at a path, as a source of the dependency.
+#[tactic(auto, using(crate::proofs::SourceLemmas::place_of))]
 fn source<S: Store>(
     alloc: Global,
     store: &mut S,

@@ -1,5 +1,5 @@
 -- A row beside the winner of its app, and the list of all divergences.
-use Rattle.std.proofs.Common.{◌≡◌, ◌≢◌, ◌↔◌, ℕ, zero, suc, ◌+◌, ◌*◌, ◌<◌, ◌≤◌, Bool, true, false, ◌⊎◌, inl, inr, List, [], ◌∷◌, ◌++◌, length, get_or, All, AllPairs, Contains, sym, ◌∙◌, ap, subst, refl, arith, IsTrue, IsFalse, Option, Some, None, Ok, Err, eqb, eqb-true, eq-eqb}
+use Rattle.std.proofs.Common.{◌≡◌, ◌≢◌, ◌↔◌, ℕ, zero, suc, ◌+◌, ◌<◌, ◌≤◌, Bool, true, false, ◌⊎◌, inl, inr, List, [], ◌∷◌, ◌++◌, length, get_or, All, sym, ◌∙◌, ap, subst, refl, arith, Option, Some, None, Ok, Err, eqb, eqb-true, eq-eqb}
 use Rattle.std.specs.List.{slice_get}
 use Rattle.converger.specs.Walk.{is_marked}
 use Rattle.std.proofs.lemmas.Bool.{both_ways, cases_eq, cases_lt, cases_order}
@@ -11,13 +11,13 @@ use Rattle.std.proofs.lemmas.List.Elements.{All-push, All-weaker, Contains-appen
 use Rattle.std.proofs.lemmas.List.Quantifiers.{all_pairs_push}
 use Rattle.semver.specs.declared.Version.{Version}
 use Rattle.dep_rows.specs.declared.row.Row.{Row}
-use Rattle.dep_rows.specs.Rows.{IsWinner, AreWinners}
+use Rattle.dep_rows.specs.Rows.{IsWinner}
 use Rattle.converger.specs.declared.divergence.Divergence.{Divergence}
 use Rattle.converger.specs.declared.divergence.Rule.{Rule}
 use Rattle.converger.specs.declared.divergence.Rule.TheVariants.{V1, V2, V3, V4}
 use Rattle.converger.specs.Divergence.{Diverges, source, compiled, version, environment, HasVersion, IsUnder, AreDivergences, rank}
 use Rattle.converger.specs.Cases.{Meets, IsCase, IsScene, AreBefore, turn_of, index_of}
-use Rattle.converger.specs.Web.{winner_of, winners_of, IsStray}
+use Rattle.converger.specs.Web.{winner_of, winners_of}
 use Rattle.converger.proofs.WebLemmas.{one_value, winner_is, is_winner, winner_known, winner_inside, some_row}
 
 module _ (rows : List Row) (winners : List ℕ) (versions : List (Option Version)) where

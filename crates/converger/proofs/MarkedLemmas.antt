@@ -1,15 +1,13 @@
 -- The marked places as a list.
-use Rattle.std.proofs.Common.{◌≡◌, ◌↔◌, ℕ, ◌+◌, ◌<◌, ◌≤◌, Bool, true, false, ◌⊎◌, inl, inr, List, [], ◌∷◌, ◌++◌, length, get_or, All, AllPairs, Contains, sym, ◌∙◌, refl, arith, IsTrue}
-use Rattle.std.proofs.lemmas.List.Elements.{All-push, All-weaker, All-nil, Contains-append_left, Contains-push, All-contains}
+use Rattle.std.proofs.Common.{◌≡◌, ◌↔◌, ℕ, ◌+◌, ◌<◌, Bool, true, false, inl, inr, List, [], ◌∷◌, ◌++◌, length, get_or, All, arith, IsTrue}
+use Rattle.std.proofs.lemmas.List.Elements.{All-push, All-weaker, Contains-append_left, Contains-push}
 use Rattle.std.proofs.lemmas.List.Quantifiers.{all_pairs_push}
 use Rattle.std.proofs.lemmas.Bool.{both_ways, cases_eq}
 use Rattle.dep_rows.specs.declared.row.Row.{Row}
-use Rattle.dep_rows.specs.Rows.{IsWinner}
-use Rattle.converger.specs.Reach.{IsReached, AreReached}
+use Rattle.converger.specs.Reach.{AreReached}
 use Rattle.converger.specs.Walk.{is_marked, AreMarked}
 use Rattle.converger.specs.Web.{IsReachedAt}
 use Rattle.converger.proofs.Listed.{marked_within}
-use Rattle.converger.proofs.WebLemmas.{one_value}
 
 wider : (marks : List Bool) (i : ℕ) (places : List ℕ) → All (λ place. (place < i) × (is_marked marks place ≡ true)) places → All (λ place. (place < i + 1) × (is_marked marks place ≡ true)) places
 wider marks i places only = All-weaker (λ place. (place < i) × (is_marked marks place ≡ true)) (λ place. (place < i + 1) × (is_marked marks place ≡ true)) (λ x h. (omega (arith, h.0), h.1)) places only

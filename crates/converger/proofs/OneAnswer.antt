@@ -1,5 +1,5 @@
 -- What is reached, and what diverges, is one list.
-use Rattle.std.proofs.Common.{◌≡◌, ℕ, ◌<◌, ◌⊎◌, inl, inr, List, Option, Some, None, map, Contains, refl, sym, ◌∙◌, ap, subst, arith}
+use Rattle.std.proofs.Common.{◌≡◌, ℕ, ◌<◌, ◌⊎◌, inl, inr, List, Option, Some, None, map, Contains, refl, sym, ◌∙◌, ap, arith}
 use Rattle.std.specs.Prelude.{option_map}
 use Rattle.std.specs.List.{slice_get}
 use Rattle.std.proofs.lemmas.List.Elements.{All-contains}
@@ -11,7 +11,7 @@ use Rattle.dep_rows.specs.declared.row.Row.{Row}
 use Rattle.dep_rows.specs.Rows.{IsWinner}
 use Rattle.converger.specs.declared.divergence.Divergence.{Divergence}
 use Rattle.converger.specs.declared.divergence.Rule.{Rule}
-use Rattle.converger.specs.Divergence.{AreDivergences, Diverges, HasVersion, is_path, rank}
+use Rattle.converger.specs.Divergence.{AreDivergences, Diverges, is_path, rank}
 use Rattle.converger.specs.Divergence.Diverges.{source, compiled, version, environment}
 use Rattle.converger.specs.Reach.{AreReached, IsReached}
 use Rattle.converger.proofs.OneLemmas.{one_list}

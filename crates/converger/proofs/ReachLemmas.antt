@@ -1,14 +1,12 @@
 -- What is reached over the links between winners.
-use Rattle.std.proofs.Common.{◌≡◌, ◌↔◌, ℕ, ◌+◌, ◌<◌, ◌≤◌, Bool, true, false, ◌||◌, ◌&&◌, ◌⊎◌, inl, inr, eqb, eqb-true, eq-eqb, List, [], ◌∷◌, ◌++◌, length, get_or, All, sym, ◌∙◌, ap, ap₂, subst, refl, arith, IsTrue, Option, Some, None}
-use Rattle.std.specs.List.{slice_get}
+use Rattle.std.proofs.Common.{◌≡◌, ◌↔◌, ℕ, ◌+◌, ◌<◌, ◌≤◌, Bool, true, ◌||◌, ◌&&◌, ◌⊎◌, inl, inr, eqb, eqb-true, eq-eqb, List, [], ◌∷◌, ◌++◌, length, get_or, All, sym, ◌∙◌, ap, ap₂, subst, refl, arith, IsTrue, Option, Some}
 use Rattle.std.proofs.lemmas.List.{get_or_default}
 use Rattle.std.proofs.lemmas.Bool.{or_cases, or_left, or_right, and_parts, and_from, cases_eq}
 use Rattle.std.proofs.lemmas.Option.{slice_get_within, some_pair_parts}
 use Rattle.dep_rows.specs.declared.row.Row.{Row}
-use Rattle.dep_rows.specs.Rows.{IsWinner}
 use Rattle.converger.specs.Reach.{IsReached, from_root, from_app}
 use Rattle.converger.specs.Walk.{is_listed, links_at, Reaches, Start, Further}
-use Rattle.converger.specs.Web.{winner_of, winners_of, Brings, Starts, AreSound, IsWeb, IsReachedAt}
+use Rattle.converger.specs.Web.{winner_of, Brings, Starts, AreSound, IsWeb, IsReachedAt}
 use Rattle.converger.proofs.Listed.{listed_at, listed_push_cases, listed_push_kept, listed_push_new}
 use Rattle.converger.proofs.WebLemmas.{one_value, winner_is, is_winner}
 

@@ -1,5 +1,5 @@
 -- Rows that stand as they must are sound.
-use Rattle.std.proofs.Common.{◌≡◌, ℕ, ◌<◌, ◌≤◌, Bool, true, ◌||◌, not, List, length, get_or, Contains, sym, ◌∙◌, ap, arith, IsTrue, Option, Some, None, is_none}
+use Rattle.std.proofs.Common.{◌≡◌, ℕ, ◌<◌, ◌≤◌, ◌||◌, not, List, length, Contains, ◌∙◌, ap, IsTrue, Option, Some, None, is_none}
 use Rattle.std.specs.List.{slice_get}
 use Rattle.std.proofs.lemmas.Bool.{or_right}
 use Rattle.std.proofs.lemmas.List.Elements.{All-contains}

@@ -1,12 +1,12 @@
 -- Rows that are reached in an environment that their winner isn't for.
-use Rattle.std.proofs.Common.{◌≡◌, ◌↔◌, ℕ, zero, suc, ◌+◌, ◌<◌, ◌≤◌, Bool, true, false, not, cond, ◌||◌, ◌&&◌, ◌⊎◌, inl, inr, List, [], ◌∷◌, ◌++◌, length, get_or, set, take, replicate, sym, ◌∙◌, ap, ap₂, subst, refl, arith, IsTrue, IsFalse, Option, Some, None, is_none, bytes_eq}
+use Rattle.std.proofs.Common.{◌≡◌, ◌↔◌, ℕ, zero, suc, ◌+◌, ◌<◌, ◌≤◌, Bool, true, false, not, cond, ◌||◌, ◌&&◌, ◌⊎◌, inl, inr, List, [], ◌∷◌, ◌++◌, length, get_or, set, take, replicate, sym, ◌∙◌, ap, ap₂, subst, refl, arith, IsTrue, Option, Some, None, is_none, bytes_eq}
 use Rattle.std.specs.List.{slice_get, list_any}
 use Rattle.std.specs.Ordering.{is_eq}
 use Rattle.std.specs.BTreeSet.{BTreeSet, contains_by, UpdatesBy}
 use denote.Ref.{Bor}
 use Rattle.std.proofs.lemmas.List.{take_more, take_all, get_or_default, get_or-set_same, get_or-set_other}
 use Rattle.std.proofs.lemmas.List.Folds.{list_any_more, Any-from_list_any}
-use Rattle.std.proofs.lemmas.Bool.{false≢true, both_ways, or_cases, or_left, or_right, and_parts, and_from, cases_eq, not-true}
+use Rattle.std.proofs.lemmas.Bool.{false≢true, both_ways, and_parts, and_from, cases_eq, not-true}
 use Rattle.std.proofs.lemmas.Option.{slice_get_within}
 use Rattle.mx_base.specs.Order.{text_cmp}
 use Rattle.mx_base.specs.AppName.{IsAppName}
@@ -15,7 +15,6 @@ use Rattle.dep_rows.specs.Rows.{IsWinner}
 use Rattle.converger.specs.Reach.{admits, IsReached, from_root, from_app}
 use Rattle.converger.specs.Walk.{is_marked}
 use Rattle.converger.specs.Web.{winner_of, IsWeb, IsReachedAt, IsStray, AreNamed, is_named, is_stray_beside}
-use Rattle.converger.proofs.Listed.{marked_within}
 use Rattle.converger.proofs.WalkLemmas.{none_marked}
 use Rattle.converger.proofs.WebLemmas.{one_value, same_bytes, not_same_bytes, ties_bytes, winner_is, is_winner}
 

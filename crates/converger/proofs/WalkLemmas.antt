@@ -1,6 +1,6 @@
 -- A walk over links, from a queue.
-use Rattle.std.proofs.Common.{◌≡◌, ◌↔◌, ℕ, zero, suc, ◌+◌, ◌<◌, ◌≤◌, Bool, true, false, ◌||◌, ◌⊎◌, inl, inr, eqb, List, [], ◌∷◌, ◌++◌, length, get_or, set, take, replicate, All, sym, ◌∙◌, ap, refl, arith, IsTrue}
-use Rattle.std.proofs.lemmas.List.{get_or_default, get_or_past, get_or-replicate, length-replicate}
+use Rattle.std.proofs.Common.{◌≡◌, ◌↔◌, ℕ, zero, suc, ◌+◌, ◌<◌, ◌≤◌, Bool, true, false, ◌||◌, inl, inr, eqb, List, [], ◌∷◌, length, get_or, set, take, replicate, sym, ◌∙◌, ap, refl, arith, IsTrue}
+use Rattle.std.proofs.lemmas.List.{get_or_past, get_or-replicate, length-replicate}
 use Rattle.std.proofs.lemmas.List.Folds.{list_any_more}
 use Rattle.std.proofs.lemmas.Bool.{or_left, or_right, or_cases, cases_lt, cases_eq}
 use Rattle.converger.specs.Walk.{is_listed, is_marked, links_at, unmarked, Adds, Reaches, Start, Further}

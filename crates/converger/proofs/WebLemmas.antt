@@ -1,5 +1,5 @@
 -- Winners by their apps, and what each brings in.
-use Rattle.std.proofs.Common.{◌≡◌, ◌≢◌, ◌↔◌, ℕ, zero, suc, ◌+◌, ◌<◌, ◌≤◌, Bool, true, false, cond, ◌&&◌, ◌||◌, ◌⊎◌, inl, inr, eqb, List, [], ◌∷◌, ◌++◌, length, get_or, set, take, map, sym, ◌∙◌, ap, ap₂, refl, arith, IsTrue, Option, Some, None, bytes_eq, add-suc, eqb-true, eq-eqb}
+use Rattle.std.proofs.Common.{◌≡◌, ◌≢◌, ℕ, zero, suc, ◌+◌, ◌<◌, Bool, true, false, cond, ◌&&◌, inl, inr, List, [], ◌∷◌, ◌++◌, length, get_or, take, map, sym, ◌∙◌, ap, ap₂, refl, arith, IsTrue, Option, Some, None, bytes_eq}
 use Rattle.std.specs.List.{slice_get}
 use Rattle.std.specs.Option.{option_map, is_some}
 use Rattle.std.specs.BTreeMap.{BTreeMap, get_by, UpdatesBy}
@@ -14,7 +14,6 @@ use Rattle.std.proofs.lemmas.Slice.Eq.{bytes_eq-Decides}
 use Rattle.mx_base.specs.Order.{text_cmp}
 use Rattle.dep_rows.specs.declared.row.Row.{Row}
 use Rattle.dep_rows.specs.Rows.{IsWinner}
-use Rattle.converger.specs.Divergence.{IsUnder}
 use Rattle.converger.specs.Web.{winner_from, winner_of, winners_of}
 
 pub one_value : {A : Type 0} {x y : A} → Some x ≡ Some y → x ≡ y

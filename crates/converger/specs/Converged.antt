@@ -1,9 +1,8 @@
 -- What is answered of rows and their versions.
-use Rattle.std.specs.Prelude.{◌≡◌, ℕ, ◌<◌, List, length, Option, IsSome}
+use Rattle.std.specs.Prelude.{ℕ, ◌<◌, List, length, Option, IsSome}
 use Rattle.std.specs.List.{All}
 use Rattle.semver.specs.declared.Version.{Version}
 use Rattle.dep_rows.specs.declared.row.Row.{Row}
-use Rattle.converger.specs.declared.divergence.Divergence.{Divergence}
 use Rattle.converger.specs.declared.divergence.Rule.{Rule}
 use Rattle.converger.specs.declared.converged.ConvergeError.{ConvergeError}
 use Rattle.converger.specs.declared.converged.ConvergeError.TheVariants.{Diverged, NoVersion, OutOfMemory}

@@ -1,5 +1,5 @@
 -- What is reached over links between places.
-use Rattle.std.specs.Prelude.{◌≡◌, ℕ, ◌+◌, ◌<◌, ◌≤◌, ◌||◌, Bool, true, false, if◌then◌else◌, List, [], ◌∷◌, length, slice_index, nat_eq, IsTrue}
+use Rattle.std.specs.Prelude.{◌≡◌, ℕ, ◌+◌, ◌<◌, ◌≤◌, ◌||◌, Bool, false, if◌then◌else◌, List, [], ◌∷◌, length, slice_index, nat_eq, IsTrue}
 use Rattle.std.specs.List.{All, AllPairs, Contains, list_any, slice_index_or}
 
 -- whether a place is among these

@@ -1,6 +1,6 @@
 -- Who wins, and whom each winner brings in.
 use Rattle.std.specs.Prelude.{◌≡◌, ◌↔◌, ℕ, suc, ◌<◌, ◌≤◌, Bool, false, ◌&&◌, not, is_none, if◌then◌else◌, List, [], ◌∷◌, length, map, Option, Some, None, IsTrue, IsFalse, slice_get, bytes_eq}
-use Rattle.std.specs.List.{All, list_any}
+use Rattle.std.specs.List.{list_any}
 use Rattle.dep_rows.specs.declared.row.Row.{Row}
 use Rattle.dep_rows.specs.Rows.{IsWinner}
 use Rattle.converger.specs.Reach.{IsReached, admits}

@@ -1,6 +1,9 @@
 // Declarations worked by hand.
 
-use crate::{ConvergeError, Divergences, Versions, converge, for_env};
+use crate::{
+    ConvergeError, Divergences, Versions, converge, divergences_by_parts, for_env,
+    one_divergence_list, one_reach,
+};
 use dep_options::{CompileBy, Decl, DepSource};
 use dep_rows::{ListAnswer, ListAnswers, ListChildren, Rows, rows};
 use mx_base::{AppName, ListOf, Names, NoFaults, RelPath, Variables};
@@ -343,5 +346,13 @@ fn an_environment_reaches_what_its_apps_bring_in(rt: HostRuntime) -> Result<(), 
         reached(alloc, "t/only=test, u", "t: x\nu: x/optional", "prod")?,
         1
     );
+    Ok(())
+}
+
+#[test]
+fn rows_have_one_reach_and_one_list_of_divergences(_rt: HostRuntime) -> Result<(), Fail> {
+    one_reach();
+    one_divergence_list();
+    divergences_by_parts();
     Ok(())
 }

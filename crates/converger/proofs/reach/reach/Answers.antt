@@ -1,4 +1,4 @@
-use Rattle.std.proofs.Common.{◌≡◌, ◌↔◌, ℕ, IfOk, IsTrue}
+use Rattle.std.proofs.Common.{◌↔◌, ℕ, IfOk, IsTrue}
 use Rattle.std.proofs.lemmas.Result.{IfOk-weaker}
 use Rattle.converger.specs.Walk.{is_marked, Reaches}
 use Rattle.converger.proofs.ReachLemmas.{links_within, starts_within, reach_is}

@@ -1,4 +1,4 @@
-use Rattle.std.proofs.Common.{◌≡◌, ◌↔◌, ◌⊎◌, ℕ, ◌<◌, [], length, IsTrue}
+use Rattle.std.proofs.Common.{◌≡◌, ◌↔◌, ℕ, length, IsTrue}
 use Rattle.converger.specs.Walk.{is_marked}
 use Rattle.converger.proofs.StrayLemmas.{IsTried}
 use Rattle.converger.proofs.strays.strays.Given as goal
