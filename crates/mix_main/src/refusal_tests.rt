@@ -16,14 +16,21 @@ const REFUSED_ROOTS: &str = r#"[app: 1.5]|refused at 7: Unsupported(Float)
 [app: :demo, version: "1.0.0", deps: {}]|shape
 "#;
 
-// The same by the declarations alone.
-const REFUSED_DECLARATIONS: &str = r#"[{:b, pth: "b"}]|dependency 0: UnknownOption(pth)
-[{:b, git: "x"}]|dependency 0: UnsupportedSource(git)
-[{:b, path: "../b"}]|dependency 0: BadValue(path)
-[{:b, path: "_build/b"}]|dependency 0: BadValue(path)
-[{:b, "one"}]|dependency 0: BadRequirement
-[{:b, path: "b"}, {:c, []}]|dependency 1: NoSource
-[:b]|dependency 0: Shape
+// Declarations of the root, the status, and what refuses them, it or b or c.
+const REFUSED_DECLARATIONS: &str =
+    r#"[{:b, pth: "b"}]|3|project.exs: dependency 0: UnknownOption(pth)
+[{:b, git: "x"}]|3|project.exs: dependency 0: UnsupportedSource(git)
+[{:b, path: "../b"}]|3|project.exs: dependency 0: BadValue(path)
+[{:b, path: "_build/b"}]|3|project.exs: dependency 0: BadValue(path)
+[{:b, "one"}]|3|project.exs: dependency 0: BadRequirement
+[{:b, path: "b"}, {:c, []}]|3|project.exs: dependency 1: NoSource
+[:b]|3|project.exs: dependency 0: Shape
+[{:b, "~> 1.0"}]|9|not locked: b
+[{:c, hex: :b}, {:b, path: "d"}]|9|not locked: c
+[{:d, path: "d"}, {:b, path: "b"}]|9|path missing: d d
+[{:b, path: "b"}, {:c, path: "c"}, {:d, path: "d"}]|3|c/project.exs: refused at 8: Unclosed
+[{:b, path: "b"}, {:b, path: "c"}]|4|V1 b: (root) at 0, (root) at 1
+[{:b, "~> 2.0", path: "b"}]|4|V3 b: (root) at 0, (root) at 0
 "#;
 
 // Declarations with which b is built.
@@ -40,15 +47,6 @@ const PLANNED_DECLARATIONS: &str = r#"[{:b, "~> 1.0", path: "b"}]
 "#;
 
 const B_BUILT: &str = "==> b 1.0.0 built\n1 dependencies: 1 built, 0 failed, 0 skipped\n";
-
-// Declarations that b or c refuses, with the status and the line.
-const REFUSED_LATER: &str = r#"[{:b, "~> 1.0"}]|9|not locked: b
-[{:c, hex: :b}, {:b, path: "d"}]|9|not locked: c
-[{:d, path: "d"}, {:b, path: "b"}]|9|path missing: d d
-[{:b, path: "b"}, {:c, path: "c"}, {:d, path: "d"}]|3|c/project.exs: refused at 8: Unclosed
-[{:b, path: "b"}, {:b, path: "c"}]|4|V1 b: (root) at 0, (root) at 1
-[{:b, "~> 2.0", path: "b"}]|4|V3 b: (root) at 0, (root) at 0
-"#;
 
 // A root with these declarations, and the folders b and c: c's manifest has no end.
 fn assert_declared(
@@ -67,36 +65,40 @@ fn assert_declared(
     assert_told(rt, alloc, &files, code, text)
 }
 
+// A row of the table of roots.
+fn assert_root_row(rt: &impl Abort, alloc: Global, row: &str) -> Result<(), Fail> {
+    let mut parts = row.split('|');
+    let files = [("project.exs", parts.next().unwrap_or(""))];
+    let line = format!(in alloc; "mixc: project.exs: {}\n", parts.next().unwrap_or(""))?;
+    assert_told(rt, alloc, &files, 3, &line)
+}
+
 #[test]
 fn the_first_refusal_of_a_root_is_told(rt: HostRuntime) -> Result<(), Fail> {
-    let alloc = rt.alloc();
-    assert_told(&rt, alloc, &[], 9, "mixc: no project\n")?;
+    assert_told(&rt, rt.alloc(), &[], 9, "mixc: no project\n")?;
     for row in REFUSED_ROOTS.lines() {
-        let mut parts = row.split('|');
-        let files = [("project.exs", parts.next().unwrap_or(""))];
-        let cause = parts.next().unwrap_or("");
-        let line = format!(in alloc; "mixc: project.exs: {cause}\n")?;
-        assert_told(&rt, alloc, &files, 3, &line)?;
+        assert_root_row(&rt, rt.alloc(), row)?;
     }
     Ok(())
 }
 
+// A row of the table of declarations.
+fn assert_row(rt: &impl Abort, alloc: Global, row: &str) -> Result<(), Fail> {
+    let mut parts = row.split('|');
+    let deps = parts.next().unwrap_or("");
+    let code = match parts.next() {
+        Some("4") => 4,
+        Some("9") => 9,
+        _ => 3,
+    };
+    let line = format!(in alloc; "mixc: {}\n", parts.next().unwrap_or(""))?;
+    assert_declared(rt, alloc, deps, code, &line)
+}
+
 #[test]
 fn the_first_refusal_of_a_declaration_is_told(rt: HostRuntime) -> Result<(), Fail> {
-    let alloc = rt.alloc();
     for row in REFUSED_DECLARATIONS.lines() {
-        let mut parts = row.split('|');
-        let deps = parts.next().unwrap_or("");
-        let cause = parts.next().unwrap_or("");
-        let line = format!(in alloc; "mixc: project.exs: {cause}\n")?;
-        assert_declared(&rt, alloc, deps, 3, &line)?;
-    }
-    for row in REFUSED_LATER.lines() {
-        let mut parts = row.split('|');
-        let deps = parts.next().unwrap_or("");
-        let code = parts.next().unwrap_or("").parse()?;
-        let line = format!(in alloc; "mixc: {}\n", parts.next().unwrap_or(""))?;
-        assert_declared(&rt, alloc, deps, code, &line)?;
+        assert_row(&rt, rt.alloc(), row)?;
     }
     Ok(())
 }
