@@ -21,7 +21,7 @@ use tree_store::Store;
 /// Does what the words of the command line say, in the environment `dev`.
 ///
 /// The answer is the status of the program. Where the store and the sink tell what they hold, statuses 0 and 1
-/// come with the files of the plan in the build tree and with its report; 2, 3 and 9 say what is refused; 5, 6, 7
+/// come with the files of the plan in the build tree and with its report; 2, 3, 4 and 9 say what is refused; 5, 6, 7
 /// and 10 say what failed outside; 8 says that memory ran out, which alone has no cause here.
 ///
 /// After any status, where the store tells its files, the builds of the environment hold some of the files that they
@@ -44,7 +44,7 @@ pub fn run<S: Store, C: Compiler, K: Sink>(
     ensures bad_words { result ≡ Status.BadWords → RefusesWords (map (λ word. string_bytes word) words.now) (K.taken out.old) (K.taken out.new) }
     ensures words { result ≢ Status.BadWords → result ≢ Status.OutOfMemory → result ≢ Status.WriteFault → IsCommand (map (λ word. string_bytes word) words.now) }
 
-    // Status 3 and 9: the input is refused.
+    // Status 3, 4 and 9: the input is refused.
     ensures refused { IsRefusal result → IfSome (S.sources store.old) (λ files. RefusesInput files dev result (K.taken out.old) (K.taken out.new)) }
     ensures same { IsRefusal result → S.slot store.new ≡ S.slot store.old }
     ensures clean_refusal { IsRefusal result → NothingFailed (S.faults store.old) (S.faults store.new) (S.folder_faults store.old) (S.folder_faults store.new) (C.deaths compiler.old) (C.deaths compiler.new) }
