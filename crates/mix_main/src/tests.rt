@@ -2,8 +2,8 @@
 
 use crate::run;
 use compile_model::EchoCompiler;
-use mx_base::{AppName, Bytes, FaultPlan, MemSink, RelPath};
-use std::alloc::Global;
+use mx_base::{AppName, Bytes, FaultPlan, File, MemSink, RelPath};
+use std::alloc::{AllocError, Global};
 use std::process::Abort;
 use std::test::Fail;
 use tree_store::{Contents, Folder, MemStore, Store};
@@ -103,6 +103,14 @@ fn told(alloc: Global, files: &[(&str, &str)], given: &[&str]) -> Result<(u8, Ve
     Ok((status.code(), out.as_slice().to_vec(alloc)?))
 }
 
+fn bytes_of(alloc: Global, files: &[File]) -> Result<Vec<u8>, AllocError> {
+    let mut bytes = Vec::new(alloc);
+    for file in files {
+        bytes.extend_from_slice(file.bytes.as_slice())?;
+    }
+    Ok(bytes)
+}
+
 // The bytes of an app's output files after `deps.compile`.
 fn output(alloc: Global, files: &[(&str, &str)], app: &str) -> Result<Vec<u8>, Fail> {
     let mut store = MemStore::new(
@@ -117,11 +125,9 @@ fn output(alloc: Global, files: &[(&str, &str)], app: &str) -> Result<Vec<u8>, F
     let _status = run(alloc, &words, &mut store, &mut EchoCompiler, &mut out);
     let env = AppName::of(alloc, b"dev")?;
     let app = AppName::of(alloc, app.as_bytes())?;
-    let mut bytes = Vec::new(alloc);
-    for file in store.folder(alloc, &env, &app)?.files(alloc)?.as_slice() {
-        bytes.extend_from_slice(file.bytes.as_slice())?;
-    }
-    Ok(bytes)
+    let mut folder = store.folder(alloc, &env, &app)?;
+    let files = folder.files(alloc)?;
+    Ok(bytes_of(alloc, files.as_slice())?)
 }
 
 /// What `deps.compile` answers and prints over these files.
