@@ -2,11 +2,11 @@
 
 use crate::run;
 use compile_model::EchoCompiler;
-use mx_base::{AppName, Bytes, FaultPlan, File, MemSink, RelPath};
+use mx_base::{AppName, Bytes, FaultPlan, File, MemSink, NoFaults, RelPath};
 use std::alloc::{AllocError, Global};
 use std::process::Abort;
 use std::test::Fail;
-use tree_store::{Contents, Folder, MemStore, Store};
+use tree_store::{ConstStore, Contents, Folder, MemStore, Store};
 
 const ROOT: &str =
     "[app: :demo, version: \"0.1.0\", deps: [{:a, path: \"a\"}, {:b, path: \"b\"}, {:c, path: \"c\"}]]";
@@ -87,20 +87,27 @@ pub(crate) fn failing(alloc: Global, call: u64) -> Result<FaultPlan, Fail> {
     Ok(FaultPlan::new(vec![in alloc; call]?))
 }
 
+fn store_of(alloc: Global, files: &[(&str, &str)]) -> Result<ConstStore, Fail> {
+    let contents = project(alloc, files)?;
+    Ok(MemStore::new(alloc, contents, NoFaults, NoFaults, NoFaults))
+}
+
 // What a command answers and prints, over a store that doesn't fail.
 fn told(alloc: Global, files: &[(&str, &str)], given: &[&str]) -> Result<(u8, Vec<u8>), Fail> {
-    let none = failing(alloc, 0)?;
-    let mut store = MemStore::new(
-        alloc,
-        project(alloc, files)?,
-        none,
-        failing(alloc, 0)?,
-        failing(alloc, 0)?,
-    );
+    let mut store = store_of(alloc, files)?;
     let mut out = MemSink::new(alloc, Vec::new(alloc));
     let words = words(alloc, given)?;
     let status = run(alloc, &words, &mut store, &mut EchoCompiler, &mut out);
     Ok((status.code(), out.as_slice().to_vec(alloc)?))
+}
+
+// The store after `deps.compile`.
+fn compiled(alloc: Global, files: &[(&str, &str)]) -> Result<ConstStore, Fail> {
+    let mut store = store_of(alloc, files)?;
+    let mut out = MemSink::new(alloc, Vec::new(alloc));
+    let words = words(alloc, &["deps.compile"])?;
+    let _status = run(alloc, &words, &mut store, &mut EchoCompiler, &mut out);
+    Ok(store)
 }
 
 fn bytes_of(alloc: Global, files: &[File]) -> Result<Vec<u8>, AllocError> {
@@ -113,16 +120,7 @@ fn bytes_of(alloc: Global, files: &[File]) -> Result<Vec<u8>, AllocError> {
 
 // The bytes of an app's output files after `deps.compile`.
 fn output(alloc: Global, files: &[(&str, &str)], app: &str) -> Result<Vec<u8>, Fail> {
-    let mut store = MemStore::new(
-        alloc,
-        project(alloc, files)?,
-        failing(alloc, 0)?,
-        failing(alloc, 0)?,
-        failing(alloc, 0)?,
-    );
-    let mut out = MemSink::new(alloc, Vec::new(alloc));
-    let words = words(alloc, &["deps.compile"])?;
-    let _status = run(alloc, &words, &mut store, &mut EchoCompiler, &mut out);
+    let mut store = compiled(alloc, files)?;
     let env = AppName::of(alloc, b"dev")?;
     let app = AppName::of(alloc, app.as_bytes())?;
     let mut folder = store.folder(alloc, &env, &app)?;
