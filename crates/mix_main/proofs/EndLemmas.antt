@@ -1,5 +1,5 @@
 -- What a status tells of a stop.
-use Rattle.std.proofs.Common.{◌≡◌, ◌∙◌, ◌⊎◌, inl, inr, ℕ, Bool, List, [], ◌∷◌, take, codes, Option, Some, None, IfSome, Result, Ok, Err, IfErr, ap, subst, refl, sym}
+use Rattle.std.proofs.Common.{◌≡◌, ◌∙◌, ◌⊎◌, inl, inr, ℕ, Bool, List, [], ◌∷◌, take, codes, Option, Some, None, IfSome, IsFalse, Result, Ok, Err, IfErr, ap, subst, refl, sym}
 use Rattle.mx_base.specs.Sink.{with_bytes}
 use Rattle.mx_base.specs.declared.file.File.{File}
 use Rattle.compile_model.specs.declared.outcome.Outcome.{Outcome}
@@ -7,14 +7,15 @@ use Rattle.compile_model.specs.declared.job.Job.{Job}
 use Rattle.compile_model.specs.Content.{Content}
 use Rattle.tree_store.specs.declared.key.BuildKey.{BuildKey}
 use Rattle.tree_store.specs.Slot.{Slot}
-use Rattle.mix_main.specs.Plan.{IsPlan}
+use Rattle.build_plan.specs.Plan.{IsPlan}
 use Rattle.mix_main.specs.Words.{bad_word, IsCommand}
-use Rattle.mix_main.proofs.OneLemmas.{plan_one}
-use Rattle.mix_main.specs.declared.refusal.Refusal.{Refusal}
+use Rattle.build_plan.specs.declared.error.PlanError.{PlanError}
+use Rattle.build_plan.specs.declared.error.PlanError.TheVariants as plan
+use Rattle.build_plan.specs.Faults.{is_read_error}
 use Rattle.mix_main.specs.declared.stop.Stop.{Stop}
 use Rattle.mix_main.specs.declared.stop.Stop.TheVariants as stop
 use Rattle.mix_main.specs.declared.status.Status.{Status}
-use Rattle.mix_main.specs.declared.status.Status.TheVariants.{Built, SomeFailed, BadWords, Refused, ReadFault, TreeFault, Died, OutOfMemory, Missing, WriteFault}
+use Rattle.mix_main.specs.declared.status.Status.TheVariants.{Built, SomeFailed, BadWords, Refused, Conflict, ReadFault, TreeFault, Died, OutOfMemory, Missing, WriteFault}
 use Rattle.mix_main.specs.Ends.{Says, Tells, TakesLine, TakesPrefix, RefusesInput, CompileWrites, FaultLine, Finished, HasPlan, AfterPlan, IfDied, EndsRefused, EndsPlanned, stop_line}
 use Rattle.mix_main.specs.Status.{EndsWords, IsRefusal, IsBuilt, status_of}
 use Rattle.mix_main.specs.Stop.{IfRefused, RefusedFirst}
@@ -26,6 +27,7 @@ says_tells text status Built old new s says tells = subst (λ (r : Status). Tell
 says_tells text status SomeFailed old new s says tells = subst (λ (r : Status). Tells r s) (sym says.0) tells
 says_tells text status BadWords old new s says tells = subst (λ (r : Status). Tells r s) (sym says.0) tells
 says_tells text status Refused old new s says tells = subst (λ (r : Status). Tells r s) (sym says.0) tells
+says_tells text status Conflict old new s says tells = subst (λ (r : Status). Tells r s) (sym says.0) tells
 says_tells text status ReadFault old new s says tells = subst (λ (r : Status). Tells r s) (sym says.0) tells
 says_tells text status TreeFault old new s says tells = subst (λ (r : Status). Tells r s) (sym says.0) tells
 says_tells text status Died old new s says tells = subst (λ (r : Status). Tells r s) (sym says.0) tells
@@ -33,12 +35,27 @@ says_tells text status OutOfMemory old new s says tells = tt
 says_tells text status Missing old new s says tells = subst (λ (r : Status). Tells r s) (sym says.0) tells
 says_tells text status WriteFault old new s says tells = tt
 
+-- a refusal's own status tells of it
+pub refusal_tells : (refusal : PlanError) → IsFalse (is_read_error refusal) → Tells (status_of refusal) (stop.Refused refusal)
+refusal_tells plan.Read of_files = cc
+refusal_tells (plan.Settings fault) of_files = (plan.Settings fault, refl, refl)
+refusal_tells plan.NoProject of_files = (plan.NoProject, refl, refl)
+refusal_tells (plan.Project path fault) of_files = (plan.Project path fault, refl, refl)
+refusal_tells (plan.PathMissing app dir) of_files = (plan.PathMissing app dir, refl, refl)
+refusal_tells (plan.NotLocked app) of_files = (plan.NotLocked app, refl, refl)
+refusal_tells plan.TooManyRows of_files = (plan.TooManyRows, refl, refl)
+refusal_tells (plan.Diverged lines) of_files = (plan.Diverged lines, refl, refl)
+refusal_tells (plan.Cycle apps) of_files = (plan.Cycle apps, refl, refl)
+refusal_tells (plan.TooLarge app) of_files = (plan.TooLarge app, refl, refl)
+refusal_tells plan.OutOfMemory of_files = tt
+
 -- the sink took the stop's own line, with a status of its own
 pub says_takes : (status result : Status) (old new : Option (List ℕ)) (s : Stop) → Says (stop_line s) status result old new → (status ≡ OutOfMemory → stop_line s ≡ memory_line) → TakesLine result s old new
 says_takes status Built old new s says memory = says.1
 says_takes status SomeFailed old new s says memory = says.1
 says_takes status BadWords old new s says memory = says.1
 says_takes status Refused old new s says memory = says.1
+says_takes status Conflict old new s says memory = says.1
 says_takes status ReadFault old new s says memory = says.1
 says_takes status TreeFault old new s says memory = says.1
 says_takes status Died old new s says memory = says.1
@@ -52,6 +69,7 @@ says_memory Built old new s says = cc
 says_memory SomeFailed old new s says = cc
 says_memory BadWords old new s says = cc
 says_memory Refused old new s says = cc
+says_memory Conflict old new s says = cc
 says_memory ReadFault old new s says = cc
 says_memory TreeFault old new s says = cc
 says_memory Died old new s says = cc
@@ -65,6 +83,7 @@ says_words at Built old new says = cc
 says_words at SomeFailed old new says = cc
 says_words at BadWords old new says = (tt, (λ e. says.1), tt)
 says_words at Refused old new says = cc
+says_words at Conflict old new says = cc
 says_words at ReadFault old new says = cc
 says_words at TreeFault old new says = cc
 says_words at Died old new says = cc
@@ -78,6 +97,7 @@ says_no_memory Built old new says = cc
 says_no_memory SomeFailed old new says = cc
 says_no_memory BadWords old new says = cc
 says_no_memory Refused old new says = cc
+says_no_memory Conflict old new says = cc
 says_no_memory ReadFault old new says = cc
 says_no_memory TreeFault old new says = cc
 says_no_memory Died old new says = cc
@@ -91,6 +111,7 @@ fault_line Built s old new tells takes = tt
 fault_line SomeFailed s old new tells takes = tt
 fault_line BadWords s old new tells takes = tt
 fault_line Refused s old new tells takes = tt
+fault_line Conflict s old new tells takes = tt
 fault_line ReadFault s old new tells takes = subst (λ (t : Stop). new ≡ with_bytes old (stop_line t)) tells takes
 fault_line TreeFault s old new tells takes = subst (λ (t : Stop). new ≡ with_bytes old (stop_line t)) tells takes
 fault_line Died s old new tells takes = subst (λ (t : Stop). new ≡ with_bytes old (stop_line t)) tells takes
@@ -103,40 +124,48 @@ pub says_cut : (text : List ℕ) (status result : Status) (old new : Option (Lis
 says_cut text status result old new says e = subst (λ (r : Status). Says text status r old new) e says
 
 -- the line of a stop, or the one on want of memory, is one that a compile writes
-writes_line : (compile : Content → Outcome) (files : List File) (s : Stop) (text : List ℕ) → RefusedFirst files s → (text ≡ stop_line s) ⊎ (text ≡ memory_line) → CompileWrites compile files text
-writes_line compile files (stop.Refused refusal) text first (inl e) = inr (inl (refusal, first, e))
-writes_line compile files stop.Read text first (inl e) = inr (inr (inl e))
-writes_line compile files stop.Tree text first (inl e) = inr (inr (inr (inl e)))
-writes_line compile files stop.Died text first (inl e) = inr (inr (inr (inr (inl e))))
-writes_line compile files stop.Memory text first (inl e) = inr (inr (inr (inr (inr e))))
-writes_line compile files stop.Write text first (inl e) = inr (inr (inr (inr (inr e))))
-writes_line compile files s text first (inr e) = inr (inr (inr (inr (inr e))))
+writes_line : (compile : Content → Outcome) (env : List ℕ) (files : List File) (s : Stop) (text : List ℕ) → RefusedFirst files env s → (text ≡ stop_line s) ⊎ (text ≡ memory_line) → CompileWrites compile env files text
+writes_line compile env files (stop.Refused refusal) text first (inl e) = inr (inl (refusal, first, e))
+writes_line compile env files stop.Read text first (inl e) = inr (inr (inl e))
+writes_line compile env files stop.Tree text first (inl e) = inr (inr (inr (inl e)))
+writes_line compile env files stop.Died text first (inl e) = inr (inr (inr (inr (inl e))))
+writes_line compile env files stop.Memory text first (inl e) = inr (inr (inr (inr (inr e))))
+writes_line compile env files stop.Write text first (inl e) = inr (inr (inr (inr (inr e))))
+writes_line compile env files s text first (inr e) = inr (inr (inr (inr (inr e))))
 
 -- where the sink failed at a stop's line
-pub stop_cut : (compile : Content → Outcome) (files : List File) (result : Status) (s : Stop) (old new : Option (List ℕ)) → RefusedFirst files s → TakesLine result s old new → result ≡ WriteFault → TakesPrefix (CompileWrites compile files) old new
-stop_cut compile files result s old new first takes e =
+pub stop_cut : (compile : Content → Outcome) (env : List ℕ) (files : List File) (result : Status) (s : Stop) (old new : Option (List ℕ)) → RefusedFirst files env s → TakesLine result s old new → result ≡ WriteFault → TakesPrefix (CompileWrites compile env files) old new
+stop_cut compile env files result s old new first takes e =
     let t : TakesLine WriteFault s old new = subst (λ (r : Status). TakesLine r s old new) e takes in
-    (t.1, writes_line compile files s t.1 first t.2, t.0, t.3)
+    (t.1, writes_line compile env files s t.1 first t.2, t.0, t.3)
+
+-- the refusal that a status tells of
+refusal_of : (result : Status) (s : Stop) → Tells result s → IsRefusal result → (refusal : PlanError) × (s ≡ stop.Refused refusal) × (status_of refusal ≡ result)
+refusal_of result s tells (inl e) = let t : Tells Refused s = subst (λ (r : Status). Tells r s) e tells in (t.0, t.1, t.2 ∙ sym e)
+refusal_of result s tells (inr (inl e)) = let t : Tells Conflict s = subst (λ (r : Status). Tells r s) e tells in (t.0, t.1, t.2 ∙ sym e)
+refusal_of result s tells (inr (inr e)) = let t : Tells Missing s = subst (λ (r : Status). Tells r s) e tells in (t.0, t.1, t.2 ∙ sym e)
+
+-- where the input is refused the sink took the stop's own line
+own_line : (result : Status) (s : Stop) (old new : Option (List ℕ)) → TakesLine result s old new → IsRefusal result → new ≡ with_bytes old (stop_line s)
+own_line result s old new takes (inl e) = subst (λ (r : Status). TakesLine r s old new) e takes
+own_line result s old new takes (inr (inl e)) = subst (λ (r : Status). TakesLine r s old new) e takes
+own_line result s old new takes (inr (inr e)) = subst (λ (r : Status). TakesLine r s old new) e takes
 
 -- what holds where the input is refused, where the status tells so
 pub if_refused : (result : Status) (s : Stop) (P : Type 0) → Tells result s → IsRefusal result → IfRefused s P → P
-if_refused result s P tells (inl e) holds =
-    let t : Tells Refused s = subst (λ (r : Status). Tells r s) e tells in
-    subst (λ (x : Stop). IfRefused x P) t.1 holds
-if_refused result s P tells (inr e) holds =
-    let t : Tells Missing s = subst (λ (r : Status). Tells r s) e tells in
-    subst (λ (x : Stop). IfRefused x P) t.1 holds
+if_refused result s P tells refused holds =
+    subst (λ (x : Stop). IfRefused x P) (refusal_of result s tells refused).1 holds
 
 -- a refusal with its status and its line
-pub refuses_input : (files : List File) (result : Status) (s : Stop) (took takes : Option (List ℕ)) → Tells result s → TakesLine result s took takes → IsRefusal result → RefusedFirst files s → RefusesInput files result took takes
-refuses_input files result s took takes tells line (inl e) first =
-    let t : Tells Refused s = subst (λ (r : Status). Tells r s) e tells in
-    let l : TakesLine Refused s took takes = subst (λ (r : Status). TakesLine r s took takes) e line in
-    record { refusal = t.0; refused = subst (RefusedFirst files) t.1 first; status = e ∙ sym t.2; line = subst (λ (x : Stop). takes ≡ with_bytes took (stop_line x)) t.1 l }
-refuses_input files result s took takes tells line (inr e) first =
-    let t : Tells Missing s = subst (λ (r : Status). Tells r s) e tells in
-    let l : TakesLine Missing s took takes = subst (λ (r : Status). TakesLine r s took takes) e line in
-    record { refusal = t.0; refused = subst (RefusedFirst files) t.1 first; status = e ∙ sym t.2; line = subst (λ (x : Stop). takes ≡ with_bytes took (stop_line x)) t.1 l }
+pub refuses_input : (files : List File) (env : List ℕ) (result : Status) (s : Stop) (took takes : Option (List ℕ)) → Tells result s → TakesLine result s took takes → IsRefusal result → RefusedFirst files env s → RefusesInput files env result took takes
+refuses_input files env result s took takes tells line refused first =
+    let t = refusal_of result s tells refused in
+    record {
+      refusal = t.0;
+      refused = subst (RefusedFirst files env) t.1 first;
+      status = sym t.2;
+      line = subst (λ (x : Stop). takes ≡ with_bytes took (stop_line x)) t.1 (own_line result s took takes line refused);
+    }
 
 pub not_built : (result : Status) (s : Stop) → Tells result s → IsBuilt result → ⊥
 not_built result s tells (inl e) = subst (λ (r : Status). Tells r s) e tells
@@ -146,12 +175,9 @@ pub if_some_all : {X : Type 0} (o : Option X) (P : X → Type 0) → ((x : X) �
 if_some_all None P holds = tt
 if_some_all (Some x) P holds = holds x
 
--- files with a plan are not refused
-no_both : (files : List File) (jobs : List Job) (refusal : Refusal) → IsPlan files (Ok jobs) → IsPlan files (Err refusal) → ⊥
-no_both files jobs refusal a b = let e = plan_one files (Ok jobs) (Err refusal) a b in cc
-
-one_refusal : (files : List File) (a b : Refusal) → IsPlan files (Err a) → IsPlan files (Err b) → a ≡ b
-one_refusal files a b x y = let e = plan_one files (Err a) (Err b) x y in cc
+-- the files have one plan, or one first refusal
+abbrev pub OnePlan : Type 0
+OnePlan = (files : List File) (env : List ℕ) (one other : Result (List Job) PlanError) → IsPlan files env one → IsPlan files env other → one ≡ other
 
 -- what holds anyway holds after the plan
 pub after_plan : {T : Type 0} (r : Result T Stop) (P : Type 0) → P → IfErr r (λ s. AfterPlan s P)
@@ -163,54 +189,65 @@ after_plan (Err stop.Died) P holds = holds
 after_plan (Err stop.Memory) P holds = tt
 after_plan (Err stop.Write) P holds = holds
 
-refusal_status : (files : List File) (refusal : Refusal) (s : Stop) (status : Status) → (r : Refusal) × (s ≡ stop.Refused r) × (status_of r ≡ status) → RefusedFirst files s → IsPlan files (Err refusal) → status_of refusal ≡ status
-refusal_status files refusal s status tells first plan =
-    ap status_of (one_refusal files refusal tells.0 plan (subst (RefusedFirst files) tells.1 first)) ∙ tells.2
+-- where the files have one plan
+module _ (one : OnePlan) (env : List ℕ) where
+  -- files with a plan are not refused
+  no_both : (files : List File) (jobs : List Job) (refusal : PlanError) → IsPlan files env (Ok jobs) → IsPlan files env (Err refusal) → ⊥
+  no_both files jobs refusal a b = let e = one files env (Ok jobs) (Err refusal) a b in cc
 
-not_after : (files : List File) (refusal : Refusal) → HasPlan files → IsPlan files (Err refusal) → ⊥
-not_after files refusal has plan = no_both files has.0 refusal has.1 plan
+  one_refusal : (files : List File) (a b : PlanError) → IsPlan files env (Err a) → IsPlan files env (Err b) → a ≡ b
+  one_refusal files a b x y = let e = one files env (Err a) (Err b) x y in cc
 
-exactly_told : (files : List File) (refusal : Refusal) (result : Status) (s : Stop) → Tells result s → RefusedFirst files s → AfterPlan s (HasPlan files) → IsPlan files (Err refusal) → EndsRefused (status_of refusal) result
-exactly_told files refusal Built s tells first after plan = tells
-exactly_told files refusal SomeFailed s tells first after plan = tells
-exactly_told files refusal BadWords s tells first after plan = tells
-exactly_told files refusal Refused s tells first after plan = refusal_status files refusal s Refused tells first plan
-exactly_told files refusal ReadFault s tells first after plan = tt
-exactly_told files refusal TreeFault s tells first after plan = not_after files refusal (subst (λ (x : Stop). AfterPlan x (HasPlan files)) tells after) plan
-exactly_told files refusal Died s tells first after plan = not_after files refusal (subst (λ (x : Stop). AfterPlan x (HasPlan files)) tells after) plan
-exactly_told files refusal OutOfMemory s tells first after plan = tt
-exactly_told files refusal Missing s tells first after plan = refusal_status files refusal s Missing tells first plan
-exactly_told files refusal WriteFault s tells first after plan = tt
+  refusal_status : (files : List File) (refusal : PlanError) (s : Stop) (status : Status) → (r : PlanError) × (s ≡ stop.Refused r) × (status_of r ≡ status) → RefusedFirst files env s → IsPlan files env (Err refusal) → status_of refusal ≡ status
+  refusal_status files refusal s status tells first plan =
+      ap status_of (one_refusal files refusal tells.0 plan (subst (RefusedFirst files env) tells.1 first)) ∙ tells.2
 
--- a stop where the files are refused
-pub exactly_stopped : (o : Option (List File)) (refusal : Refusal) (result : Status) (s : Stop) → Tells result s → IfSome o (λ files. RefusedFirst files s) → AfterPlan s (IfSome o HasPlan) → IfSome o (λ files. IsPlan files (Err refusal) → EndsRefused (status_of refusal) result)
-exactly_stopped None refusal result s tells first after = tt
-exactly_stopped (Some files) refusal result s tells first after = λ plan. exactly_told files refusal result s tells first after plan
+  not_after : (files : List File) (refusal : PlanError) → HasPlan env files → IsPlan files env (Err refusal) → ⊥
+  not_after files refusal has plan = no_both files has.0 refusal has.1 plan
 
-planned_refusal : (files : List File) (s : Stop) (status : Status) → (r : Refusal) × (s ≡ stop.Refused r) × (status_of r ≡ status) → RefusedFirst files s → HasPlan files → ⊥
-planned_refusal files s status tells first has = no_both files has.0 tells.0 has.1 (subst (RefusedFirst files) tells.1 first)
+  exactly_told : (files : List File) (refusal : PlanError) (result : Status) (s : Stop) → Tells result s → RefusedFirst files env s → AfterPlan s (HasPlan env files) → IsPlan files env (Err refusal) → EndsRefused (status_of refusal) result
+  exactly_told files refusal Built s tells first after plan = tells
+  exactly_told files refusal SomeFailed s tells first after plan = tells
+  exactly_told files refusal BadWords s tells first after plan = tells
+  exactly_told files refusal Refused s tells first after plan = refusal_status files refusal s Refused tells first plan
+  exactly_told files refusal Conflict s tells first after plan = refusal_status files refusal s Conflict tells first plan
+  exactly_told files refusal ReadFault s tells first after plan = tt
+  exactly_told files refusal TreeFault s tells first after plan = not_after files refusal (subst (λ (x : Stop). AfterPlan x (HasPlan env files)) tells after) plan
+  exactly_told files refusal Died s tells first after plan = not_after files refusal (subst (λ (x : Stop). AfterPlan x (HasPlan env files)) tells after) plan
+  exactly_told files refusal OutOfMemory s tells first after plan = tt
+  exactly_told files refusal Missing s tells first after plan = refusal_status files refusal s Missing tells first plan
+  exactly_told files refusal WriteFault s tells first after plan = tt
 
-completes_told : (files : List File) (result : Status) (s : Stop) → Tells result s → RefusedFirst files s → HasPlan files → EndsPlanned result
-completes_told files Built s tells first has = tt
-completes_told files SomeFailed s tells first has = tt
-completes_told files BadWords s tells first has = tells
-completes_told files Refused s tells first has = planned_refusal files s Refused tells first has
-completes_told files ReadFault s tells first has = tt
-completes_told files TreeFault s tells first has = tt
-completes_told files Died s tells first has = tt
-completes_told files OutOfMemory s tells first has = tt
-completes_told files Missing s tells first has = planned_refusal files s Missing tells first has
-completes_told files WriteFault s tells first has = tt
+  -- a stop where the files are refused
+  pub exactly_stopped : (o : Option (List File)) (refusal : PlanError) (result : Status) (s : Stop) → Tells result s → IfSome o (λ files. RefusedFirst files env s) → AfterPlan s (IfSome o (HasPlan env)) → IfSome o (λ files. IsPlan files env (Err refusal) → EndsRefused (status_of refusal) result)
+  exactly_stopped None refusal result s tells first after = tt
+  exactly_stopped (Some files) refusal result s tells first after = λ plan. exactly_told files refusal result s tells first after plan
 
--- a stop where the files have a plan
-pub completes_stopped : (o : Option (List File)) (result : Status) (s : Stop) → Tells result s → IfSome o (λ files. RefusedFirst files s) → IfSome o (λ files. HasPlan files → EndsPlanned result)
-completes_stopped None result s tells first = tt
-completes_stopped (Some files) result s tells first = λ has. completes_told files result s tells first has
+  planned_refusal : (files : List File) (s : Stop) (status : Status) → (r : PlanError) × (s ≡ stop.Refused r) × (status_of r ≡ status) → RefusedFirst files env s → HasPlan env files → ⊥
+  planned_refusal files s status tells first has = no_both files has.0 tells.0 has.1 (subst (RefusedFirst files env) tells.1 first)
 
--- what was finished was not refused
-pub finished_not_refused : (compile : Content → Outcome) (env : List ℕ) (o : Option (List File)) (failed : Bool) (old new : BuildKey → Slot) (took takes : Option (List ℕ)) (refusal : Refusal) (P : Type 0) → IfSome o (λ files. Finished compile env files failed old new took takes) → IfSome o (λ files. IsPlan files (Err refusal) → P)
-finished_not_refused compile env None failed old new took takes refusal P done = tt
-finished_not_refused compile env (Some files) failed old new took takes refusal P done = λ plan. absurd (no_both files done.jobs refusal done.planned plan)
+  completes_told : (files : List File) (result : Status) (s : Stop) → Tells result s → RefusedFirst files env s → HasPlan env files → EndsPlanned result
+  completes_told files Built s tells first has = tt
+  completes_told files SomeFailed s tells first has = tt
+  completes_told files BadWords s tells first has = tells
+  completes_told files Refused s tells first has = planned_refusal files s Refused tells first has
+  completes_told files Conflict s tells first has = planned_refusal files s Conflict tells first has
+  completes_told files ReadFault s tells first has = tt
+  completes_told files TreeFault s tells first has = tt
+  completes_told files Died s tells first has = tt
+  completes_told files OutOfMemory s tells first has = tt
+  completes_told files Missing s tells first has = planned_refusal files s Missing tells first has
+  completes_told files WriteFault s tells first has = tt
+
+  -- a stop where the files have a plan
+  pub completes_stopped : (o : Option (List File)) (result : Status) (s : Stop) → Tells result s → IfSome o (λ files. RefusedFirst files env s) → IfSome o (λ files. HasPlan env files → EndsPlanned result)
+  completes_stopped None result s tells first = tt
+  completes_stopped (Some files) result s tells first = λ has. completes_told files result s tells first has
+
+  -- what was finished was not refused
+  pub finished_not_refused : (compile : Content → Outcome) (o : Option (List File)) (failed : Bool) (old new : BuildKey → Slot) (took takes : Option (List ℕ)) (refusal : PlanError) (P : Type 0) → IfSome o (λ files. Finished compile env files failed old new took takes) → IfSome o (λ files. IsPlan files env (Err refusal) → P)
+  finished_not_refused compile None failed old new took takes refusal P done = tt
+  finished_not_refused compile (Some files) failed old new took takes refusal P done = λ plan. absurd (no_both files done.jobs refusal done.planned plan)
 
 -- want of memory may end any command
 pub memory_ends : (status result : Status) (old new : Option (List ℕ)) → Says memory_line OutOfMemory result old new → EndsRefused status result × EndsPlanned result
@@ -218,6 +255,7 @@ memory_ends status Built old new says = cc
 memory_ends status SomeFailed old new says = cc
 memory_ends status BadWords old new says = cc
 memory_ends status Refused old new says = cc
+memory_ends status Conflict old new says = cc
 memory_ends status ReadFault old new says = cc
 memory_ends status TreeFault old new says = cc
 memory_ends status Died old new says = cc

@@ -1,10 +1,6 @@
-pub mod AmongLemmas
+pub mod ApartLemmas
 pub mod EndLemmas
-pub mod FlatLemmas
-pub mod OneLemmas
 pub mod PlainLemmas
-pub mod PlanLemmas
 pub mod ReportLemmas
-pub mod SourceLemmas
 pub mod StandLemmas
 pub mod TreeLemmas

@@ -12,10 +12,10 @@ use Rattle.compile_model.specs.Seq.{seq}
 use Rattle.compile_model.proofs.SeqLemmas.{seq_in_order}
 use Rattle.tree_store.specs.declared.key.BuildKey.{BuildKey}
 use Rattle.tree_store.specs.Slot.{Slot}
-use Rattle.mix_main.specs.Plan.{IsPlan, jobs_differ}
+use Rattle.build_plan.specs.Plan.{IsPlan}
 use Rattle.mix_main.specs.Report.{report, is_failed}
 use Rattle.mix_main.specs.Tree.{ClearsEnv, EachLeavesPart, FillsPartly}
-use Rattle.mix_main.specs.Filling.{filled_by, BeginsEnv}
+use Rattle.mix_main.specs.Filling.{jobs_differ, filled_by, BeginsEnv}
 use Rattle.mix_main.specs.Ends.{Finished, IfWrite, IsReport, MayStand, TakesPrefix}
 use Rattle.mix_main.specs.declared.stop.Stop.{Stop}
 use Rattle.mix_main.specs.declared.stop.Stop.TheVariants as stop
@@ -29,12 +29,12 @@ if_some_map (Some x) P Q step h = step x h
 
 -- the plan, the tree, the report and the answer, put together
 pub finished : (compile : Content → Outcome) → ((content : Content) → AreInOrder (compile content).files) → (env : List ℕ) (files : List File) (jobs : List Job) (fates : List Fate) (failed : Bool) (text : List ℕ) (old mid new : BuildKey → Slot) (took takes : Option (List ℕ))
-    → IsPlan files (Ok jobs) → jobs_differ jobs ≡ true → fates ≡ seq compile jobs → ClearsEnv env old mid → ((q : BuildKey) → new q ≡ filled_by env q jobs fates (mid q))
+    → IsPlan files env (Ok jobs) → jobs_differ jobs ≡ true → fates ≡ seq compile jobs → ClearsEnv env old mid → ((q : BuildKey) → new q ≡ filled_by env q jobs fates (mid q))
     → text ≡ report jobs fates → takes ≡ with_bytes took text → failed ≡ list_any is_failed fates → Finished compile env files failed old new took takes
-finished compile law env files jobs fates failed text old mid new took takes planned differ is clears fills says writes any =
+finished compile law env files jobs fates failed text old mid new took takes plan differ is clears fills says writes any =
     record {
       jobs = jobs;
-      planned = planned;
+      planned = plan;
       tree = leaves_tree env jobs (seq compile jobs) old mid new differ (seq_in_order compile law jobs) clears (λ q. fills q ∙ ap (λ (fs : List Fate). filled_by env q jobs fs (mid q)) is);
       report = writes ∙ ap (with_bytes took) (says ∙ ap (report jobs) is);
       any_failed = any ∙ ap (list_any is_failed) is;
@@ -51,10 +51,10 @@ if_write (Err stop.Memory) P holds = tt
 if_write (Err stop.Write) P holds = holds
 
 -- the sink failed while it took the report
-pub report_cut : (compile : Content → Outcome) (o : Option (List File)) (jobs jobs' : List Job) (fates fates' : List Fate) (text text' : List ℕ) (took takes : Option (List ℕ))
-    → IfSome o (λ files. IsPlan files (Ok jobs)) → fates ≡ seq compile jobs → text ≡ report jobs' fates' → jobs' ≡ jobs → fates' ≡ fates → text' ≡ text
-    → (n : ℕ) × (takes ≡ with_bytes took (take n text')) → IfSome o (λ files. TakesPrefix (IsReport compile files) took takes)
-report_cut compile o jobs jobs' fates fates' text text' took takes planned is says js fs same cut =
+pub report_cut : (compile : Content → Outcome) (env : List ℕ) (o : Option (List File)) (jobs jobs' : List Job) (fates fates' : List Fate) (text text' : List ℕ) (took takes : Option (List ℕ))
+    → IfSome o (λ files. IsPlan files env (Ok jobs)) → fates ≡ seq compile jobs → text ≡ report jobs' fates' → jobs' ≡ jobs → fates' ≡ fates → text' ≡ text
+    → (n : ℕ) × (takes ≡ with_bytes took (take n text')) → IfSome o (λ files. TakesPrefix (IsReport compile env files) took takes)
+report_cut compile env o jobs jobs' fates fates' text text' took takes planned is says js fs same cut =
     if_some_map o _ _
     (λ files plan. (text, (jobs, plan, says ∙ ap (λ (x : List Job). report x fates') js ∙ ap (report jobs) (fs ∙ is)), cut.0, cut.1 ∙ ap (λ (x : List ℕ). with_bytes took (take cut.0 x)) same))
     planned
@@ -64,7 +64,7 @@ pub part_stands : (compile : Content → Outcome) (env : List ℕ) (o : Option (
 part_stands compile env o old new part = if_some_all o (λ files. MayStand compile env files old new) (λ files. inl part)
 
 -- the plan's output files stand, as far as they came
-pub files_stand : (compile : Content → Outcome) (env : List ℕ) (o : Option (List File)) (jobs : List Job) (old new : BuildKey → Slot) → IfSome o (λ files. IsPlan files (Ok jobs)) → FillsPartly env jobs (seq compile jobs) old new → IfSome o (λ files. MayStand compile env files old new)
+pub files_stand : (compile : Content → Outcome) (env : List ℕ) (o : Option (List File)) (jobs : List Job) (old new : BuildKey → Slot) → IfSome o (λ files. IsPlan files env (Ok jobs)) → FillsPartly env jobs (seq compile jobs) old new → IfSome o (λ files. MayStand compile env files old new)
 files_stand compile env o jobs old new planned fills = if_some_map o _ _ (λ files plan. inr (jobs, plan, fills)) planned
 
 -- emptied, and then filled until an error

@@ -20,9 +20,8 @@ use Rattle.tree_store.specs.Slot.Slot.{Here, Out}
 use Rattle.tree_store.proofs.FilesLemmas.{part_of_itself, put_all_in_order}
 use Rattle.tree_store.proofs.OrderLemmas.{less_back, same_name}
 use Rattle.tree_store.proofs.StoreLemmas.{lent_and_back, one_key}
-use Rattle.mix_main.specs.Plan.{jobs_differ}
 use Rattle.mix_main.specs.Tree.{is_same_text, is_in_env, files_of, app_files, ClearsEnv, LeavesTree, slot_of_those, LeavesPart, EachLeavesPart, cut_file, begun, IsEmpty, FillsPartly}
-use Rattle.mix_main.specs.Filling.{filled_once, BeginsHeld, BeginsSlot}
+use Rattle.mix_main.specs.Filling.{jobs_differ, filled_once, BeginsHeld, BeginsSlot}
 use Rattle.mix_main.proofs.TreeLemmas.{own_app, either, both, not_true, not_same, emptied_twice}
 
 -- what holds anyway holds on an error

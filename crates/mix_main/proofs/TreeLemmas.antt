@@ -18,10 +18,8 @@ use Rattle.tree_store.proofs.FilesLemmas.{put_all_in_order}
 use Rattle.tree_store.specs.Slot.Slot.{Here, Out}
 use Rattle.tree_store.proofs.OrderLemmas.{same_name}
 use Rattle.tree_store.proofs.StoreLemmas.{one_key, is_same_itself}
-use Rattle.mix_main.specs.Plan.{differ}
-use Rattle.mix_main.specs.Plan.{jobs_differ}
 use Rattle.mix_main.specs.Tree.{is_same_text, is_in_env, files_of, app_files, ClearsEnv, StaysElsewhere, LeavesTree}
-use Rattle.mix_main.specs.Filling.{filled_once, filled_by}
+use Rattle.mix_main.specs.Filling.{jobs_differ, filled_once, filled_by}
 
 -- what emptying these apps does to a slot
 abbrev pub cleared_by : List ℕ → List (List ℕ) → BuildKey → Slot → Slot

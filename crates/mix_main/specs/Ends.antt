@@ -9,12 +9,12 @@ use Rattle.compile_model.specs.Seq.{seq}
 use Rattle.compile_model.specs.declared.outcome.Outcome.{Outcome}
 use Rattle.tree_store.specs.declared.key.BuildKey.{BuildKey}
 use Rattle.tree_store.specs.Slot.{Slot}
-use Rattle.mix_main.specs.declared.refusal.Refusal.{Refusal}
+use Rattle.build_plan.specs.declared.error.PlanError.{PlanError}
 use Rattle.mix_main.specs.declared.stop.Stop.{Stop}
 use Rattle.mix_main.specs.declared.stop.Stop.TheVariants as stop
 use Rattle.mix_main.specs.declared.status.Status.{Status}
-use Rattle.mix_main.specs.declared.status.Status.TheVariants.{Built, SomeFailed, BadWords, Refused, ReadFault, TreeFault, Died, OutOfMemory, Missing, WriteFault}
-use Rattle.mix_main.specs.Plan.{IsPlan}
+use Rattle.mix_main.specs.declared.status.Status.TheVariants.{Built, SomeFailed, BadWords, Refused, Conflict, ReadFault, TreeFault, Died, OutOfMemory, Missing, WriteFault}
+use Rattle.build_plan.specs.Plan.{IsPlan}
 use Rattle.mix_main.specs.Report.{report, is_failed, AnyFailed}
 use Rattle.mix_main.specs.Status.{status_of}
 use Rattle.mix_main.specs.Texts.{read_fault_line, tree_fault_line, died_line, memory_line, refusal_line, bad_words_line}
@@ -40,12 +40,13 @@ abbrev pub Tells : Status → Stop → Type 0
 Tells Built s = ⊥
 Tells SomeFailed s = ⊥
 Tells BadWords s = ⊥
-Tells Refused s = (refusal : Refusal) × (s ≡ stop.Refused refusal) × (status_of refusal ≡ Refused)
+Tells Refused s = (refusal : PlanError) × (s ≡ stop.Refused refusal) × (status_of refusal ≡ Refused)
+Tells Conflict s = (refusal : PlanError) × (s ≡ stop.Refused refusal) × (status_of refusal ≡ Conflict)
 Tells ReadFault s = s ≡ stop.Read
 Tells TreeFault s = s ≡ stop.Tree
 Tells Died s = s ≡ stop.Died
 Tells OutOfMemory s = Unit {0}
-Tells Missing s = (refusal : Refusal) × (s ≡ stop.Refused refusal) × (status_of refusal ≡ Missing)
+Tells Missing s = (refusal : PlanError) × (s ≡ stop.Refused refusal) × (status_of refusal ≡ Missing)
 Tells WriteFault s = Unit {0}
 
 -- the sink took the stop's line, or a prefix of it; where memory ran out that line says so
@@ -57,7 +58,7 @@ TakesLine result s old new = new ≡ with_bytes old (stop_line s)
 -- the report was written: the plan of the files, the tree and the text that it gives, and whether a dependency failed
 pub record Compiled (compile : Content → Outcome) (env : List ℕ) (files : List File) (result : Status) (old new : BuildKey → Slot) (took takes : Option (List ℕ)) : Type 0 where
   pub jobs : List Job
-  pub planned : IsPlan files (Ok jobs)
+  pub planned : IsPlan files env (Ok jobs)
   pub tree : LeavesTree env jobs (seq compile jobs) old new
   pub report : takes ≡ with_bytes took (report jobs (seq compile jobs))
   pub some_failed : result ≡ SomeFailed → AnyFailed (seq compile jobs)
@@ -66,15 +67,15 @@ pub record Compiled (compile : Content → Outcome) (env : List ℕ) (files : Li
 -- the same as it is known before the status is told
 pub record Finished (compile : Content → Outcome) (env : List ℕ) (files : List File) (failed : Bool) (old new : BuildKey → Slot) (took takes : Option (List ℕ)) : Type 0 where
   pub jobs : List Job
-  pub planned : IsPlan files (Ok jobs)
+  pub planned : IsPlan files env (Ok jobs)
   pub tree : LeavesTree env jobs (seq compile jobs) old new
   pub report : takes ≡ with_bytes took (report jobs (seq compile jobs))
   pub any_failed : failed ≡ list_any is_failed (seq compile jobs)
 
 -- the input was refused: the first refusal of the files, with its status, and its line
-pub record RefusesInput (files : List File) (result : Status) (took takes : Option (List ℕ)) : Type 0 where
-  pub refusal : Refusal
-  pub refused : IsPlan files (Err refusal)
+pub record RefusesInput (files : List File) (env : List ℕ) (result : Status) (took takes : Option (List ℕ)) : Type 0 where
+  pub refusal : PlanError
+  pub refused : IsPlan files env (Err refusal)
   pub status : result ≡ status_of refusal
   pub line : takes ≡ with_bytes took (refusal_line refusal)
 
@@ -109,12 +110,12 @@ IfDied stop.Memory P = Unit {0}
 IfDied stop.Write P = Unit {0}
 
 -- the report of the plan
-abbrev pub IsReport : (Content → Outcome) → List File → List ℕ → Type 0
-IsReport compile files text = (jobs : List Job) × IsPlan files (Ok jobs) × (text ≡ report jobs (seq compile jobs))
+abbrev pub IsReport : (Content → Outcome) → List ℕ → List File → List ℕ → Type 0
+IsReport compile env files text = (jobs : List Job) × IsPlan files env (Ok jobs) × (text ≡ report jobs (seq compile jobs))
 
 -- the line of the first refusal
-abbrev pub IsRefusalLine : List File → List ℕ → Type 0
-IsRefusalLine files text = (refusal : Refusal) × IsPlan files (Err refusal) × (text ≡ refusal_line refusal)
+abbrev pub IsRefusalLine : List ℕ → List File → List ℕ → Type 0
+IsRefusalLine env files text = (refusal : PlanError) × IsPlan files env (Err refusal) × (text ≡ refusal_line refusal)
 
 -- the line of a failure of the outside, or on want of memory
 abbrev pub IsFaultLine : List ℕ → Type 0
@@ -125,12 +126,12 @@ abbrev pub IsWordsLine : List (List ℕ) → List ℕ → Type 0
 IsWordsLine words text = (at : ℕ) × (bad_word words ≡ Some at) × (text ≡ bad_words_line at)
 
 -- a text that a compile of these files may write
-abbrev pub CompileWrites : (Content → Outcome) → List File → List ℕ → Type 0
-CompileWrites compile files text = IsReport compile files text ⊎ IsRefusalLine files text ⊎ IsFaultLine text
+abbrev pub CompileWrites : (Content → Outcome) → List ℕ → List File → List ℕ → Type 0
+CompileWrites compile env files text = IsReport compile env files text ⊎ IsRefusalLine env files text ⊎ IsFaultLine text
 
 -- a text that the command may write
-abbrev pub CommandWrites : List (List ℕ) → (Content → Outcome) → List File → List ℕ → Type 0
-CommandWrites words compile files text = IsWordsLine words text ⊎ CompileWrites compile files text
+abbrev pub CommandWrites : List (List ℕ) → (Content → Outcome) → List ℕ → List File → List ℕ → Type 0
+CommandWrites words compile env files text = IsWordsLine words text ⊎ CompileWrites compile env files text
 
 -- the sink took no more than a prefix of one of these texts
 abbrev pub TakesPrefix : (List ℕ → Type 0) → Option (List ℕ) → Option (List ℕ) → Type 0
@@ -147,11 +148,11 @@ dev = codes "dev"
 -- what may stand in the environment after any answer: some of the files that were there, each whole, or output files of the plan
 abbrev pub MayStand : (Content → Outcome) → List ℕ → List File → (BuildKey → Slot) → (BuildKey → Slot) → Type 0
 MayStand compile env files old new =
-    EachLeavesPart old new ⊎ ((jobs : List Job) × IsPlan files (Ok jobs) × FillsPartly env jobs (seq compile jobs) old new)
+    EachLeavesPart old new ⊎ ((jobs : List Job) × IsPlan files env (Ok jobs) × FillsPartly env jobs (seq compile jobs) old new)
 
--- the files have a plan
-abbrev pub HasPlan : List File → Type 0
-HasPlan files = (jobs : List Job) × IsPlan files (Ok jobs)
+-- the files have a plan in the environment
+abbrev pub HasPlan : List ℕ → List File → Type 0
+HasPlan env files = (jobs : List Job) × IsPlan files env (Ok jobs)
 
 -- what holds at a stop to which a compile comes only by way of the plan
 abbrev pub AfterPlan : Stop → Type 0 → Type 0
@@ -168,6 +169,7 @@ EndsRefused status Built = ⊥
 EndsRefused status SomeFailed = ⊥
 EndsRefused status BadWords = ⊥
 EndsRefused status Refused = status ≡ Refused
+EndsRefused status Conflict = status ≡ Conflict
 EndsRefused status ReadFault = Unit {0}
 EndsRefused status TreeFault = ⊥
 EndsRefused status Died = ⊥
@@ -181,6 +183,7 @@ EndsPlanned Built = Unit {0}
 EndsPlanned SomeFailed = Unit {0}
 EndsPlanned BadWords = ⊥
 EndsPlanned Refused = ⊥
+EndsPlanned Conflict = ⊥
 EndsPlanned ReadFault = Unit {0}
 EndsPlanned TreeFault = Unit {0}
 EndsPlanned Died = Unit {0}

@@ -1,6 +1,6 @@
 -- What putting files job after job does to a build.
-use Rattle.std.specs.Prelude.{◌≡◌, ℕ, Bool, true, List, [], ◌∷◌, Option, option_map, if◌then◌else◌}
-use Rattle.std.specs.List.{AllByRecursion}
+use Rattle.std.specs.Prelude.{◌≡◌, ℕ, Bool, true, not, ◌&&◌, List, [], ◌∷◌, map, Option, option_map, if◌then◌else◌, bytes_eq}
+use Rattle.std.specs.List.{AllByRecursion, list_any}
 use Rattle.mx_base.specs.declared.file.File.{File}
 use Rattle.mx_base.specs.Order.{AreInOrder}
 use Rattle.compile_model.specs.declared.job.Job.{Job}
@@ -11,8 +11,16 @@ use Rattle.tree_store.specs.declared.key.BuildKey.{BuildKey}
 use Rattle.tree_store.specs.Key.{is_same_build}
 use Rattle.tree_store.specs.Files.{emptied}
 use Rattle.tree_store.specs.Slot.{Slot, filled_slot, slot_with}
-use Rattle.mix_main.specs.Plan.{jobs_differ}
 use Rattle.mix_main.specs.Tree.{is_in_env, begun, IsEmpty, FillsPartly}
+
+-- no name comes twice
+abbrev pub differ : List (List ℕ) → Bool
+differ [] = true
+differ (app ∷ apps) = not (list_any (bytes_eq app) apps) && differ apps
+
+-- no app has two jobs
+abbrev pub jobs_differ : List Job → Bool
+jobs_differ jobs = differ (map (λ job. job.app) jobs)
 
 -- what a job does to a build, where it is its own or not
 abbrev pub filled_once : Bool → Fate → Slot → Slot

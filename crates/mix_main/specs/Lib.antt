@@ -1,7 +1,5 @@
 pub mod Ends
 pub mod Filling
-pub mod Plan
-pub mod PlanFaults
 pub mod Report
 pub mod Status
 pub mod Stop

@@ -1,14 +1,15 @@
 -- Why a compile stops.
-use Rattle.std.specs.Prelude.{ℕ, List, Bool, true, false, Result, Ok, Err}
+use Rattle.std.specs.Prelude.{ℕ, List, Bool, true, false, Result, Ok, Err, IsFalse}
 use Rattle.mx_base.specs.Causes.{Rose}
 use Rattle.mx_base.specs.declared.file.File.{File}
-use Rattle.mix_main.specs.Plan.{IsPlan}
+use Rattle.build_plan.specs.Plan.{IsPlan}
+use Rattle.build_plan.specs.Faults.{is_read_error}
 use Rattle.tree_store.specs.declared.store.StoreFault.{StoreFault}
 use Rattle.tree_store.specs.declared.store.StoreFault.TheVariants as store
 use Rattle.compile_model.specs.declared.seq.SeqFault.{SeqFault}
 use Rattle.compile_model.specs.declared.seq.SeqFault.TheVariants as model
-use Rattle.mix_main.specs.declared.plan_fault.PlanFault.{PlanFault}
-use Rattle.mix_main.specs.declared.plan_fault.PlanFault.TheVariants as plan
+use Rattle.build_plan.specs.declared.error.PlanError.{PlanError}
+use Rattle.build_plan.specs.declared.error.PlanError.TheVariants as plan
 use Rattle.mix_main.specs.declared.stop.TreeStop.{TreeStop}
 use Rattle.mix_main.specs.declared.stop.TreeStop.TheVariants as tree
 use Rattle.mix_main.specs.declared.stop.Stop.{Stop}
@@ -27,9 +28,18 @@ stop_of_tree tree.Read = Read
 stop_of_tree tree.Tree = Tree
 stop_of_tree tree.Memory = Memory
 
-abbrev pub stop_of_plan : PlanFault → Stop
-stop_of_plan (plan.Refused refusal) = Refused refusal
+-- a plan that can't be had: the store or memory failed, or the files are refused
+abbrev pub stop_of_plan : PlanError → Stop
 stop_of_plan plan.Read = Read
+stop_of_plan (plan.Settings fault) = Refused (plan.Settings fault)
+stop_of_plan plan.NoProject = Refused plan.NoProject
+stop_of_plan (plan.Project path fault) = Refused (plan.Project path fault)
+stop_of_plan (plan.PathMissing app dir) = Refused (plan.PathMissing app dir)
+stop_of_plan (plan.NotLocked app) = Refused (plan.NotLocked app)
+stop_of_plan plan.TooManyRows = Refused plan.TooManyRows
+stop_of_plan (plan.Diverged lines) = Refused (plan.Diverged lines)
+stop_of_plan (plan.Cycle apps) = Refused (plan.Cycle apps)
+stop_of_plan (plan.TooLarge app) = Refused (plan.TooLarge app)
 stop_of_plan plan.OutOfMemory = Memory
 
 abbrev pub stop_of_seq : SeqFault → Stop
@@ -66,14 +76,23 @@ StopCause reads reads' trees trees' deaths deaths' Died = Rose deaths deaths'
 StopCause reads reads' trees trees' deaths deaths' Memory = Unit {0}
 StopCause reads reads' trees trees' deaths deaths' Write = Unit {0}
 
+-- a refusal says something of the files
+abbrev pub IsOfFiles : Stop → Type 0
+IsOfFiles (Refused refusal) = IsFalse (is_read_error refusal)
+IsOfFiles Read = Unit {0}
+IsOfFiles Tree = Unit {0}
+IsOfFiles Died = Unit {0}
+IsOfFiles Memory = Unit {0}
+IsOfFiles Write = Unit {0}
+
 -- a refusal is the first of these files
-abbrev pub RefusedFirst : List File → Stop → Type 0
-RefusedFirst files (Refused refusal) = IsPlan files (Err refusal)
-RefusedFirst files Read = Unit {0}
-RefusedFirst files Tree = Unit {0}
-RefusedFirst files Died = Unit {0}
-RefusedFirst files Memory = Unit {0}
-RefusedFirst files Write = Unit {0}
+abbrev pub RefusedFirst : List File → List ℕ → Stop → Type 0
+RefusedFirst files env (Refused refusal) = IsPlan files env (Err refusal)
+RefusedFirst files env Read = Unit {0}
+RefusedFirst files env Tree = Unit {0}
+RefusedFirst files env Died = Unit {0}
+RefusedFirst files env Memory = Unit {0}
+RefusedFirst files env Write = Unit {0}
 
 -- what holds where the input is refused
 abbrev pub IfRefused : Stop → Type 0 → Type 0

@@ -2,8 +2,8 @@
 ghost use Rattle.std.specs.Prelude.{◌≡◌, ◌≢◌, map, Err, IfSome, string_bytes};
 ghost use Rattle.mx_base.specs.Causes.{Counted, Rose};
 ghost use Rattle.tree_store.specs.Slot.{AllHere};
-ghost use Rattle.mix_main.specs.declared.refusal.Refusal.{Refusal};
-ghost use Rattle.mix_main.specs.Plan.{IsPlan};
+ghost use Rattle.build_plan.specs.declared.error.PlanError.{PlanError};
+ghost use Rattle.build_plan.specs.Plan.{IsPlan};
 ghost use Rattle.mix_main.specs.Ends.{CommandWrites, Compiled, EndsPlanned, EndsRefused, FaultLine, HasPlan, MayStand, NothingFailed, RefusesInput, RefusesWords, TakesPrefix, dev};
 ghost use Rattle.mix_main.specs.Status.{IsBuilt, IsRefusal, is_write_fault, status_of};
 ghost use Rattle.mix_main.specs.Tree.{ClearsEnv, StaysElsewhere};
@@ -21,7 +21,7 @@ use tree_store::Store;
 /// Does what the words of the command line say, in the environment `dev`.
 ///
 /// The answer is the status of the program. Where the store and the sink tell what they hold, statuses 0 and 1
-/// come with the files of the plan in the build tree and with its report; 2, 3 and 9 say what is refused; 5, 6, 7
+/// come with the files of the plan in the build tree and with its report; 2, 3, 4 and 9 say what is refused; 5, 6, 7
 /// and 10 say what failed outside; 8 says that memory ran out, which alone has no cause here.
 ///
 /// After any status, where the store tells its files, the builds of the environment hold some of the files that they
@@ -44,8 +44,8 @@ pub fn run<S: Store, C: Compiler, K: Sink>(
     ensures bad_words { result ≡ Status.BadWords → RefusesWords (map (λ word. string_bytes word) words.now) (K.taken out.old) (K.taken out.new) }
     ensures words { result ≢ Status.BadWords → result ≢ Status.OutOfMemory → result ≢ Status.WriteFault → IsCommand (map (λ word. string_bytes word) words.now) }
 
-    // Status 3 and 9: the input is refused.
-    ensures refused { IsRefusal result → IfSome (S.sources store.old) (λ files. RefusesInput files result (K.taken out.old) (K.taken out.new)) }
+    // Status 3, 4 and 9: the input is refused.
+    ensures refused { IsRefusal result → IfSome (S.sources store.old) (λ files. RefusesInput files dev result (K.taken out.old) (K.taken out.new)) }
     ensures same { IsRefusal result → S.slot store.new ≡ S.slot store.old }
     ensures clean_refusal { IsRefusal result → NothingFailed (S.faults store.old) (S.faults store.new) (S.folder_faults store.old) (S.folder_faults store.new) (C.deaths compiler.old) (C.deaths compiler.new) }
     ensures same_words { result ≡ Status.BadWords → S.slot store.new ≡ S.slot store.old }
@@ -58,11 +58,11 @@ pub fn run<S: Store, C: Compiler, K: Sink>(
     ensures emptied { result ≡ Status.Died → ClearsEnv dev (S.slot store.old) (S.slot store.new) }
     ensures sink { Counted (K.faults out.old) (K.faults out.new) (is_write_fault result) }
     ensures line { FaultLine result (K.taken out.old) (K.taken out.new) }
-    ensures cut { result ≡ Status.WriteFault → IfSome (S.sources store.old) (λ files. TakesPrefix (CommandWrites (map (λ word. string_bytes word) words.now) C.compile_of files) (K.taken out.old) (K.taken out.new)) }
+    ensures cut { result ≡ Status.WriteFault → IfSome (S.sources store.old) (λ files. TakesPrefix (CommandWrites (map (λ word. string_bytes word) words.now) C.compile_of dev files) (K.taken out.old) (K.taken out.new)) }
 
     // Which statuses the files allow where the words are the command.
-    ensures exactly { (refusal : Refusal) → IfSome (S.sources store.old) (λ files. IsPlan files (Err refusal) → IsCommand (map (λ word. string_bytes word) words.now) → EndsRefused (status_of refusal) result) }
-    ensures completes { IfSome (S.sources store.old) (λ files. HasPlan files → IsCommand (map (λ word. string_bytes word) words.now) → EndsPlanned result) }
+    ensures exactly { (refusal : PlanError) → IfSome (S.sources store.old) (λ files. IsPlan files dev (Err refusal) → IsCommand (map (λ word. string_bytes word) words.now) → EndsRefused (status_of refusal) result) }
+    ensures completes { IfSome (S.sources store.old) (λ files. HasPlan dev files → IsCommand (map (λ word. string_bytes word) words.now) → EndsPlanned result) }
 
     // After any status.
     ensures stands { IfSome (S.sources store.old) (λ files. MayStand C.compile_of dev files (S.slot store.old) (S.slot store.new)) }

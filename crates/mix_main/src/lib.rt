@@ -1,32 +1,31 @@
 //! The commands: from the words of the command line to the build tree, the report and the status.
 //!
-//! Data flows one way: words, then the manifests, then the plan of jobs, then what becomes of each job, then
+//! Data flows one way: words, then the plan of jobs, then what becomes of each job, then
 //! the build tree and the report. The layer above, a program, hands in a store, a compiler and a sink, and
 //! may rely on the contract of `run` alone.
 #![tactic(auto)]
 
 mod clear;
 mod command;
-mod declaration;
 mod fill;
-mod flat;
+mod manifest_texts;
 mod plain;
-mod plan;
-mod plan_fault;
-mod refusal;
+mod refusal_texts;
 mod report;
-mod sources;
 mod status;
 mod stop;
 mod texts;
 mod words;
 
 pub use command::run;
-pub use declaration::Declaration;
 pub use plain::plain_compile;
-pub use plan::plan_is_the_only_one;
-pub use refusal::Refusal;
 pub use status::Status;
 
+#[cfg(test)]
+mod fault_tests;
+#[cfg(test)]
+mod plan_tests;
+#[cfg(test)]
+mod refusal_tests;
 #[cfg(test)]
 mod tests;

@@ -11,8 +11,10 @@ pub enum Status {
     SomeFailed,
     /// 2: the words are no command.
     BadWords,
-    /// 3: a text of the project is refused.
+    /// 3: a text of the project is refused, or a limit is passed.
     Refused,
+    /// 4: the declarations can't be brought together, or need one another in a cycle.
+    Conflict,
     /// 5: the store failed.
     ReadFault,
     /// 6: a build folder failed.
@@ -21,7 +23,7 @@ pub enum Status {
     Died,
     /// 8: memory ran out.
     OutOfMemory,
-    /// 9: a project or a path is missing.
+    /// 9: a project, a path or the lock of a package is missing.
     Missing,
     /// 10: the sink failed.
     WriteFault,
@@ -37,6 +39,7 @@ impl Status {
             Status::SomeFailed => 1,
             Status::BadWords => 2,
             Status::Refused => 3,
+            Status::Conflict => 4,
             Status::ReadFault => 5,
             Status::TreeFault => 6,
             Status::Died => 7,

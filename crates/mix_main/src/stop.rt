@@ -2,8 +2,7 @@
 ghost use Rattle.std.specs.Prelude.{◌≡◌};
 ghost use Rattle.mix_main.specs.Stop.{stop_of_store, stop_of_folder, stop_of_tree, stop_of_plan, stop_of_seq};
 
-use crate::plan_fault::PlanFault;
-use crate::refusal::Refusal;
+use build_plan::PlanError;
 use compile_model::SeqFault;
 use mx_base::Failed;
 use std::alloc::AllocError;
@@ -13,7 +12,7 @@ use tree_store::StoreFault;
 #[derive(Debug, Drop)]
 pub(crate) enum Stop {
     /// The project is refused.
-    Refused(Refusal),
+    Refused(PlanError),
     /// The store failed.
     Read,
     /// A folder failed.
@@ -69,14 +68,14 @@ impl From<TreeStop> for Stop {
     }
 }
 
-impl From<PlanFault> for Stop {
-    ghost from_gives = { λ fault stop. stop ≡ stop_of_plan fault };
+impl From<PlanError> for Stop {
+    ghost from_gives = { λ error stop. stop ≡ stop_of_plan error };
 
-    fn from(fault: PlanFault) -> Stop {
-        match fault {
-            PlanFault::Refused(refusal) => Stop::Refused(refusal),
-            PlanFault::Read => Stop::Read,
-            PlanFault::OutOfMemory => Stop::Memory,
+    fn from(error: PlanError) -> Stop {
+        match error {
+            PlanError::Read => Stop::Read,
+            PlanError::OutOfMemory => Stop::Memory,
+            refusal => Stop::Refused(refusal),
         }
     }
 }

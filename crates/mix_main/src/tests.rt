@@ -1,17 +1,17 @@
-ghost use Rattle.compile_model.specs.Echo.{echo_of, echo_failed_is_bare, echo_files_in_order};
+// What a command builds and prints.
 
-use crate::{Status, run};
-use compile_model::{CompileFault, Compiler, EchoCompiler, Input, Meaning, Outcome};
-use mx_base::{AppName, Bytes, FaultPlan, Faults, MemSink, RelPath};
-use std::alloc::Global;
+use crate::run;
+use compile_model::EchoCompiler;
+use mx_base::{AppName, Bytes, FaultPlan, File, MemSink, NoFaults, RelPath};
+use std::alloc::{AllocError, Global};
 use std::process::Abort;
 use std::test::Fail;
-use tree_store::{Contents, Folder, MemStore, Store};
+use tree_store::{ConstStore, Contents, Folder, MemStore, Store};
 
 const ROOT: &str =
     "[app: :demo, version: \"0.1.0\", deps: [{:a, path: \"a\"}, {:b, path: \"b\"}, {:c, path: \"c\"}]]";
 
-const THREE_FLAT: [(&str, &str); 7] = [
+pub(crate) const THREE_FLAT: [(&str, &str); 7] = [
     ("project.exs", ROOT),
     ("a/project.exs", "[app: :a, version: \"1.0.0\"]"),
     ("a/x", "A"),
@@ -21,37 +21,51 @@ const THREE_FLAT: [(&str, &str); 7] = [
     ("c/x", "C"),
 ];
 
-const THREE_BUILT: &str =
+pub(crate) const THREE_BUILT: &str =
     "==> a 1.0.0 built\n==> b 1.0.0 built\n==> c 1.0.0 built\n3 dependencies: 3 built, 0 failed, 0 skipped\n";
 
-// Dies at the calls of a list, and else copies sources as `EchoCompiler` does.
-#[derive(Drop)]
-struct MortalCompiler {
-    dying: FaultPlan,
-}
+const CHAIN_ROOT: &str =
+    r#"[app: :demo, version: "0.1.0", deps: [{:c, path: "c"}, {:b, path: "b"}, {:a, path: "a"}]]"#;
 
-impl Meaning for MortalCompiler {
-    ghost compile_of = { echo_of };
+// Each needs the one before.
+const CHAIN: [(&str, &str); 7] = [
+    ("project.exs", CHAIN_ROOT),
+    ("a/project.exs", r#"[app: :a, version: "1.0.0"]"#),
+    ("a/x", "A"),
+    (
+        "b/project.exs",
+        r#"[app: :b, version: "1.0.0", deps: [{:a, path: "../a"}]]"#,
+    ),
+    ("b/x", "B"),
+    (
+        "c/project.exs",
+        r#"[app: :c, version: "1.0.0", deps: [{:b, path: "../b"}]]"#,
+    ),
+    ("c/x", "C"),
+];
 
-    ghost honest = { Unit {0} };
+// The same, but that b fails.
+const FAILED_NEED: [(&str, &str); 8] = [
+    ("project.exs", CHAIN_ROOT),
+    ("a/project.exs", r#"[app: :a, version: "1.0.0"]"#),
+    ("a/x", "A"),
+    ("b/fail", "no\n"),
+    (
+        "b/project.exs",
+        r#"[app: :b, version: "1.0.0", deps: [{:a, path: "../a"}]]"#,
+    ),
+    ("b/x", "B"),
+    (
+        "c/project.exs",
+        r#"[app: :c, version: "1.0.0", deps: [{:b, path: "../b"}]]"#,
+    ),
+    ("c/x", "C"),
+];
 
-    ghost files_in_order = { echo_files_in_order };
+const FAILED_NEED_TEXT: &str =
+    "==> a 1.0.0 built\n==> b 1.0.0 failed with status 1\n  no\n==> c 1.0.0 skipped, needs b\n3 dependencies: 1 built, 1 failed, 1 skipped\n";
 
-    ghost failed_is_bare = { echo_failed_is_bare };
-}
-
-impl Compiler for MortalCompiler {
-    ghost deaths = { λ compiler. compiler.dying };
-
-    fn compile(&mut self, alloc: Global, input: &Input) -> Result<Outcome, CompileFault> {
-        if self.dying.fails() {
-            return Err(CompileFault::Died);
-        }
-        EchoCompiler.compile(alloc, input)
-    }
-}
-
-fn project(alloc: Global, files: &[(&str, &str)]) -> Result<Contents, Fail> {
+pub(crate) fn project(alloc: Global, files: &[(&str, &str)]) -> Result<Contents, Fail> {
     let mut contents = Contents::new(alloc);
     for (path, text) in files {
         let path = RelPath::join(alloc, &RelPath::root(alloc), path.as_bytes())?;
@@ -60,7 +74,7 @@ fn project(alloc: Global, files: &[(&str, &str)]) -> Result<Contents, Fail> {
     Ok(contents)
 }
 
-fn words(alloc: Global, words: &[&str]) -> Result<Vec<String>, Fail> {
+pub(crate) fn words(alloc: Global, words: &[&str]) -> Result<Vec<String>, Fail> {
     let mut list = Vec::new(alloc);
     for word in words {
         list.push(String::from_str(alloc, word)?)?;
@@ -69,44 +83,63 @@ fn words(alloc: Global, words: &[&str]) -> Result<Vec<String>, Fail> {
 }
 
 // The plan that fails at one call, and at none for 0.
-fn failing(alloc: Global, call: u64) -> Result<FaultPlan, Fail> {
+pub(crate) fn failing(alloc: Global, call: u64) -> Result<FaultPlan, Fail> {
     Ok(FaultPlan::new(vec![in alloc; call]?))
+}
+
+fn store_of(alloc: Global, files: &[(&str, &str)]) -> Result<ConstStore, Fail> {
+    let contents = project(alloc, files)?;
+    Ok(MemStore::new(alloc, contents, NoFaults, NoFaults, NoFaults))
 }
 
 // What a command answers and prints, over a store that doesn't fail.
 fn told(alloc: Global, files: &[(&str, &str)], given: &[&str]) -> Result<(u8, Vec<u8>), Fail> {
-    let none = failing(alloc, 0)?;
-    let mut store = MemStore::new(
-        alloc,
-        project(alloc, files)?,
-        none,
-        failing(alloc, 0)?,
-        failing(alloc, 0)?,
-    );
+    let mut store = store_of(alloc, files)?;
     let mut out = MemSink::new(alloc, Vec::new(alloc));
     let words = words(alloc, given)?;
     let status = run(alloc, &words, &mut store, &mut EchoCompiler, &mut out);
     Ok((status.code(), out.as_slice().to_vec(alloc)?))
 }
 
-// The bytes of an app's one output file after `deps.compile`.
-fn output(alloc: Global, files: &[(&str, &str)], app: &str) -> Result<Vec<u8>, Fail> {
-    let mut store = MemStore::new(
-        alloc,
-        project(alloc, files)?,
-        failing(alloc, 0)?,
-        failing(alloc, 0)?,
-        failing(alloc, 0)?,
-    );
+// The store after `deps.compile`.
+fn compiled(alloc: Global, files: &[(&str, &str)]) -> Result<ConstStore, Fail> {
+    let mut store = store_of(alloc, files)?;
     let mut out = MemSink::new(alloc, Vec::new(alloc));
     let words = words(alloc, &["deps.compile"])?;
     let _status = run(alloc, &words, &mut store, &mut EchoCompiler, &mut out);
+    Ok(store)
+}
+
+fn bytes_of(alloc: Global, files: &[File]) -> Result<Vec<u8>, AllocError> {
+    let mut bytes = Vec::new(alloc);
+    for file in files {
+        bytes.extend_from_slice(file.bytes.as_slice())?;
+    }
+    Ok(bytes)
+}
+
+// The bytes of an app's output files after `deps.compile`.
+fn output(alloc: Global, files: &[(&str, &str)], app: &str) -> Result<Vec<u8>, Fail> {
+    let mut store = compiled(alloc, files)?;
     let env = AppName::of(alloc, b"dev")?;
     let app = AppName::of(alloc, app.as_bytes())?;
-    match store.folder(alloc, &env, &app)?.files(alloc)?.as_slice() {
-        [file] => Ok(file.bytes.as_slice().to_vec(alloc)?),
-        _ => Err(Fail::new("one file")),
-    }
+    let mut folder = store.folder(alloc, &env, &app)?;
+    let files = folder.files(alloc)?;
+    Ok(bytes_of(alloc, files.as_slice())?)
+}
+
+/// What `deps.compile` answers and prints over these files.
+pub(crate) fn assert_told(
+    rt: &impl Abort,
+    alloc: Global,
+    files: &[(&str, &str)],
+    code: u8,
+    told_text: &str,
+) -> Result<(), Fail> {
+    let (status, text) = told(alloc, files, &["deps.compile"])?;
+    assert_eq!(rt; text.as_slice(), told_text.as_bytes());
+    assert_eq!(rt; status, code);
+    Ok(())
 }
 
 #[test]
@@ -130,6 +163,29 @@ fn three_flat_dependencies_are_built(rt: HostRuntime) -> Result<(), Fail> {
     for (app, bytes) in &[("a", "A"), ("b", "B"), ("c", "C")] {
         assert_eq!(rt;
             output(alloc, &THREE_FLAT, app)?.as_slice(),
+            bytes.as_bytes()
+        );
+    }
+    Ok(())
+}
+
+#[test]
+fn needs_are_built_first(rt: HostRuntime) -> Result<(), Fail> {
+    let alloc = rt.alloc();
+    assert_told(&rt, alloc, &CHAIN, 0, THREE_BUILT)?;
+    for (app, bytes) in &[("a", "A"), ("b", "BA"), ("c", "CABA")] {
+        assert_eq!(rt; output(alloc, &CHAIN, app)?.as_slice(), bytes.as_bytes());
+    }
+    Ok(())
+}
+
+#[test]
+fn what_needs_a_failed_app_is_skipped(rt: HostRuntime) -> Result<(), Fail> {
+    let alloc = rt.alloc();
+    assert_told(&rt, alloc, &FAILED_NEED, 1, FAILED_NEED_TEXT)?;
+    for (app, bytes) in &[("a", "A"), ("b", ""), ("c", "")] {
+        assert_eq!(rt;
+            output(alloc, &FAILED_NEED, app)?.as_slice(),
             bytes.as_bytes()
         );
     }
@@ -181,83 +237,6 @@ fn a_failed_dependency_and_a_warning_are_reported(rt: HostRuntime) -> Result<(),
     Ok(())
 }
 
-// Each row has a root manifest, and what refuses it where the folder `b` holds a manifest without an end.
-const REFUSED_ROOTS: &str = r#"[app: 1.5]|project.exs: refused at 0: NotRead
-[app: 1]|project.exs: shape
-[app: :demo]|project.exs: shape
-[app: :demo, version: :one]|project.exs: shape
-[app: :demo, version: "1"]|project.exs: shape
-[app: "demo", version: "1.0.0"]|project.exs: shape
-[app: :demo, version: "1.0.0", deps: {}]|project.exs: shape
-"#;
-
-// The same by the declarations alone.
-const REFUSED_DECLARATIONS: &str = r#"[{:b, pth: "b"}]|project.exs: dependency 0: UnknownOption(pth)
-[{:b, git: "x"}]|project.exs: dependency 0: UnsupportedSource(git)
-[{:b, path: "../b"}]|project.exs: dependency 0: BadValue(path)
-[{:b, path: "_build/b"}]|project.exs: dependency 0: BadValue(path)
-[{:b, "one"}]|project.exs: dependency 0: BadRequirement
-[{:b, path: "b"}, {:c, []}]|project.exs: dependency 1: NoSource
-[:b]|project.exs: dependency 0: Shape
-[{:b, path: "b"}, {:b, path: "c"}]|project.exs: shape
-[{:b, "~> 1.0"}]|project.exs: shape
-[{:b, "~> 1.0", path: "b"}]|project.exs: shape
-[{:b, hex: :b}]|project.exs: shape
-[{:b, path: "b", only: :dev}]|project.exs: shape
-[{:b, path: "b", env: :dev}]|project.exs: shape
-[{:b, path: "b", optional: true}]|project.exs: shape
-[{:b, path: "b", override: true}]|project.exs: shape
-[{:b, path: "b", compile: false}]|project.exs: shape
-[{:b, path: "b", manager: :mix}]|project.exs: shape
-[{:b, path: "b", runtime: false}]|project.exs: shape
-[{:b, path: "b", app: false}]|project.exs: shape
-[{:b, path: "b", system_env: [{"A", "1"}]}]|project.exs: shape
-[{:b, path: "b"}, {:c, path: "c"}]|b/project.exs: refused at 0: NotRead
-[{:b, path: "b", env: :prod, runtime: true}]|b/project.exs: refused at 0: NotRead
-"#;
-
-// A root manifest is refused with this status and line.
-fn assert_refused(
-    rt: &impl Abort,
-    alloc: Global,
-    root: &str,
-    code: u8,
-    line: &str,
-) -> Result<(), Fail> {
-    let files = [("project.exs", root), ("b/project.exs", "[app: :b")];
-    let (status, text) = told(alloc, &files, &["deps.compile"])?;
-    let line = format!(in alloc; "mixc: {line}\n")?;
-    assert_eq!(rt; text.as_slice(), line.as_bytes());
-    assert_eq!(rt; status, code);
-    Ok(())
-}
-
-#[test]
-fn the_first_refusal_of_a_root_is_told(rt: HostRuntime) -> Result<(), Fail> {
-    let (status, text) = told(rt.alloc(), &[], &["deps.compile"])?;
-    assert_eq!(rt; status, 9);
-    assert_eq!(rt; text.as_slice(), b"mixc: no project\n".as_slice());
-    for row in REFUSED_ROOTS.lines() {
-        let mut parts = row.split('|');
-        let root = parts.next().unwrap_or("");
-        assert_refused(&rt, rt.alloc(), root, 3, parts.next().unwrap_or(""))?;
-    }
-    Ok(())
-}
-
-#[test]
-fn the_first_refusal_of_a_declaration_is_told(rt: HostRuntime) -> Result<(), Fail> {
-    let alloc = rt.alloc();
-    for row in REFUSED_DECLARATIONS.lines() {
-        let mut parts = row.split('|');
-        let deps = parts.next().unwrap_or("");
-        let root = format!(in alloc; "[app: :demo, version: \"1.0.0\", deps: {deps}]")?;
-        assert_refused(&rt, alloc, &root, 3, parts.next().unwrap_or(""))?;
-    }
-    let root = "[app: :demo, version: \"1.0.0\", deps: [{:c, path: \"c\"}, {:b, path: \"b\"}]]";
-    assert_refused(&rt, alloc, root, 9, "path missing: c c")
-}
-
 #[test]
 fn manifests_are_keyword_lists_or_maps(rt: HostRuntime) -> Result<(), Fail> {
     let files = [
@@ -276,97 +255,5 @@ fn manifests_are_keyword_lists_or_maps(rt: HostRuntime) -> Result<(), Fail> {
         text.as_slice(),
         b"==> a 1.2.0 built\n1 dependencies: 1 built, 0 failed, 0 skipped\n".as_slice()
     );
-    Ok(())
-}
-
-#[test]
-fn a_dependency_is_refused_by_its_path(rt: HostRuntime) -> Result<(), Fail> {
-    let files = [
-        ("project.exs", ROOT),
-        (
-            "a/project.exs",
-            "[app: :a, version: \"1.0.0\", deps: [{:b, path: \"b\"}]]",
-        ),
-    ];
-    let (status, text) = told(rt.alloc(), &files, &["deps.compile"])?;
-    assert_eq!(rt; text.as_slice(), b"mixc: a/project.exs: shape\n".as_slice());
-    assert_eq!(rt; status, 3);
-    let files = [("project.exs", ROOT), ("a/x", "A"), ("c/x", "C")];
-    let (status, text) = told(rt.alloc(), &files, &["deps.compile"])?;
-    assert_eq!(rt; text.as_slice(), b"mixc: path missing: b b\n".as_slice());
-    assert_eq!(rt; status, 9);
-    Ok(())
-}
-
-// The statuses of a run in which one call of the outside fails, and of one after it, with what that one prints.
-fn after_fault(
-    alloc: Global,
-    store_call: u64,
-    folder_call: u64,
-    compile_call: u64,
-    sink_call: u64,
-) -> Result<(u8, u8, Vec<u8>), Fail> {
-    let mut store = MemStore::new(
-        alloc,
-        project(alloc, &THREE_FLAT)?,
-        failing(alloc, store_call)?,
-        failing(alloc, 0)?,
-        failing(alloc, folder_call)?,
-    );
-    let mut out = MemSink::new(alloc, vec![in alloc; sink_call]?);
-    let mut compiler = MortalCompiler {
-        dying: failing(alloc, compile_call)?,
-    };
-    let words = words(alloc, &["deps.compile"])?;
-    let first = run(alloc, &words, &mut store, &mut compiler, &mut out);
-    let mut again = MemSink::new(alloc, Vec::new(alloc));
-    let second = run(alloc, &words, &mut store, &mut compiler, &mut again);
-    Ok((first.code(), second.code(), again.as_slice().to_vec(alloc)?))
-}
-
-#[test]
-fn a_fault_of_the_outside_gives_its_status(rt: HostRuntime) -> Result<(), Fail> {
-    // Reading takes 10 calls of the store, and the tree 4 more.
-    for call in 1..16 {
-        let (first, second, text) = after_fault(rt.alloc(), call, 0, 0, 0)?;
-        assert_eq!(rt; first, if call <= 14 { 5 } else { 0 });
-        assert_eq!(rt;
-            (second, text.as_slice()),
-            (
-                if call == 15 { 5 } else { 0 },
-                if call == 15 {
-                    b"mixc: read fault\n".as_slice()
-                } else {
-                    THREE_BUILT.as_bytes()
-                }
-            )
-        );
-    }
-    Ok(())
-}
-
-#[test]
-fn a_dead_compiler_and_a_failed_sink_give_their_status(rt: HostRuntime) -> Result<(), Fail> {
-    for (compile_call, sink_call, status) in &[
-        (1, 0, 7),
-        (2, 0, 7),
-        (3, 0, 7),
-        (0, 1, 10),
-        (0, 2, 0),
-    ] {
-        let (first, second, text) = after_fault(rt.alloc(), 0, 0, *compile_call, *sink_call)?;
-        assert_eq!(rt; (first, second), (*status, 0));
-        assert_eq!(rt; text.as_slice(), THREE_BUILT.as_bytes());
-    }
-    Ok(())
-}
-
-#[test]
-fn a_failed_folder_gives_its_status(rt: HostRuntime) -> Result<(), Fail> {
-    let (first, second, text) = after_fault(rt.alloc(), 0, 1, 0, 0)?;
-    assert_eq!(rt; (first, second), (6, 6));
-    assert_eq!(rt; text.as_slice(), b"mixc: tree fault\n".as_slice());
-    let (first, _, _) = after_fault(rt.alloc(), 0, 2, 0, 0)?;
-    assert_eq!(rt; first, 0);
     Ok(())
 }

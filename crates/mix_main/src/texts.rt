@@ -1,21 +1,21 @@
 // The lines that say why there is no report.
-ghost use Rattle.std.specs.Prelude.{◌≡◌, ◌≢◌, ◌⊎◌, ◌++◌, IfOk, OnOk, IsFalse};
+ghost use Rattle.std.specs.Prelude.{◌≡◌, ◌≢◌, ◌⊎◌, IfOk, IsFalse};
 ghost use Rattle.mx_base.specs.Sink.{with_bytes};
 ghost use Rattle.mix_main.specs.declared.status.Status.TheVariants.{BadWords, OutOfMemory, WriteFault};
 ghost use Rattle.mx_base.specs.Causes.{Counted};
 ghost use Rattle.mix_main.specs.Ends.{Says, Tells, TakesLine, TakesPrefix, FaultLine};
 ghost use Rattle.mix_main.specs.Status.{is_write_fault, status_of, EndsWords};
 ghost use Rattle.mix_main.specs.declared.stop.Stop.TheVariants.{Refused, Write};
-ghost use Rattle.mix_main.specs.Texts.{refusal_line, memory_line, bad_words_line, manifest_text, term_text, term_cause, options_text, option_cause, named_cause};
+ghost use Rattle.mix_main.specs.Stop.{IsOfFiles};
+ghost use Rattle.mix_main.specs.Texts.{memory_line, bad_words_line};
+ghost use Rattle.build_plan.specs.Faults.{is_read_error};
 
-use crate::refusal::Refusal;
+use crate::refusal_texts::refusal_line;
 use crate::report::push_number;
 use crate::status::Status;
 use crate::stop::Stop;
-use dep_options::{OptionCause, OptionError};
-use elixir_terms::{TermCause, TermError};
-use mx_base::{Sink, Text};
-use project_file::ProjectError;
+use build_plan::PlanError;
+use mx_base::Sink;
 use std::alloc::{AllocError, Global};
 
 /// Writes a text, with which a status goes.
@@ -62,9 +62,10 @@ fn bad_words_line(alloc: Global, at: usize) -> Result<Vec<u8>, AllocError>
     Ok(line)
 }
 
-/// Writes the line of a refusal.
-#[tactic(auto, using(crate::proofs::EndLemmas::says_tells, crate::proofs::EndLemmas::says_takes))]
-pub(crate) fn say_refusal<K: Sink>(alloc: Global, refusal: &Refusal, out: &mut K) -> Status
+// Writes the line of a refusal.
+#[tactic(auto, using(crate::proofs::EndLemmas::refusal_tells, crate::proofs::EndLemmas::says_tells, crate::proofs::EndLemmas::says_takes))]
+fn say_refusal<K: Sink>(alloc: Global, refusal: &PlanError, out: &mut K) -> Status
+    requires { IsFalse (is_read_error refusal.now) }
     ensures tells { Tells result (Refused refusal.now) }
     ensures takes { TakesLine result (Refused refusal.now) (K.taken out.old) (K.taken out.new) }
     ensures cause { Counted (K.faults out.old) (K.faults out.new) (is_write_fault result) }
@@ -75,109 +76,28 @@ pub(crate) fn say_refusal<K: Sink>(alloc: Global, refusal: &Refusal, out: &mut K
     }
 }
 
-fn status_of(refusal: &Refusal) -> Status
+fn status_of(refusal: &PlanError) -> Status
     ensures { result ≡ status_of refusal.now }
 {
     match refusal {
-        Refusal::NoProject | Refusal::PathMissing { .. } => Status::Missing,
-        Refusal::Project { .. } => Status::Refused,
-    }
-}
-
-fn refusal_line(alloc: Global, refusal: &Refusal) -> Result<Vec<u8>, AllocError>
-    ensures { IfOk result (λ line. line.items ≡ refusal_line refusal.now) }
-{
-    let mut line = Vec::from_slice(alloc, b"mixc: ")?;
-    match refusal {
-        Refusal::NoProject => line.extend_from_slice(b"no project\n")?,
-        Refusal::Project { path, fault } => {
-            line.extend_from_slice(path.as_str().as_bytes())?;
-            line.extend_from_slice(b": ")?;
-            push_manifest(alloc, &mut line, fault)?;
-            line.extend_from_slice(b"\n")?;
+        PlanError::Settings(_)
+        | PlanError::Project { .. }
+        | PlanError::TooManyRows
+        | PlanError::TooLarge(_) => Status::Refused,
+        PlanError::Diverged(_) | PlanError::Cycle(_) => Status::Conflict,
+        PlanError::NoProject | PlanError::PathMissing { .. } | PlanError::NotLocked(_) => {
+            Status::Missing
         }
-        Refusal::PathMissing { app, dir } => {
-            line.extend_from_slice(b"path missing: ")?;
-            line.extend_from_slice(app.as_str().as_bytes())?;
-            line.extend_from_slice(b" ")?;
-            line.extend_from_slice(dir.as_str().as_bytes())?;
-            line.extend_from_slice(b"\n")?;
-        }
+        PlanError::Read => Status::ReadFault,
+        PlanError::OutOfMemory => Status::OutOfMemory,
     }
-    Ok(line)
-}
-
-// Why a manifest is refused.
-fn push_manifest(alloc: Global, line: &mut Vec<u8>, fault: &ProjectError) -> Result<(), AllocError>
-    ensures { OnOk result (line.new.items ≡ line.old.items ++ manifest_text fault.now) }
-{
-    match fault {
-        ProjectError::Read => line.extend_from_slice(b"read fault"),
-        ProjectError::Term(error) => push_term(alloc, line, error),
-        ProjectError::Shape => line.extend_from_slice(b"shape"),
-        ProjectError::Options(error) => push_options(alloc, line, error),
-        ProjectError::OutOfMemory => line.extend_from_slice(b"out of memory"),
-    }
-}
-
-// Why a text is no term, and where.
-fn push_term(alloc: Global, line: &mut Vec<u8>, error: &TermError) -> Result<(), AllocError>
-    ensures { OnOk result (line.new.items ≡ line.old.items ++ term_text error.now) }
-{
-    line.extend_from_slice(b"refused at ")?;
-    push_number(alloc, line, error.at)?;
-    line.extend_from_slice(b": ")?;
-    line.extend_from_slice(term_cause(error.cause))
-}
-
-fn term_cause(cause: TermCause) -> &'static [u8]
-    ensures { result.now ≡ term_cause cause }
-{
-    match cause {
-        TermCause::NotRead => b"NotRead",
-        TermCause::OutOfMemory => b"OutOfMemory",
-    }
-}
-
-// Which declaration is refused, and why.
-fn push_options(alloc: Global, line: &mut Vec<u8>, error: &OptionError) -> Result<(), AllocError>
-    ensures { OnOk result (line.new.items ≡ line.old.items ++ options_text error.now) }
-{
-    line.extend_from_slice(b"dependency ")?;
-    push_number(alloc, line, error.index)?;
-    line.extend_from_slice(b": ")?;
-    push_cause(line, &error.cause)?;
-    Ok(())
-}
-
-fn push_cause(line: &mut Vec<u8>, cause: &OptionCause) -> Result<(), AllocError>
-    ensures { OnOk result (line.new.items ≡ line.old.items ++ option_cause cause.now) }
-{
-    match cause {
-        OptionCause::Shape => line.extend_from_slice(b"Shape"),
-        OptionCause::BadRequirement => line.extend_from_slice(b"BadRequirement"),
-        OptionCause::UnknownOption(name) => push_named(line, b"UnknownOption", name),
-        OptionCause::UnsupportedSource(name) => push_named(line, b"UnsupportedSource", name),
-        OptionCause::BadValue(name) => push_named(line, b"BadValue", name),
-        OptionCause::NoSource => line.extend_from_slice(b"NoSource"),
-        OptionCause::OutOfMemory => line.extend_from_slice(b"OutOfMemory"),
-    }
-}
-
-// A cause with the name that it is about.
-fn push_named(line: &mut Vec<u8>, cause: &[u8], name: &Text) -> Result<(), AllocError>
-    ensures { OnOk result (line.new.items ≡ line.old.items ++ named_cause cause.now name.now) }
-{
-    line.extend_from_slice(cause)?;
-    line.extend_from_slice(b"(")?;
-    line.extend_from_slice(name.as_slice())?;
-    line.extend_from_slice(b")")
 }
 
 /// Writes the line of a stop.
 #[tactic(auto, using(crate::proofs::EndLemmas::says_tells, crate::proofs::EndLemmas::says_takes))]
 pub(crate) fn say_stop<K: Sink>(alloc: Global, stop: &Stop, out: &mut K) -> Status
-    requires { stop.now ≢ Write }
+    requires told { stop.now ≢ Write }
+    requires of_files { IsOfFiles stop.now }
     ensures tells { Tells result stop.now }
     ensures takes { TakesLine result stop.now (K.taken out.old) (K.taken out.new) }
     ensures cause { Counted (K.faults out.old) (K.faults out.new) (is_write_fault result) }

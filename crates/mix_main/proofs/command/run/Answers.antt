@@ -1,6 +1,7 @@
-use Rattle.std.proofs.Common.{ℕ, List, IfSome, map, string_bytes, inr, refl, sym, subst}
+use Rattle.std.proofs.Common.{ℕ, List, IfSome, Err, map, string_bytes, inr, refl, sym, subst}
 use Rattle.mix_main.specs.declared.status.Status.TheVariants.{OutOfMemory, Built}
-use Rattle.mix_main.specs.Ends.{MayStand, dev}
+use Rattle.build_plan.specs.Plan.{IsPlan}
+use Rattle.mix_main.specs.Ends.{CompileWrites, EndsPlanned, EndsRefused, HasPlan, MayStand, TakesPrefix, dev}
 use Rattle.mix_main.specs.Status.{status_of}
 use Rattle.mix_main.specs.Texts.{memory_line}
 use Rattle.mix_main.proofs.EndLemmas.{says_cut, if_some_all, memory_ends, command_is_good}
@@ -19,7 +20,9 @@ returns-in-Ok-clause-stands g c =
 
 pub returns-in-Ok-clause-cut : goal.returns-in-Ok-clause-cut
 returns-in-Ok-clause-cut g c =
-    λ e. if_some_map (g.S.Store.sources c.args.store.now) _ _ (λ files t. (t.0, inr t.1, t.2, t.3)) (c.plain_compile.ensures.cut e)
+    λ e. if_some_map (g.S.Store.sources c.args.store.now) _ _ (λ files t. (t.0, inr t.1, t.2, t.3))
+    (subst (λ (env : List ℕ). IfSome (g.S.Store.sources c.args.store.now) (λ files. TakesPrefix (CompileWrites g.C.Meaning.compile_of env files) (g.K.Sink.taken c.args.out.now) (g.K.Sink.taken c.plain_compile.new.out)))
+    c.in-Ok.ensures.ok (c.plain_compile.ensures.cut e))
 
 pub returns-in-Err-clause-cut : goal.returns-in-Err-clause-cut
 returns-in-Err-clause-cut g c =
@@ -40,11 +43,15 @@ returns-in-Some-clause-completes g c =
 
 pub returns-in-Ok-clause-exactly : goal.returns-in-Ok-clause-exactly
 returns-in-Ok-clause-exactly g c =
-    λ refusal. if_some_map (g.S.Store.sources c.args.store.now) _ _ (λ files ends plan is. ends plan) (c.plain_compile.ensures.exactly refusal)
+    λ refusal. if_some_map (g.S.Store.sources c.args.store.now) _ _ (λ files ends plan is. ends plan)
+    (subst (λ (env : List ℕ). IfSome (g.S.Store.sources c.args.store.now) (λ files. IsPlan files env (Err refusal) → EndsRefused (status_of refusal) c.plain_compile.result))
+    c.in-Ok.ensures.ok (c.plain_compile.ensures.exactly refusal))
 
 pub returns-in-Ok-clause-completes : goal.returns-in-Ok-clause-completes
 returns-in-Ok-clause-completes g c =
-    if_some_map (g.S.Store.sources c.args.store.now) _ _ (λ files ends plan is. ends plan) c.plain_compile.ensures.completes
+    if_some_map (g.S.Store.sources c.args.store.now) _ _ (λ files ends plan is. ends plan)
+    (subst (λ (env : List ℕ). IfSome (g.S.Store.sources c.args.store.now) (λ files. HasPlan env files → EndsPlanned c.plain_compile.result))
+    c.in-Ok.ensures.ok c.plain_compile.ensures.completes)
 
 pub returns-in-Err-clause-exactly : goal.returns-in-Err-clause-exactly
 returns-in-Err-clause-exactly g c =

@@ -10,6 +10,7 @@ use Rattle.mix_main.specs.Filling.{filled_by}
 use Rattle.mix_main.specs.Report.{report, is_failed}
 use Rattle.mix_main.proofs.PlainLemmas.{if_some_map, finished, part_stands, files_stand, filled_partly, filled_wholly}
 use Rattle.mix_main.proofs.StandLemmas.{same_part}
+use Rattle.mix_main.proofs.ApartLemmas.{planned_differ}
 use Rattle.mix_main.specs.Ends.{HasPlan}
 use Rattle.mix_main.proofs.EndLemmas.{after_plan, if_died}
 use Rattle.mix_main.proofs.plain.compile.Goals as goal
@@ -22,7 +23,7 @@ returns-clause-compiled g c =
     let mid = g.S.Store.slot c.clear_env.new.store in
     if_some_map (g.S.Store.sources c.args.store.now) _ _
     (λ files planned. finished g.C.Meaning.compile_of g.C.Meaning.files_in_order env files jobs fates c.any_failed.result c.in_ok-text.text.items (g.S.Store.slot c.args.store.now) mid (g.S.Store.slot c.fill_env.new.store) (g.K.Sink.taken c.args.out.now) (g.K.Sink.taken c.write.new.self)
-    planned c.in_ok-plan.ensures.apps c.in_ok-fates.ensures.fates (subst (λ (slots : BuildKey → Slot). ClearsEnv env slots mid) c.in_ok-plan.ensures.same c.in_ok-clear_env.ensures.cleared)
+    planned (planned_differ c.in_ok-plan.plan.jobs c.in_ok-plan.ensures.planned) c.in_ok-fates.ensures.fates (subst (λ (slots : BuildKey → Slot). ClearsEnv env slots mid) c.in_ok-plan.ensures.same c.in_ok-clear_env.ensures.cleared)
     (λ q. c.in_ok-fill_env.ensures.filled q
     ∙ ap (λ (js : List Job). filled_by env q js c.deref.result.now (mid q)) c.as_slice.ensures
     ∙ ap (λ (fs : List Fate). filled_by env q jobs fs (mid q)) c.deref.ensures.value)
@@ -51,7 +52,7 @@ returns-in_err-fill_env-clause-stands g c =
     let mid = (g.S.Store.slot c.clear_env.new.store) in
     files_stand g.C.Meaning.compile_of env (g.S.Store.sources c.args.store.now) c.in_ok-plan.plan.jobs (g.S.Store.slot c.args.store.now) (g.S.Store.slot c.fill_env.new.store) c.in_ok-plan.ensures.plan
     (filled_partly g.C.Meaning.compile_of g.C.Meaning.files_in_order env c.in_ok-plan.plan.jobs c.as_slice.result.now c.in_ok-fates.fates.items c.deref.result.now (g.S.Store.slot c.args.store.now) mid (g.S.Store.slot c.fill_env.new.store)
-    c.as_slice.ensures c.deref.ensures.value c.in_ok-fates.ensures.fates c.in_ok-plan.ensures.apps
+    c.as_slice.ensures c.deref.ensures.value c.in_ok-fates.ensures.fates (planned_differ c.in_ok-plan.plan.jobs c.in_ok-plan.ensures.planned)
     (subst (λ (slots : BuildKey → Slot). ClearsEnv env slots mid) c.in_ok-plan.ensures.same c.in_ok-clear_env.ensures.cleared) c.in_err-fill_env.ensures.begun)
 
 pub returns-in_err-text-clause-stands : goal.returns-in_err-text-clause-stands
@@ -60,7 +61,7 @@ returns-in_err-text-clause-stands g c =
     let mid = (g.S.Store.slot c.clear_env.new.store) in
     files_stand g.C.Meaning.compile_of env (g.S.Store.sources c.args.store.now) c.in_ok-plan.plan.jobs (g.S.Store.slot c.args.store.now) (g.S.Store.slot c.fill_env.new.store) c.in_ok-plan.ensures.plan
     (filled_wholly g.C.Meaning.compile_of g.C.Meaning.files_in_order env c.in_ok-plan.plan.jobs c.as_slice.result.now c.in_ok-fates.fates.items c.deref.result.now (g.S.Store.slot c.args.store.now) mid (g.S.Store.slot c.fill_env.new.store)
-    c.as_slice.ensures c.deref.ensures.value c.in_ok-fates.ensures.fates c.in_ok-plan.ensures.apps
+    c.as_slice.ensures c.deref.ensures.value c.in_ok-fates.ensures.fates (planned_differ c.in_ok-plan.plan.jobs c.in_ok-plan.ensures.planned)
     (subst (λ (slots : BuildKey → Slot). ClearsEnv env slots mid) c.in_ok-plan.ensures.same c.in_ok-clear_env.ensures.cleared) c.in_ok-fill_env.ensures.filled)
 
 pub returns-in_err-write-clause-stands : goal.returns-in_err-write-clause-stands
@@ -69,7 +70,7 @@ returns-in_err-write-clause-stands g c =
     let mid = (g.S.Store.slot c.clear_env.new.store) in
     files_stand g.C.Meaning.compile_of env (g.S.Store.sources c.args.store.now) c.in_ok-plan.plan.jobs (g.S.Store.slot c.args.store.now) (g.S.Store.slot c.fill_env.new.store) c.in_ok-plan.ensures.plan
     (filled_wholly g.C.Meaning.compile_of g.C.Meaning.files_in_order env c.in_ok-plan.plan.jobs c.as_slice.result.now c.in_ok-fates.fates.items c.deref.result.now (g.S.Store.slot c.args.store.now) mid (g.S.Store.slot c.fill_env.new.store)
-    c.as_slice.ensures c.deref.ensures.value c.in_ok-fates.ensures.fates c.in_ok-plan.ensures.apps
+    c.as_slice.ensures c.deref.ensures.value c.in_ok-fates.ensures.fates (planned_differ c.in_ok-plan.plan.jobs c.in_ok-plan.ensures.planned)
     (subst (λ (slots : BuildKey → Slot). ClearsEnv env slots mid) c.in_ok-plan.ensures.same c.in_ok-clear_env.ensures.cleared) c.in_ok-fill_env.ensures.filled)
 
 pub returns-clause-stands : goal.returns-clause-stands
@@ -78,28 +79,28 @@ returns-clause-stands g c =
     let mid = (g.S.Store.slot c.clear_env.new.store) in
     files_stand g.C.Meaning.compile_of env (g.S.Store.sources c.args.store.now) c.in_ok-plan.plan.jobs (g.S.Store.slot c.args.store.now) (g.S.Store.slot c.fill_env.new.store) c.in_ok-plan.ensures.plan
     (filled_wholly g.C.Meaning.compile_of g.C.Meaning.files_in_order env c.in_ok-plan.plan.jobs c.as_slice.result.now c.in_ok-fates.fates.items c.deref.result.now (g.S.Store.slot c.args.store.now) mid (g.S.Store.slot c.fill_env.new.store)
-    c.as_slice.ensures c.deref.ensures.value c.in_ok-fates.ensures.fates c.in_ok-plan.ensures.apps
+    c.as_slice.ensures c.deref.ensures.value c.in_ok-fates.ensures.fates (planned_differ c.in_ok-plan.plan.jobs c.in_ok-plan.ensures.planned)
     (subst (λ (slots : BuildKey → Slot). ClearsEnv env slots mid) c.in_ok-plan.ensures.same c.in_ok-clear_env.ensures.cleared) c.in_ok-fill_env.ensures.filled)
 
 pub returns-in_err-clear_env-clause-after_plan : goal.returns-in_err-clear_env-clause-after_plan
 returns-in_err-clear_env-clause-after_plan g c =
-    after_plan _ (IfSome (g.S.Store.sources c.args.store.now) HasPlan) (if_some_map (g.S.Store.sources c.args.store.now) _ _ (λ files plan. (c.in_ok-plan.plan.jobs, plan)) c.in_ok-plan.ensures.plan)
+    after_plan _ (IfSome (g.S.Store.sources c.args.store.now) (HasPlan c.args.env.now)) (if_some_map (g.S.Store.sources c.args.store.now) _ _ (λ files plan. (c.in_ok-plan.plan.jobs, plan)) c.in_ok-plan.ensures.plan)
 
 pub returns-in_err-fates-clause-after_plan : goal.returns-in_err-fates-clause-after_plan
 returns-in_err-fates-clause-after_plan g c =
-    after_plan _ (IfSome (g.S.Store.sources c.args.store.now) HasPlan) (if_some_map (g.S.Store.sources c.args.store.now) _ _ (λ files plan. (c.in_ok-plan.plan.jobs, plan)) c.in_ok-plan.ensures.plan)
+    after_plan _ (IfSome (g.S.Store.sources c.args.store.now) (HasPlan c.args.env.now)) (if_some_map (g.S.Store.sources c.args.store.now) _ _ (λ files plan. (c.in_ok-plan.plan.jobs, plan)) c.in_ok-plan.ensures.plan)
 
 pub returns-in_err-fill_env-clause-after_plan : goal.returns-in_err-fill_env-clause-after_plan
 returns-in_err-fill_env-clause-after_plan g c =
-    after_plan _ (IfSome (g.S.Store.sources c.args.store.now) HasPlan) (if_some_map (g.S.Store.sources c.args.store.now) _ _ (λ files plan. (c.in_ok-plan.plan.jobs, plan)) c.in_ok-plan.ensures.plan)
+    after_plan _ (IfSome (g.S.Store.sources c.args.store.now) (HasPlan c.args.env.now)) (if_some_map (g.S.Store.sources c.args.store.now) _ _ (λ files plan. (c.in_ok-plan.plan.jobs, plan)) c.in_ok-plan.ensures.plan)
 
 pub returns-in_err-text-clause-after_plan : goal.returns-in_err-text-clause-after_plan
 returns-in_err-text-clause-after_plan g c =
-    after_plan _ (IfSome (g.S.Store.sources c.args.store.now) HasPlan) (if_some_map (g.S.Store.sources c.args.store.now) _ _ (λ files plan. (c.in_ok-plan.plan.jobs, plan)) c.in_ok-plan.ensures.plan)
+    after_plan _ (IfSome (g.S.Store.sources c.args.store.now) (HasPlan c.args.env.now)) (if_some_map (g.S.Store.sources c.args.store.now) _ _ (λ files plan. (c.in_ok-plan.plan.jobs, plan)) c.in_ok-plan.ensures.plan)
 
 pub returns-in_err-write-clause-after_plan : goal.returns-in_err-write-clause-after_plan
 returns-in_err-write-clause-after_plan g c =
-    after_plan _ (IfSome (g.S.Store.sources c.args.store.now) HasPlan) (if_some_map (g.S.Store.sources c.args.store.now) _ _ (λ files plan. (c.in_ok-plan.plan.jobs, plan)) c.in_ok-plan.ensures.plan)
+    after_plan _ (IfSome (g.S.Store.sources c.args.store.now) (HasPlan c.args.env.now)) (if_some_map (g.S.Store.sources c.args.store.now) _ _ (λ files plan. (c.in_ok-plan.plan.jobs, plan)) c.in_ok-plan.ensures.plan)
 
 pub returns-in_err-fates-clause-emptied : goal.returns-in_err-fates-clause-emptied
 returns-in_err-fates-clause-emptied g c =

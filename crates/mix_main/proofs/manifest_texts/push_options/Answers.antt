@@ -2,7 +2,7 @@ use Rattle.std.proofs.Common.{codes}
 use Rattle.std.specs.Fmt.{decimal}
 use Rattle.mix_main.specs.Texts.{option_cause}
 use Rattle.mix_main.proofs.ReportLemmas.{four_pieces}
-use Rattle.mix_main.proofs.texts.push_options.Goals as goal
+use Rattle.mix_main.proofs.manifest_texts.push_options.Goals as goal
 
 pub returns : goal.returns
 returns c =
