@@ -1,5 +1,5 @@
 // All declarations of a project, and what is found in the folders of its dependencies.
-ghost use Rattle.std.specs.Prelude.{◌≡◌, ◌×◌, ◌⊎◌, IfOk, IfErr, IfSome, IsFalse};
+ghost use Rattle.std.specs.Prelude.{◌≡◌, IfOk, IfErr, IfSome, IsFalse};
 ghost use Rattle.std.specs.List.{All, AllZip};
 ghost use Rattle.mx_base.specs.Causes.{Counted};
 ghost use Rattle.dep_rows.specs.Listed.{IsWithinLimit};
@@ -18,7 +18,7 @@ use tree_store::Store;
 
 /// The declarations of a project, and what is found in the folders of the winners, in their order.
 #[derive(Debug, Drop)]
-pub(crate) struct Dependencies {
+pub(crate) struct Inventory {
     pub rows: Rows,
     pub found: Vec<Found>,
 }
@@ -28,7 +28,7 @@ pub(crate) fn dependencies<S: Store>(
     alloc: Global,
     store: &mut S,
     root: &[Decl],
-) -> Result<Dependencies, PlanError>
+) -> Result<Inventory, PlanError>
     ensures rows { IfOk result (λ all. IfSome (S.sources store.old) (λ files. AreRows (AreChildren files) root.now all.rows.rows all.rows.winners)) }
     ensures within { IfOk result (λ all. IsWithinLimit all.rows) }
     ensures at { IfOk result (λ all. AllZip (IsFoundAt all.rows.rows) all.rows.winners all.found.items) }

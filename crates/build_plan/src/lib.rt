@@ -9,7 +9,14 @@ mod children;
 mod dependencies;
 mod error;
 mod found;
+mod jobs;
+mod limits;
+mod lines;
+mod needs;
+mod options;
 mod planning;
+mod posts;
+mod root;
 mod sources;
 mod versions;
 

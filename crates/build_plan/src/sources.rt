@@ -1,8 +1,10 @@
 // The source files of a dependency.
-ghost use Rattle.std.specs.Prelude.{◌≡◌, IfOk, IfSome};
+ghost use Rattle.std.specs.Prelude.{◌≡◌, ◌≤◌, length, IfOk, IfSome};
 ghost use Rattle.mx_base.specs.Causes.{Counted};
 ghost use Rattle.tree_store.specs.Faults.{is_failed};
 ghost use Rattle.build_plan.specs.Found.{AreSources, IsFound, IsSound};
+ghost use Rattle.build_plan.specs.Jobs.{most_files};
+ghost use Rattle.build_plan.specs.Sources.{bytes_in};
 
 use crate::found::Found;
 use mx_base::Files;
@@ -19,6 +21,8 @@ pub(crate) fn sources<S: Store>(
 ) -> Result<Option<Files>, StoreFault>
     requires { IsSound found.now }
     ensures read { IfOk result (λ sources. IfSome (S.sources store.old) (λ files. IsFound files found.now → AreSources files found.now.dir room sources)) }
+    // Where they are answered they are within the limits.
+    ensures fits { IfOk result (λ sources. IfSome sources (λ all. (length all ≤ most_files) × (bytes_in all ≤ room))) }
     ensures sources { S.sources store.new ≡ S.sources store.old }
     ensures same { S.slot store.new ≡ S.slot store.old }
     ensures returned { S.folder_faults store.new ≡ S.folder_faults store.old }
