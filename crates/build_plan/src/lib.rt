@@ -18,6 +18,8 @@ mod planning;
 mod posts;
 mod root;
 mod sources;
+#[cfg(test)]
+mod tests;
 mod versions;
 
 pub use children::ChildFault;
