@@ -5,7 +5,7 @@ use Rattle.std.proofs.lemmas.List.{take_more}
 use Rattle.compile_model.specs.declared.job.Job.{Job}
 use Rattle.compile_model.specs.declared.outcome.Outcome.{Outcome}
 use Rattle.compile_model.specs.declared.outcome.Fate.{Fate}
-use Rattle.compile_model.specs.declared.outcome.Fate.TheVariants.{Built, Failed, Skipped}
+use Rattle.compile_model.specs.declared.outcome.Fate.TheVariants.{Built, Failed}
 use Rattle.mx_base.specs.Order.{AreInOrder}
 use Rattle.std.specs.List.{AllByRecursion}
 use Rattle.compile_model.specs.Content.{Content, content_of}

@@ -1,5 +1,5 @@
 -- The echo rule.
-use Rattle.std.specs.Prelude.{◌≡◌, ◌≢◌, ℕ, Bool, false, not, ◌&&◌, List, [], ◌∷◌, ◌++◌, flat_map, filter, find, Option, Some, None, option_map, unwrap_or, codes, bytes_eq, refl}
+use Rattle.std.specs.Prelude.{◌≡◌, ◌≢◌, ℕ, Bool, not, ◌&&◌, List, [], ◌∷◌, ◌++◌, flat_map, filter, find, Option, Some, None, option_map, unwrap_or, codes, bytes_eq, refl}
 use Rattle.mx_base.specs.declared.file.File.{File}
 use Rattle.mx_base.specs.Order.{AreInOrder}
 use Rattle.compile_model.specs.declared.how.How.{How}

@@ -26,11 +26,11 @@ blanks_from_past (byte ∷ text) rest end e h = past_at byte text rest end _ _ r
 blank_not_sharp : (byte : ℕ) → is_blank byte ≡ true → eqb byte 35 ≡ false
 blank_not_sharp byte w = ne_eqb byte 35 (λ e. false≢true (subst (λ b. is_blank b ≡ true) e w))
 
-blank_past : (byte : ℕ) (text : List ℕ) → is_blank byte ≡ true → past_blank (byte ∷ text) ≡ Some text
+pub blank_past : (byte : ℕ) (text : List ℕ) → is_blank byte ≡ true → past_blank (byte ∷ text) ≡ Some text
 blank_past byte text w = rw (blank_not_sharp byte w, w) refl
 
 -- blanks that lead past a first blank, lead on from there
-blanks_after : {text end : List ℕ} (next : List ℕ) → past_blank text ≡ Some next → past_blank end ≡ None → Blanks text end → Blanks next end
+pub blanks_after : {text end : List ℕ} (next : List ℕ) → past_blank text ≡ Some next → past_blank end ≡ None → Blanks text end → Blanks next end
 blanks_after next some stop none = absurd (cc)
 blanks_after next some stop (blank {byte = byte} {text = text} w h) =
     let e = blank_past byte text w in
@@ -40,7 +40,7 @@ blanks_after next some stop (comment {text = text} h) =
     let same : line_end text ≡ next = cc in
     rw (sym same) h
 
-blanks_stop : {rest : List ℕ} (end : List ℕ) → past_blank rest ≡ None → Blanks rest end → rest ≡ end
+pub blanks_stop : {rest : List ℕ} (end : List ℕ) → past_blank rest ≡ None → Blanks rest end → rest ≡ end
 blanks_stop end stop none = refl
 blanks_stop end stop (blank {byte = byte} {text = text} w h) = let e = blank_past byte text w in absurd (cc)
 blanks_stop end stop (comment h) = absurd (cc)

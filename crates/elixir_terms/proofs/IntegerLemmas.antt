@@ -1,6 +1,6 @@
 -- The integer that a text begins with.
-use Rattle.std.specs.Prelude.{option_map, nat_lt, nat_le, ℤ, pos, neg_ℤ}
-use Rattle.std.proofs.Common.{◌≡◌, ℕ, suc, ◌-◌, ◌<◌, ◌≤◌, Bool, true, false, ◌&&◌, List, [], ◌∷◌, ◌++◌, Option, Some, None, length, take, drop, cond, eqb, refl, sym, ap, ◌∙◌, arith, subst}
+use Rattle.std.specs.Prelude.{option_map, nat_lt, nat_le, pos, neg_ℤ}
+use Rattle.std.proofs.Common.{◌≡◌, ℕ, suc, ◌-◌, ◌<◌, ◌≤◌, Bool, true, false, ◌&&◌, List, [], ◌∷◌, ◌++◌, Some, None, length, take, drop, cond, eqb, refl, sym, ap, ◌∙◌, arith, subst}
 use Rattle.std.proofs.lemmas.Bool.{not-true, not_from_false, and_parts, and_from, and_right, or_left, or_right, eqb-true, ne_eqb, true≢false, false≢true, ltb-false, ltb-true, le-leb}
 use Rattle.std.proofs.lemmas.List.{take_at, drop_at, take-append-drop}
 use Rattle.std.specs.Char.{is_digit, digit_value}
@@ -11,10 +11,8 @@ use Rattle.elixir_terms.specs.declared.token.Token.TheVariants.{Int}
 use Rattle.elixir_terms.specs.Names.{is_name_byte}
 use Rattle.elixir_terms.specs.Numbers.{Grouped, last, next, mark, Numeral, decimal, hexadecimal, octal, binary}
 use Rattle.elixir_terms.specs.Tokens.{ends_integer}
-use Rattle.elixir_terms.specs.Lexing.{run_len, base_of, digits_from, numeral_of, signed, minus, are_digits, are_signed_digits, signed_value, integer_of, IsNarrow, IsNoneOrWide}
-use Rattle.std.proofs.lemmas.Int.{to_z-of_z}
-use Rattle.std.specs.Int.{w128, cast_signed as to_z, cast_unsigned as of_z}
-use Rattle.elixir_terms.proofs.NumberLemmas.{digit_not, fits_from_narrow}
+use Rattle.elixir_terms.specs.Lexing.{run_len, base_of, digits_from, numeral_of, signed, minus, are_digits, are_signed_digits, signed_value, integer_of}
+use Rattle.elixir_terms.proofs.NumberLemmas.{digit_not}
 use Rattle.elixir_terms.proofs.OptionLemmas.{none_some, some_same, cond_some, map_some}
 
 -- digits with single `_` between some of them
@@ -57,14 +55,14 @@ all_more : (base digit : ℕ) (digits : List ℕ) → is_digit digit base ≡ tr
 all_more base digit [] d h = absurd (false≢true h)
 all_more base digit (other ∷ digits) d h = and_from (is_digit digit base) (list_all (λ x. is_digit x base) (other ∷ digits)) d h
 
-grouped_digits : {base : ℕ} {text digits : List ℕ} → Grouped base text digits → are_digits base digits ≡ true
+pub grouped_digits : {base : ℕ} {text digits : List ℕ} → Grouped base text digits → are_digits base digits ≡ true
 grouped_digits (last {base = base} {digit = digit} d) = and_from (is_digit digit base) true d refl
 grouped_digits (next {base = base} {digit = digit} {digits = digits} d g) = all_more base digit digits d (grouped_digits g)
 grouped_digits (mark {base = base} {digit = digit} {digits = digits} d g) = all_more base digit digits d (grouped_digits g)
 
 -- the code's buffer
 
-signed_digits : (negative : Bool) (base : ℕ) (digits : List ℕ) → base ≤ 36 → are_digits base digits ≡ true → (are_signed_digits base (minus negative ++ digits) ≡ true) × (signed negative (digits_value base digits) ≡ signed_value base (minus negative ++ digits))
+pub signed_digits : (negative : Bool) (base : ℕ) (digits : List ℕ) → base ≤ 36 → are_digits base digits ≡ true → (are_signed_digits base (minus negative ++ digits) ≡ true) × (signed negative (digits_value base digits) ≡ signed_value base (minus negative ++ digits))
 signed_digits true base digits b h = (h, refl)
 signed_digits false base [] b h = absurd (false≢true h)
 signed_digits false base (digit ∷ digits) b h =
@@ -73,46 +71,10 @@ signed_digits false base (digit ∷ digits) b h =
       sym (ap (λ t. cond t (neg_ℤ (pos (digits_value base digits))) (pos (digits_value base (digit ∷ digits)))) m),
     )
 
-pub integer_read : (negative : Bool) (text word digits old items : List ℕ) (base len : ℕ) → base ≤ 36 → len ≡ run_len text → word ≡ take len text → (base, digits) ≡ base_of word → old ≡ minus negative → option_map (λ ds. old ++ ds) (digits_from base false digits) ≡ Some items → (are_signed_digits base items ≡ true) × (integer_of negative text ≡ Some (Int (signed_value base items), drop len text))
-integer_read negative text word digits old items base len limit l w b o e =
-    let m = map_some (λ ds. old ++ ds) (digits_from base false digits) items e in
-    let s = signed_digits negative base m.0 limit (grouped_digits (grouped_sound base digits m.0 m.1)) in
-    let same : minus negative ++ m.0 ≡ items = ap (λ x. x ++ m.0) (sym o) ∙ m.2 in
-    let number : numeral_of word ≡ Some (digits_value base m.0) = ap (λ p. option_map (digits_value p.0) (digits_from p.0 false p.1)) (sym b) ∙ ap (option_map (digits_value base)) m.1 in (
-      ap (are_signed_digits base) (sym same) ∙ s.0,
-      ap (λ n. option_map (λ k. (Int (signed negative k), drop n text)) (numeral_of (take n text))) (sym l)
-          ∙ ap (λ x. option_map (λ k. (Int (signed negative k), drop len text)) (numeral_of x)) (sym w)
-          ∙ ap (option_map (λ k. (Int (signed negative k), drop len text))) number
-          ∙ ap (λ z. Some (Int z, drop len text)) (s.1 ∙ ap (signed_value base) same),
-    )
-
-map_none : {X Y : Type 0} (f : X → Y) (o : Option X) → option_map f o ≡ None → o ≡ None
-map_none f None e = refl
-map_none f (Some x) e = absurd (none_some (sym e))
-
-pub integer_refused : (negative : Bool) (text word digits old : List ℕ) (base len : ℕ) → len ≡ run_len text → word ≡ take len text → (base, digits) ≡ base_of word → option_map (λ ds. old ++ ds) (digits_from base false digits) ≡ None → integer_of negative text ≡ None
-integer_refused negative text word digits old base len l w b e =
-    let none = map_none (λ ds. old ++ ds) (digits_from base false digits) e in
-    let number : numeral_of word ≡ None = ap (λ p. option_map (digits_value p.0) (digits_from p.0 false p.1)) (sym b) ∙ ap (option_map (digits_value base)) none in
-    ap (λ n. option_map (λ k. (Int (signed negative k), drop n text)) (numeral_of (take n text))) (sym l)
-    ∙ ap (λ x. option_map (λ k. (Int (signed negative k), drop len text)) (numeral_of x)) (sym w)
-    ∙ ap (option_map (λ k. (Int (signed negative k), drop len text))) number
-
-pub integer_narrow : (negative : Bool) (text items written rest : List ℕ) (base len : ℕ) (n : ℤ) → written ≡ items → rest ≡ drop len text → integer_of negative text ≡ Some (Int (signed_value base items), drop len text) → IsNarrow (Int (signed_value base written)) × (n ≡ signed_value base written) → (integer_of negative text ≡ Some (Int (to_z w128 (of_z w128 n)), rest)) × IsNarrow (Int (to_z w128 (of_z w128 n)))
-integer_narrow negative text items written rest base len n w r e h =
-    let fits = fits_from_narrow n (subst (λ z. IsNarrow (Int z)) (sym h.1) h.0) in
-    let same : signed_value base items ≡ to_z w128 (of_z w128 n) = ap (signed_value base) (sym w) ∙ sym h.1 ∙ sym (to_z-of_z w128 n fits) in (
-      e ∙ ap (λ z. Some (Int z, drop len text)) same ∙ ap (λ l. Some (Int (to_z w128 (of_z w128 n)), l)) (sym r),
-      subst (λ z. IsNarrow (Int z)) (h.1 ∙ ap (signed_value base) w ∙ same) (subst (λ z. IsNarrow (Int z)) (sym h.1) h.0),
-    )
-
-pub integer_wide : (negative : Bool) (text items written : List ℕ) (base len : ℕ) → written ≡ items → integer_of negative text ≡ Some (Int (signed_value base items), drop len text) → (IsNarrow (Int (signed_value base written)) → ⊥) → IsNoneOrWide (integer_of negative text)
-integer_wide negative text items written base len w e refused = subst (λ o. IsNoneOrWide o) (sym e) (λ h. refused (subst (λ x. IsNarrow (Int (signed_value base x))) (sym w) h))
-
 -- numerals
 
 -- the second byte of decimal digits marks no base
-decimal_second : {first second : ℕ} {text digits : List ℕ} (other : ℕ) → is_digit other 10 ≡ false → eqb other 95 ≡ false → Grouped 10 (first ∷ second ∷ text) digits → eqb second other ≡ false
+pub decimal_second : {first second : ℕ} {text digits : List ℕ} (other : ℕ) → is_digit other 10 ≡ false → eqb other 95 ≡ false → Grouped 10 (first ∷ second ∷ text) digits → eqb second other ≡ false
 decimal_second {second = second} other o b (next d g) = ne_eqb second other (λ e. true≢false (sym (first_digit g) ∙ ap (λ c. is_digit c 10) e ∙ o))
   where
     first_digit : {first : ℕ} {text digits : List ℕ} → Grouped 10 (first ∷ text) digits → is_digit first 10 ≡ true
@@ -121,7 +83,7 @@ decimal_second {second = second} other o b (next d g) = ne_eqb second other (λ 
     first_digit (mark d g) = d
 decimal_second other o b (mark d g) = ne_eqb 95 other (λ e. true≢false (ap (λ c. eqb c 95) e ∙ b))
 
-base_decimal : (text digits : List ℕ) → Grouped 10 text digits → base_of text ≡ (10, text)
+pub base_decimal : (text digits : List ℕ) → Grouped 10 text digits → base_of text ≡ (10, text)
 base_decimal [] digits g = refl
 base_decimal (first ∷ []) digits g = refl
 base_decimal (first ∷ second ∷ text) digits g =
@@ -173,7 +135,7 @@ named_by d base false false false false true g l p q r s t u h = absurd (omega (
 named_by d base false false false false false true l p q r s t u h = or_left _ _ (or_left _ _ (or_left _ _ (or_right _ _ (and_from (nat_le 97 d) (nat_le d 122) (le-leb 97 d (ltb-false d 97 t)) (le-leb d 122 (omega (arith, ltb-true d 123 u)))))))
 named_by d base false false false false false false l p q r s t u h = absurd (omega (arith, l, h))
 
-digit_named : (d base : ℕ) → base ≤ 16 → is_digit d base ≡ true → is_name_byte d ≡ true
+pub digit_named : (d base : ℕ) → base ≤ 16 → is_digit d base ≡ true → is_name_byte d ≡ true
 digit_named d base l h = named_by d base _ _ _ _ _ _ l refl refl refl refl refl refl (ltb-true (digit_value d) base h)
 
 abbrev AreNamed : List ℕ → Type 0

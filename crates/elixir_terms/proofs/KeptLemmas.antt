@@ -90,7 +90,7 @@ abbrev pub NextFits : Option State → Type 0
 NextFits None = Unit {0}
 NextFits (Some s) = StateFits s
 
-holes_all : (holes : List Hole) (left : ℕ) → HolesFit holes left → left + levels holes ≡ deepest
+pub holes_all : (holes : List Hole) (left : ℕ) → HolesFit holes left → left + levels holes ≡ deepest
 holes_all [] left h = omega arith
 holes_all (hole ∷ holes) left h = let all = holes_all holes (cost hole + left) h.2 in omega arith
 

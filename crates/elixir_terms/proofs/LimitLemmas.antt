@@ -28,7 +28,7 @@ pub record Fitting (holes : List Hole) (t : Term) : Type 0 where
   pub all : left + levels holes ≡ deepest
   pub fits : Fits left t
 
-fitting_in : (u : Term) (place : Slot) (frame : Frame) (holes : List Hole) (t : Term) (tokens : List Token) → ((t : Term) (tokens : List Token) → Filled u holes t tokens → Fitting holes t) → FilledIn place frame (Filled u holes) t tokens → Fitting (record { frame = frame; slot = place } ∷ holes) t
+pub fitting_in : (u : Term) (place : Slot) (frame : Frame) (holes : List Hole) (t : Term) (tokens : List Token) → ((t : Term) (tokens : List Token) → Filled u holes t tokens → Fitting holes t) → FilledIn place frame (Filled u holes) t tokens → Fitting (record { frame = frame; slot = place } ∷ holes) t
 fitting_in u slot.Element frame holes t tokens outer k =
     let o = outer k.t k.rest k.outside in
     let whole : enclosed frame.bracket (frame.items ++ t ∷ k.items) (frame.entries ++ k.entries) (frame.keywords ++ k.keywords) ≡ Some k.t = rw (append_assoc frame.items (t ∷ []) k.items) at k.encloses in
@@ -64,7 +64,7 @@ fitting_in u (slot.EntryValue key) frame holes t tokens outer k =
     record { left = b.0; all = omega arith; fits = b.3 }
 
 -- where the whole term is within the limits, a term in the innermost hole fits in what is left there
-fitting : (u : Term) → Fits deepest u → (holes : List Hole) (t : Term) (tokens : List Token) → Filled u holes t tokens → Fitting holes t
+pub fitting : (u : Term) → Fits deepest u → (holes : List Hole) (t : Term) (tokens : List Token) → Filled u holes t tokens → Fitting holes t
 fitting u h [] t tokens f = record { left = deepest; all = omega arith; fits = subst (λ x. Fits deepest x) (sym f.1) h }
 fitting u h (hole ∷ holes) t tokens f = fitting_in u hole.slot hole.frame holes t tokens (fitting u h holes) f
 

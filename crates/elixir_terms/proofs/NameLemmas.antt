@@ -140,3 +140,13 @@ colon_rest (byte ∷ next ∷ name) = and_right (is_name_byte byte) (is_name_res
 pub colon_ends : (name rest : List ℕ) → is_name name ≡ true → EndsName name (58 ∷ rest)
 colon_ends [] rest h = refl
 colon_ends (byte ∷ name) rest h = and_right (is_name_start byte) (is_name_rest (name ++ 58 ∷ [])) (colon_rest name)
+
+break_rest : (name : List ℕ) → is_name_rest (name ++ 10 ∷ []) ≡ false
+break_rest [] = refl
+break_rest (byte ∷ []) = and_right (is_name_byte byte) false refl
+break_rest (byte ∷ next ∷ name) = and_right (is_name_byte byte) (is_name_rest (next ∷ name ++ 10 ∷ [])) (break_rest (next ∷ name))
+
+-- no name goes on with a line feed
+pub name_break : (name : List ℕ) → is_name (name ++ 10 ∷ []) ≡ false
+name_break [] = refl
+name_break (byte ∷ name) = and_right (is_name_start byte) (is_name_rest (name ++ 10 ∷ [])) (break_rest name)

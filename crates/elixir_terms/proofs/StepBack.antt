@@ -31,15 +31,15 @@ placed_back : (u t : Term) (holes : List Hole) (tokens : List Token) → Wants u
 placed_back u t [] tokens h = h
 placed_back u t (hole ∷ holes) tokens h = placed_in_back u t hole.slot hole.frame holes tokens h
 
-order_push : (keywords : List Pair) (items : List Term) (entries : List Pair) (p : Pair) → InOrder (keywords ++ p ∷ []) items entries → (items ≡ []) × (entries ≡ [])
+pub order_push : (keywords : List Pair) (items : List Term) (entries : List Pair) (p : Pair) → InOrder (keywords ++ p ∷ []) items entries → (items ≡ []) × (entries ≡ [])
 order_push [] items entries p h = h
 order_push (q ∷ keywords) items entries p h = h
 
-order_under : (keywords : List Pair) (items : List Term) (entries : List Pair) → is_none keywords ≡ true → InOrder keywords items entries
+pub order_under : (keywords : List Pair) (items : List Term) (entries : List Pair) → is_none keywords ≡ true → InOrder keywords items entries
 order_under [] items entries h = tt
 order_under (p ∷ keywords) items entries h = absurd (cc)
 
-same_is : (kind : Bracket) (closing : Closing) → is_closed_by kind closing ≡ true → closing ≡ closing_of kind
+pub same_is : (kind : Bracket) (closing : Closing) → is_closed_by kind closing ≡ true → closing ≡ closing_of kind
 same_is bracket.List Square h = refl
 same_is bracket.Tuple Curly h = refl
 same_is bracket.Map Curly h = refl
@@ -116,12 +116,12 @@ key_back u frame holes key tokens v =
       outside = k.outside;
     }
 
-no_keyword : (kind : Bracket) (key : List ℕ) → part_slot kind ≡ slot.Keyword key → ⊥
+pub no_keyword : (kind : Bracket) (key : List ℕ) → part_slot kind ≡ slot.Keyword key → ⊥
 no_keyword bracket.List key e = cc
 no_keyword bracket.Tuple key e = cc
 no_keyword bracket.Map key e = cc
 
-no_value : (kind : Bracket) (key : Term) → part_slot kind ≡ slot.EntryValue key → ⊥
+pub no_value : (kind : Bracket) (key : Term) → part_slot kind ≡ slot.EntryValue key → ⊥
 no_value bracket.List key e = cc
 no_value bracket.Tuple key e = cc
 no_value bracket.Map key e = cc

@@ -23,7 +23,7 @@ placed_in_forth u t (slot.Keyword key) frame holes tokens h = h
 placed_in_forth u t slot.EntryKey frame holes tokens h = h
 placed_in_forth u t (slot.EntryValue key) frame holes tokens h = h
 
-placed_forth : (u t : Term) (holes : List Hole) (tokens : List Token) → Filled u holes t tokens → Wants u (placed t holes) tokens
+pub placed_forth : (u t : Term) (holes : List Hole) (tokens : List Token) → Filled u holes t tokens → Wants u (placed t holes) tokens
 placed_forth u t [] tokens h = h
 placed_forth u t (hole ∷ holes) tokens h = placed_in_forth u t hole.slot hole.frame holes tokens h
 
@@ -39,7 +39,7 @@ order_entry : (keywords : List Pair) (items : List Term) (entries : List Pair) (
 order_entry [] items entries p h = (refl, tt)
 order_entry (q ∷ keywords) items entries p h = let e = h.1 in absurd (cc)
 
-closed_self : (kind : Bracket) → is_closed_by kind (closing_of kind) ≡ true
+pub closed_self : (kind : Bracket) → is_closed_by kind (closing_of kind) ≡ true
 closed_self bracket.List = refl
 closed_self bracket.Tuple = refl
 closed_self bracket.Map = refl
@@ -67,7 +67,7 @@ begun_forth u tok tokens rest holes (brackets {kind = kind} {inside = inside} {i
     rw e1 (record { part = inside; rest = rest; items = items; entries = entries; keywords = keywords; t = t; reads = reads; split = e2 ∙ append_assoc inside (Close (closing_of kind) ∷ []) rest; order = tt; encloses = encloses; outside = h })
 
 -- a term's first token is neither a key nor a closing bracket
-plain_at : (tok : Token) (tokens : List Token) {word : List Token} (rest : List Token) {t : Term} (frame : Frame) (holes : List Hole) → IsTerm word t → tok ∷ tokens ≡ word ++ rest → at_element frame holes tok ≡ cond (takes_part frame) (begun tok (record { frame = frame; slot = part_slot frame.bracket } ∷ holes)) None
+pub plain_at : (tok : Token) (tokens : List Token) {word : List Token} (rest : List Token) {t : Term} (frame : Frame) (holes : List Hole) → IsTerm word t → tok ∷ tokens ≡ word ++ rest → at_element frame holes tok ≡ cond (takes_part frame) (begun tok (record { frame = frame; slot = part_slot frame.bracket } ∷ holes)) None
 plain_at tok tokens rest frame holes (atom {name = name}) e = let e1 : tok ≡ Atom name = cc in rw e1 refl
 plain_at tok tokens rest frame holes (integer {n = n}) e = let e1 : tok ≡ Int n = cc in rw e1 refl
 plain_at tok tokens rest frame holes (string {bytes = bytes}) e = let e1 : tok ≡ Str bytes = cc in rw e1 refl
@@ -169,7 +169,7 @@ head_of u frame holes tok tokens rest t (keyword {key = name} {word = word} {mor
       outside = record { part = more; rest = rest; items = []; entries = []; keywords = keywords; t = t; reads = follows; split = refl; order = order_nil (frame.keywords ++ (term.Atom name, v) ∷ []); encloses = whole; outside = h };
     })
 
-closes_in : (u : Term) (frame : Frame) (holes : List Hole) (tok : Token) (tokens : List Token) (t : Term) → tok ≡ Close (closing_of frame.bracket) → enclosed frame.bracket frame.items frame.entries frame.keywords ≡ Some t → Filled u holes t tokens → WantsNext u (closed frame (closing_of frame.bracket) holes) tokens
+pub closes_in : (u : Term) (frame : Frame) (holes : List Hole) (tok : Token) (tokens : List Token) (t : Term) → tok ≡ Close (closing_of frame.bracket) → enclosed frame.bracket frame.items frame.entries frame.keywords ≡ Some t → Filled u holes t tokens → WantsNext u (closed frame (closing_of frame.bracket) holes) tokens
 closes_in u frame holes tok tokens t same encloses h = rw (closed_self frame.bracket, encloses) (placed_forth u t holes tokens h)
 
 element_in : (u : Term) (frame : Frame) (holes : List Hole) (tok : Token) (tokens : List Token) → Head u frame holes tok tokens → WantsNext u (at_element frame holes tok) tokens

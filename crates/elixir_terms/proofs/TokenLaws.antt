@@ -1,20 +1,18 @@
 -- What holds of the tokens of a text.
-use Rattle.std.specs.Prelude.{IsFalse, ℤ, IfOk, IfErr, Result, Ok, Err}
+use Rattle.std.specs.Prelude.{ℤ}
 use Rattle.std.proofs.Common.{◌≡◌, ℕ, ◌<◌, ◌≤◌, Bool, true, false, ◌||◌, List, [], ◌∷◌, ◌++◌, Some, None, length, cond, eqb, refl, sym, ap, ◌∙◌, arith, subst, ⊎_elim}
 use Rattle.std.proofs.lemmas.Bool.{or_cases, eqb-true, false≢true}
 use Rattle.std.proofs.lemmas.List.{length-append}
 use Rattle.elixir_terms.specs.declared.bracket.Bracket.TheVariants as bracket
-use Rattle.elixir_terms.specs.declared.error.TermError.{TermError}
 use Rattle.elixir_terms.specs.declared.token.Token.{Token}
 use Rattle.elixir_terms.specs.Names.{is_bare_atom, is_blank}
 use Rattle.elixir_terms.specs.Numbers.{Integer, plain, negative}
-use Rattle.elixir_terms.specs.Refused.{is_memory}
 use Rattle.elixir_terms.specs.Tokens.{Begins, bare_atom, atom, quoted_atom, integer, string, words, key, quoted_key, opens, closes, comma, arrow, AreTokens, line_end}
-use Rattle.elixir_terms.specs.Lexing.{past_blank, first_token, LexesBy, IsNoneOrWide, IsWide}
+use Rattle.elixir_terms.specs.Lexing.{past_blank, first_token}
 use Rattle.elixir_terms.proofs.BlankLemmas.{blanks_meet}
 use Rattle.elixir_terms.proofs.IntegerLemmas.{numeral_first}
 use Rattle.elixir_terms.proofs.OptionLemmas.{none_some, some_same}
-use Rattle.elixir_terms.proofs.TokenLemmas.{begins_first, first_begins}
+use Rattle.elixir_terms.proofs.TokenLemmas.{begins_first}
 
 -- a text begins with one token at most
 pub begins_one : {text : List ℕ} {a b : Token} {r s : List ℕ} → Begins text a r → Begins text b s → (a ≡ b) × (r ≡ s)
@@ -84,17 +82,3 @@ tokens_one (t ∷ ts) (u ∷ us) text a b =
     let one = begins_one (subst (λ l. Begins l t a.1) start a.3) b.3 in
     let rest = tokens_one ts us b.1 (subst (λ l. AreTokens ts l) one.1 a.4) b.4 in
     ap (λ x. x ∷ ts) one.0 ∙ ap (λ l. u ∷ l) rest
-
--- what a reading of the first token says
-
-pub lexed_begins : {X : Type 0} (view : X → Token × List ℕ) (result : Result X TermError) (text : List ℕ) → LexesBy view result (first_token text) → IfOk result (λ x. Begins text (view x).0 (view x).1)
-lexed_begins view (Ok x) text h = first_begins text (view x) h.0
-lexed_begins view (Err error) text h = tt
-
-pub lexed_shorter : {X : Type 0} (view : X → Token × List ℕ) (result : Result X TermError) (text : List ℕ) → LexesBy view result (first_token text) → IfOk result (λ x. length (view x).1 < length text)
-lexed_shorter view (Ok x) text h = begins_shorter (first_begins text (view x) h.0)
-lexed_shorter view (Err error) text h = tt
-
-pub lexed_none : {X : Type 0} (view : X → Token × List ℕ) (result : Result X TermError) (text : List ℕ) → LexesBy view result (first_token text) → IfErr result (λ error. IsFalse (is_memory error.cause) → (tok : Token) (rest : List ℕ) → Begins text tok rest → IsWide tok)
-lexed_none view (Ok x) text h = tt
-lexed_none view (Err error) text h = λ m tok rest b. subst (λ o. IsNoneOrWide o) (begins_first b) (h m).1

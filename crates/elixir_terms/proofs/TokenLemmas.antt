@@ -24,20 +24,20 @@ use Rattle.elixir_terms.proofs.WordLemmas.{words_complete, words_sound}
 
 -- the colon of a key
 
-colon_none : (rest : List ℕ) → is_colon rest ≡ false → after_colon rest ≡ None
+pub colon_none : (rest : List ℕ) → is_colon rest ≡ false → after_colon rest ≡ None
 colon_none [] h = refl
 colon_none (colon ∷ []) h = refl
 colon_none (colon ∷ blank ∷ rest) h = ap (λ t. cond t (Some rest) None) h
 
-colon_key : (blank : ℕ) (rest : List ℕ) → is_blank blank ≡ true → after_colon (58 ∷ blank ∷ rest) ≡ Some rest
+pub colon_key : (blank : ℕ) (rest : List ℕ) → is_blank blank ≡ true → after_colon (58 ∷ blank ∷ rest) ≡ Some rest
 colon_key blank rest h = ap (λ t. cond t (Some rest) None) h
 
-none_colon : (rest : List ℕ) → after_colon rest ≡ None → is_colon rest ≡ false
+pub none_colon : (rest : List ℕ) → after_colon rest ≡ None → is_colon rest ≡ false
 none_colon [] h = refl
 none_colon (colon ∷ []) h = refl
 none_colon (colon ∷ blank ∷ rest) h = false_from_ne_true (eqb colon 58 && is_blank blank) (λ t. none_some (sym h ∙ ap (λ x. cond x (Some rest) None) t))
 
-colon_found : (rest after : List ℕ) → after_colon rest ≡ Some after → (blank : ℕ) × (is_blank blank ≡ true) × (rest ≡ 58 ∷ blank ∷ after)
+pub colon_found : (rest after : List ℕ) → after_colon rest ≡ Some after → (blank : ℕ) × (is_blank blank ≡ true) × (rest ≡ 58 ∷ blank ∷ after)
 colon_found [] after h = absurd (none_some h)
 colon_found (colon ∷ []) after h = absurd (none_some h)
 colon_found (colon ∷ blank ∷ rest) after h =
@@ -50,10 +50,10 @@ colon_found (colon ∷ blank ∷ rest) after h =
 not_zero : (len : ℕ) → eqb (suc len) 0 ≡ false
 not_zero len = ne_eqb (suc len) 0 (λ e. omega arith)
 
-name_atom_more : (len : ℕ) (text : List ℕ) → name_atom_of (suc len) text ≡ Some (Atom (take (suc len) text), drop (suc len) text)
+pub name_atom_more : (len : ℕ) (text : List ℕ) → name_atom_of (suc len) text ≡ Some (Atom (take (suc len) text), drop (suc len) text)
 name_atom_more len text = ap (λ z. cond z None (Some (Atom (take (suc len) text), drop (suc len) text))) (not_zero len)
 
-name_more : (len : ℕ) (text : List ℕ) → name_of (suc len) text ≡ key_or_atom (take (suc len) text) (drop (suc len) text) (after_colon (drop (suc len) text))
+pub name_more : (len : ℕ) (text : List ℕ) → name_of (suc len) text ≡ key_or_atom (take (suc len) text) (drop (suc len) text) (after_colon (drop (suc len) text))
 name_more len text = ap (λ z. cond z None (key_or_atom (take (suc len) text) (drop (suc len) text) (after_colon (drop (suc len) text)))) (not_zero len)
 
 name_atom_complete : (name rest : List ℕ) → is_name name ≡ true → EndsName name rest → name_atom_at (name ++ rest) ≡ Some (Atom name, rest)
@@ -64,7 +64,7 @@ name_atom_complete (byte ∷ name) rest h ends =
     ∙ ap (λ l. Some (Atom (byte ∷ l), drop (length name) (name ++ rest))) (take_at name rest (length name) refl)
     ∙ ap (λ l. Some (Atom (byte ∷ name), l)) (drop_at name rest (length name) refl)
 
-name_at_complete : (name rest : List ℕ) → is_name name ≡ true → EndsName name rest → name_at (name ++ rest) ≡ key_or_atom name rest (after_colon rest)
+pub name_at_complete : (name rest : List ℕ) → is_name name ≡ true → EndsName name rest → name_at (name ++ rest) ≡ key_or_atom name rest (after_colon rest)
 name_at_complete [] rest h ends = absurd (false≢true h)
 name_at_complete (byte ∷ name) rest h ends =
     ap (λ n. name_of n (byte ∷ name ++ rest)) (name_complete (byte ∷ name) rest h ends)
@@ -74,19 +74,19 @@ name_at_complete (byte ∷ name) rest h ends =
 
 -- a name begins with none of the other tokens' bytes
 
-start_high : (byte : ℕ) → is_name_start byte ≡ true → 65 ≤ byte
+pub start_high : (byte : ℕ) → is_name_start byte ≡ true → 65 ≤ byte
 start_high byte h =
     ⊎_elim (λ l. ⊎_elim (λ u. leb-true 65 byte (and_parts _ _ u).0) (λ d. omega (arith, leb-true 97 byte (and_parts _ _ d).0)) (or_cases (is_from 65 90 byte) (is_from 97 122 byte) l))
     (λ e. omega (arith, eqb-true byte 95 e))
     (or_cases (is_letter byte) (eqb byte 95) h)
 
-start_not : (byte other : ℕ) → is_name_start byte ≡ true → is_name_start other ≡ false → eqb byte other ≡ false
+pub start_not : (byte other : ℕ) → is_name_start byte ≡ true → is_name_start other ≡ false → eqb byte other ≡ false
 start_not byte other s o = ne_eqb byte other (λ e. true≢false (sym (subst (λ b. is_name_start b ≡ true) e s) ∙ o))
 
-start_no_digit : (byte : ℕ) → is_name_start byte ≡ true → is_digit byte 10 ≡ false
+pub start_no_digit : (byte : ℕ) → is_name_start byte ≡ true → is_digit byte 10 ≡ false
 start_no_digit byte s = false_from_ne_true (is_digit byte 10) (λ d. let r = digit_from_value byte (ltb-true (digit_value byte) 10 d) in omega (arith, start_high byte s, r.1))
 
-start_is_name : (byte : ℕ) (text : List ℕ) → is_name_start byte ≡ true → first_token (byte ∷ text) ≡ name_at (byte ∷ text)
+pub start_is_name : (byte : ℕ) (text : List ℕ) → is_name_start byte ≡ true → first_token (byte ∷ text) ≡ name_at (byte ∷ text)
 start_is_name byte text s =
     let a = start_not byte 58 s refl in
     let b = start_not byte 34 s refl in
@@ -101,14 +101,14 @@ start_is_name byte text s =
     let k = start_not byte 61 s refl in
     rw (a, b, c, d, e, f, g, h, i, j, k) refl
 
-name_first : (name rest : List ℕ) → is_name name ≡ true → EndsName name rest → first_token (name ++ rest) ≡ key_or_atom name rest (after_colon rest)
+pub name_first : (name rest : List ℕ) → is_name name ≡ true → EndsName name rest → first_token (name ++ rest) ≡ key_or_atom name rest (after_colon rest)
 name_first [] rest h ends = absurd (false≢true h)
 name_first (byte ∷ name) rest h ends = start_is_name byte (name ++ rest) (and_parts (is_name_start byte) (is_name_rest name) h).0 ∙ name_at_complete (byte ∷ name) rest h ends
 
-bytes_same : (a b : List ℕ) → bytes_eq a b ≡ true → a ≡ b
+pub bytes_same : (a b : List ℕ) → bytes_eq a b ≡ true → a ≡ b
 bytes_same a b h = (bytes_eq-Decides a b).0 h
 
-bare_named : (name : List ℕ) → is_bare_atom name ≡ true → is_name name ≡ true
+pub bare_named : (name : List ℕ) → is_bare_atom name ≡ true → is_name name ≡ true
 bare_named name h =
     ⊎_elim (λ l. ⊎_elim (λ t. ap is_name (bytes_same name (codes "true") t)) (λ f. ap is_name (bytes_same name (codes "false") f)) (or_cases (bytes_eq name (codes "true")) (bytes_eq name (codes "false")) l))
     (λ n. ap is_name (bytes_same name (codes "nil") n))
@@ -122,7 +122,7 @@ atom_complete (byte ∷ name) rest h ends =
 
 -- integers
 
-digit_first : (byte : ℕ) (text : List ℕ) → is_digit byte 10 ≡ true → first_token (byte ∷ text) ≡ integer_of false (byte ∷ text)
+pub digit_first : (byte : ℕ) (text : List ℕ) → is_digit byte 10 ≡ true → first_token (byte ∷ text) ≡ integer_of false (byte ∷ text)
 digit_first byte text d =
     let r = digit_from_value byte (ltb-true (digit_value byte) 10 d) in
     let a = ne_eqb byte 58 (λ e. omega (arith, e, r.1)) in

@@ -88,7 +88,7 @@ opens_take byte zero text h = refl
 opens_take byte (suc n) [] h = refl
 opens_take byte (suc n) (next ∷ text) h = h
 
-inside_sound : (text : List ℕ) → is_inside (take (inside_len text) text) ≡ true
+pub inside_sound : (text : List ℕ) → is_inside (take (inside_len text) text) ≡ true
 inside_sound [] = refl
 inside_sound (byte ∷ text) = by ((eqb byte 41 || eqb byte 92) || opens_interpolation byte text) refl (inside_sound text)
   where

@@ -1,11 +1,10 @@
 -- The first token of a text, as a function. What a token is is said without it (Tokens.antt).
-use Rattle.std.specs.Prelude.{◌≡◌, ℕ, zero, suc, ◌+◌, ◌^◌, Bool, true, false, ◌&&◌, ◌||◌, ◌==◌, nat_lt, List, [], ◌∷◌, ◌++◌, map, take, drop, Option, Some, None, option_map, if◌then◌else◌, IsFalse, encode_utf8, ℤ, pos, neg_ℤ, ◌≤ℤ◌, ◌<ℤ◌, Result, Ok, Err}
+use Rattle.std.specs.Prelude.{ℕ, zero, suc, ◌+◌, ◌^◌, Bool, true, false, ◌&&◌, ◌||◌, ◌==◌, nat_lt, List, [], ◌∷◌, ◌++◌, map, take, drop, Option, Some, None, option_map, if◌then◌else◌, encode_utf8, ℤ, pos, neg_ℤ, ◌≤ℤ◌, ◌<ℤ◌}
 use Rattle.std.specs.Char.{is_digit}
 use Rattle.std.specs.List.{list_all}
 use Rattle.std.specs.Str.{is_utf8, all_scalars}
 use Rattle.std.specs.Str.Parse.{digits_value}
 use Rattle.elixir_terms.specs.declared.bracket.Bracket.TheVariants as bracket
-use Rattle.elixir_terms.specs.declared.error.TermError.{TermError}
 use Rattle.elixir_terms.specs.declared.term.Term.{Term}
 use Rattle.elixir_terms.specs.declared.term.Term.TheVariants as term
 use Rattle.elixir_terms.specs.declared.token.Closing.TheVariants.{Square, Curly}
@@ -16,7 +15,6 @@ use Rattle.elixir_terms.specs.declared.strings.Spelled.TheVariants.{Byte, Scalar
 use Rattle.elixir_terms.specs.declared.words.WordKind.{WordKind}
 use Rattle.elixir_terms.specs.declared.words.WordKind.TheVariants.{Strings, Atoms}
 use Rattle.elixir_terms.specs.Names.{is_name_start, is_name_byte, is_name_mark, is_bare_atom, is_blank}
-use Rattle.elixir_terms.specs.Refused.{is_memory, not_read}
 use Rattle.elixir_terms.specs.Strings.{letter_escape, are_hex, opens_interpolation}
 use Rattle.elixir_terms.specs.Tokens.{line_end}
 
@@ -122,10 +120,6 @@ quoted_past (byte ∷ text) zero = if byte == 34 then Some ([], text) else (if b
 -- after the opening quote
 abbrev pub quoted_at : List ℕ → Found (List ℕ)
 quoted_at text = quoted_past text 0
-
-abbrev pub after_quote : List ℕ → Option (List ℕ)
-after_quote [] = None
-after_quote (byte ∷ text) = if byte == 34 then Some text else None
 
 abbrev pub after_escape : Option (List ℕ × ℕ) → List ℕ → Found (List ℕ)
 after_escape word text = option_map (λ f. (f.0, drop f.1 text)) word
@@ -305,12 +299,3 @@ IsNarrow token = Unit {0}
 abbrev pub IsWide : Token → Type 0
 IsWide (Int n) = IsNarrow (Int n) → ⊥
 IsWide token = ⊥
-
-abbrev pub IsNoneOrWide : Found Token → Type 0
-IsNoneOrWide None = Unit {0}
-IsNoneOrWide (Some found) = IsWide found.0
-
--- what is there is read, unless it is an integer outside 128 bits or memory ran out
-abbrev pub LexesBy : {X : Type 0} → (X → Token × List ℕ) → Result X TermError → Found Token → Type 0
-LexesBy view (Ok x) expected = (expected ≡ Some (view x)) × IsNarrow (view x).0
-LexesBy view (Err error) expected = IsFalse (is_memory error.cause) → (error ≡ not_read) × IsNoneOrWide expected

@@ -14,3 +14,9 @@ pub mod Printable
 pub mod Levels
 pub mod Limits
 pub mod Machine
+pub mod Prefixes
+pub mod Local
+pub mod Refusals
+pub mod Lexed
+pub mod Codes
+pub mod Reading

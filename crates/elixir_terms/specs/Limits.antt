@@ -1,9 +1,11 @@
 -- Answers of what also keeps limits.
-use Rattle.std.specs.Prelude.{◌≡◌, Option, Some, None, Result, Ok, Err, IsFalse}
-use Rattle.elixir_terms.specs.declared.error.TermError.{TermError}
-use Rattle.elixir_terms.specs.Refused.{is_memory, not_read}
+use Rattle.std.specs.Prelude.{◌≡◌, ℕ, Option, Some, None, Result, Ok, Err, IsFalse}
+use Rattle.elixir_terms.specs.declared.error.Fault.{Fault}
+use Rattle.elixir_terms.specs.declared.error.TermCause.TheVariants.{TooDeep}
+use Rattle.elixir_terms.specs.Refused.{is_memory}
 
--- the value where the limits are kept, or a refusal where they aren't or there is none, unless memory ran out
-abbrev pub GivesWhere : {X : Type 0} → Type 0 → Result X TermError → Option X → Type 0
-GivesWhere Kept (Ok x) expected = Kept × (expected ≡ Some x)
-GivesWhere Kept (Err error) expected = IsFalse (is_memory error.cause) → (error ≡ not_read) × (Kept → expected ≡ None)
+-- the value where the limit on levels is kept, or a fault at the place where it isn't or there is none, unless
+-- memory ran out
+abbrev pub GivesWhere : {X : Type 0} → Type 0 → ℕ → Result X Fault → Option X → Type 0
+GivesWhere Kept left (Ok x) expected = Kept × (expected ≡ Some x)
+GivesWhere Kept left (Err fault) expected = IsFalse (is_memory fault.cause) → (fault.left ≡ left) × (Kept → expected ≡ None) × ((expected ≡ None → ⊥) → fault.cause ≡ TooDeep)

@@ -1,7 +1,8 @@
 -- The states of the reader between tokens. What a text spells is said without them (Grammar.antt).
-use Rattle.std.specs.Prelude.{◌≡◌, ℕ, Bool, true, false, not, List, [], ◌∷◌, ◌++◌, map, Option, Some, None, option_map, if◌then◌else◌}
+use Rattle.std.specs.Prelude.{◌≡◌, ℕ, Bool, true, false, not, List, [], ◌∷◌, ◌++◌, length, map, Option, Some, None, option_map, if◌then◌else◌}
 use Rattle.elixir_terms.specs.declared.bracket.Bracket.{Bracket}
 use Rattle.elixir_terms.specs.declared.bracket.Bracket.TheVariants as bracket
+use Rattle.elixir_terms.specs.declared.expected.Expected.{Expected}
 use Rattle.elixir_terms.specs.declared.frame.Frame.{Frame}
 use Rattle.elixir_terms.specs.declared.frame.Hole.{Hole}
 use Rattle.elixir_terms.specs.declared.frame.Slot.{Slot}
@@ -14,9 +15,10 @@ use Rattle.elixir_terms.specs.declared.token.Closing.{Closing}
 use Rattle.elixir_terms.specs.declared.token.Closing.TheVariants.{Square, Curly}
 use Rattle.elixir_terms.specs.declared.token.Token.{Token}
 use Rattle.elixir_terms.specs.declared.token.Token.TheVariants.{Atom, Int, Str, Words, Key, Open, Close, Comma, Arrow}
-use Rattle.elixir_terms.specs.Grammar.{Pair, enclosed}
+use Rattle.elixir_terms.specs.Codes.{keys_in}
+use Rattle.elixir_terms.specs.Grammar.{Pair, enclosed, closing_of}
 use Rattle.elixir_terms.specs.Levels.{HasRoom, Enters}
-use Rattle.elixir_terms.specs.Within.{Differ}
+use Rattle.elixir_terms.specs.Within.{IsNone, Differ}
 
 -- the bracket is closed so
 abbrev pub is_closed_by : Bracket → Closing → Bool
@@ -53,6 +55,16 @@ part_slot bracket.Map = slot.EntryKey
 -- a bracket in which nothing was read yet
 abbrev pub empty : Bracket → Frame
 empty kind = record { bracket = kind; items = []; entries = []; keywords = [] }
+
+-- with one more element, entry or keyword
+abbrev pub with_item : Frame → Term → Frame
+with_item frame t = record frame { items = frame.items ++ t ∷ [] }
+
+abbrev pub with_entry : Frame → Term → Term → Frame
+with_entry frame key t = record frame { entries = frame.entries ++ (key, t) ∷ [] }
+
+abbrev pub with_keyword : Frame → List ℕ → Term → Frame
+with_keyword frame key t = record frame { keywords = frame.keywords ++ (term.Atom key, t) ∷ [] }
 
 -- a whole term goes into a slot of a bracket
 abbrev pub placed_in : Slot → Frame → Term → List Hole → State
@@ -112,6 +124,14 @@ step (state.Separator frame holes) token = at_separator frame holes token
 step (state.Arrow key frame holes) token = at_arrow key frame holes token
 step (state.Done t) token = None
 
+-- what may stand next in a state
+abbrev pub expected : State → Expected
+expected (state.Value holes) = record { term = true; key = false; closing = None; comma = false; arrow = false; outermost = is_none holes }
+expected (state.Element frame holes) = record { term = takes_part frame; key = takes_key frame; closing = Some (closing_of frame.bracket); comma = false; arrow = false; outermost = false }
+expected (state.Separator frame holes) = record { term = false; key = false; closing = Some (closing_of frame.bracket); comma = true; arrow = false; outermost = false }
+expected (state.Arrow key frame holes) = record { term = false; key = false; closing = None; comma = false; arrow = true; outermost = false }
+expected (state.Done t) = record { term = false; key = false; closing = None; comma = false; arrow = false; outermost = false }
+
 -- where the bracket is a map's, its keys differ
 abbrev pub KeysDiffer : Bracket → List Pair → List Pair → Type 0
 KeysDiffer bracket.List entries keywords = Unit {0}
@@ -145,3 +165,50 @@ Allows (state.Element frame holes) token = ElementWell frame holes token
 Allows (state.Separator frame holes) token = SeparatorWell frame token
 Allows (state.Arrow key frame holes) token = Enters (record { frame = frame; slot = slot.EntryValue key }) holes
 Allows (state.Done t) token = Unit {0}
+
+-- a token after an opening bracket or a comma is within the limit on levels
+abbrev pub ElementFits : Frame → List Hole → Token → Type 0
+ElementFits frame holes (Close closing) = Unit {0}
+ElementFits frame holes (Key key) = Enters (record { frame = frame; slot = slot.Keyword key }) holes
+ElementFits frame holes token = PartWell frame holes token
+
+-- the token is within the limit on levels
+abbrev pub HasLevels : State → Token → Type 0
+HasLevels (state.Value holes) token = BeginsWell token holes
+HasLevels (state.Element frame holes) token = ElementFits frame holes token
+HasLevels (state.Separator frame holes) token = Unit {0}
+HasLevels (state.Arrow key frame holes) token = Enters (record { frame = frame; slot = slot.EntryValue key }) holes
+HasLevels (state.Done t) token = Unit {0}
+
+-- in a map the key is none of these
+abbrev pub NewIn : Bracket → Term → List Term → Type 0
+NewIn bracket.List key keys = Unit {0}
+NewIn bracket.Tuple key keys = Unit {0}
+NewIn bracket.Map key keys = IsNone key keys
+
+abbrev pub NewInSlot : Slot → Frame → Type 0
+NewInSlot (slot.Keyword key) frame = NewIn frame.bracket (term.Atom key) (keys_in frame)
+NewInSlot place frame = Unit {0}
+
+-- a keyword's key equals no earlier key of its map
+abbrev pub NewKeyword : State → Token → Type 0
+NewKeyword (state.Element frame holes) (Key key) = NewIn frame.bracket (term.Atom key) (keys_in frame)
+NewKeyword s token = Unit {0}
+
+-- the key of an entry that was read last equals no earlier key of its map
+abbrev pub NewEntry : State → Type 0
+NewEntry (state.Arrow key frame holes) = NewIn frame.bracket key (keys_in frame)
+NewEntry s = Unit {0}
+
+-- how many brackets are open outside of the innermost one
+abbrev pub depth : State → ℕ
+depth (state.Element frame holes) = length holes
+depth (state.Arrow key frame holes) = length holes
+depth s = 0
+
+-- the key that was read last equals no earlier one of its map
+abbrev pub IsNew : State → Type 0
+IsNew (state.Value []) = Unit {0}
+IsNew (state.Value (hole ∷ holes)) = NewInSlot hole.slot hole.frame
+IsNew (state.Arrow key frame holes) = NewIn frame.bracket key (keys_in frame)
+IsNew s = Unit {0}

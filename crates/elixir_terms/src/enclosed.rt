@@ -2,12 +2,7 @@
 ghost use Rattle.std.specs.Prelude.{◌≡◌, [], ◌++◌, map, IfOk};
 ghost use Rattle.elixir_terms.specs.declared.bracket.Bracket.TheVariants as bracket;
 ghost use Rattle.elixir_terms.specs.Grammar.{enclosed, pair_tuple};
-ghost use Rattle.elixir_terms.specs.Machine.{KeysDiffer};
-ghost use Rattle.elixir_terms.specs.Limits.{GivesWhere};
-ghost use Rattle.elixir_terms.specs.Refused.{Gives};
 
-use crate::error::{NOT_READ, TermError};
-use crate::keys::repeats_key;
 use crate::term::{Pairs, Term, Terms};
 use sqlite_items::Items;
 use std::alloc::{AllocError, Global};
@@ -18,14 +13,14 @@ pub fn list(
     mut items: Terms,
     entries: &Pairs,
     keywords: Pairs,
-) -> Result<Term, TermError>
-    ensures { Gives result (enclosed bracket.List items entries.now keywords) }
+) -> Result<Option<Term>, AllocError>
+    ensures { IfOk result (λ term. term ≡ enclosed bracket.List items entries.now keywords) }
 {
     if !entries.as_slice().is_empty() {
-        return Err(NOT_READ);
+        return Ok(None);
     }
     items.append(tuples(alloc, keywords)?)?;
-    Ok(Term::List(items))
+    Ok(Some(Term::List(items)))
 }
 
 /// A tuple of elements. Keywords are its last element. It takes no entries, and no keywords alone.
@@ -34,39 +29,35 @@ pub fn tuple(
     mut items: Terms,
     entries: &Pairs,
     keywords: Pairs,
-) -> Result<Term, TermError>
-    ensures { Gives result (enclosed bracket.Tuple items entries.now keywords) }
+) -> Result<Option<Term>, AllocError>
+    ensures { IfOk result (λ term. term ≡ enclosed bracket.Tuple items entries.now keywords) }
 {
     if !entries.as_slice().is_empty() {
-        return Err(NOT_READ);
+        return Ok(None);
     }
     if keywords.as_slice().is_empty() {
-        return Ok(Term::Tuple(items));
+        return Ok(Some(Term::Tuple(items)));
     }
     if items.as_slice().is_empty() {
-        return Err(NOT_READ);
+        return Ok(None);
     }
     items.push(Term::List(tuples(alloc, keywords)?))?;
-    Ok(Term::Tuple(items))
+    Ok(Some(Term::Tuple(items)))
 }
 
-/// A map of entries and then keywords, whose keys differ. It takes no elements.
+/// A map of entries and then keywords. It takes no elements.
 pub fn mapping(
-    alloc: Global,
     items: &Terms,
     mut entries: Pairs,
     keywords: Pairs,
-) -> Result<Term, TermError>
-    ensures { GivesWhere (KeysDiffer bracket.Map entries keywords) result (enclosed bracket.Map items.now entries keywords) }
+) -> Result<Option<Term>, AllocError>
+    ensures { IfOk result (λ term. term ≡ enclosed bracket.Map items.now entries keywords) }
 {
     if !items.as_slice().is_empty() {
-        return Err(NOT_READ);
+        return Ok(None);
     }
     entries.append(keywords)?;
-    if repeats_key(alloc, &entries)? {
-        return Err(NOT_READ);
-    }
-    Ok(Term::Map(entries))
+    Ok(Some(Term::Map(entries)))
 }
 
 /// The pairs as elements of a list: tuples of two.

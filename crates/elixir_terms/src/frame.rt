@@ -1,18 +1,17 @@
 // Open brackets, with what was read in them.
-ghost use Rattle.std.specs.Prelude.{◌≡◌, ◌≤◌, []};
-ghost use Rattle.elixir_terms.specs.Grammar.{enclosed};
+ghost use Rattle.std.specs.Prelude.{◌≡◌, ◌≤◌, [], IfOk};
+ghost use Rattle.elixir_terms.specs.Grammar.{closing_of, enclosed};
 ghost use Rattle.elixir_terms.specs.Levels.{cost, keyword_cost};
-ghost use Rattle.elixir_terms.specs.Machine.{empty, is_closed_by, part_slot, takes_key, takes_part, KeysDiffer};
-ghost use Rattle.elixir_terms.specs.Limits.{GivesWhere};
+ghost use Rattle.elixir_terms.specs.Machine.{empty, is_closed_by, part_slot, takes_key, takes_part};
 
 use crate::bracket::Bracket;
 use crate::enclosed::{list, mapping, tuple};
-use crate::error::TermError;
+use crate::opened::Opened;
 use crate::term::{Pairs, Term, Terms};
 use crate::token::Closing;
 use mx_base::Text;
 use sqlite_items::Items;
-use std::alloc::Global;
+use std::alloc::{AllocError, Global};
 
 /// An open bracket, and what was read in it: elements or entries, and then keywords.
 #[derive(Debug, Drop)]
@@ -39,7 +38,7 @@ pub enum Slot {
 /// A place in an open bracket where a term is wanted.
 #[derive(Debug, Drop)]
 pub struct Hole {
-    pub frame: Frame,
+    pub frame: Opened,
     pub slot: Slot,
 }
 
@@ -53,6 +52,16 @@ impl Bracket {
             (Bracket::Tuple, Closing::Curly) => true,
             (Bracket::Map, Closing::Curly) => true,
             _ => false,
+        }
+    }
+
+    /// How it is closed.
+    pub fn closing(self) -> Closing
+        ensures { result ≡ closing_of self }
+    {
+        match self {
+            Bracket::List => Closing::Square,
+            Bracket::Tuple | Bracket::Map => Closing::Curly,
         }
     }
 
@@ -108,9 +117,9 @@ impl Frame {
         self.keywords.as_slice().is_empty()
     }
 
-    /// The term that the bracket encloses, closed here.
-    pub fn enclosed(self, alloc: Global) -> Result<Term, TermError>
-        ensures { GivesWhere (KeysDiffer self.bracket self.entries self.keywords) result (enclosed self.bracket self.items self.entries self.keywords) }
+    /// The term that the bracket encloses, closed here, where there is one.
+    pub fn enclosed(self, alloc: Global) -> Result<Option<Term>, AllocError>
+        ensures { IfOk result (λ term. term ≡ enclosed self.bracket self.items self.entries self.keywords) }
     {
         let Frame {
             bracket,
@@ -121,7 +130,7 @@ impl Frame {
         match bracket {
             Bracket::List => list(alloc, items, &entries, keywords),
             Bracket::Tuple => tuple(alloc, items, &entries, keywords),
-            Bracket::Map => mapping(alloc, &items, entries, keywords),
+            Bracket::Map => mapping(&items, entries, keywords),
         }
     }
 }
@@ -133,7 +142,7 @@ impl Hole {
         ensures few { result ≤ 3 }
     {
         match self.slot {
-            Slot::Keyword(_) => self.frame.bracket.keyword_cost(),
+            Slot::Keyword(_) => self.frame.bracket().keyword_cost(),
             Slot::Element | Slot::EntryKey | Slot::EntryValue(_) => 1,
         }
     }

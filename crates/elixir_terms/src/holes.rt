@@ -1,9 +1,10 @@
 // Where terms are wanted, from the innermost open bracket out.
-ghost use Rattle.std.specs.Prelude.{◌≡◌, [], ◌∷◌, Some, IsTrue, ◌↔◌, MatchOption};
+ghost use Rattle.std.specs.Prelude.{◌≡◌, ◌≤◌, [], ◌∷◌, length, Some, IsTrue, ◌↔◌, MatchOption};
 ghost use Rattle.elixir_terms.specs.Levels.{Enters, HasRoom};
+ghost use Rattle.elixir_terms.specs.Machine.{is_none};
 ghost use Rattle.elixir_terms.specs.Limits.{GivesWhere};
 
-use crate::error::{NOT_READ, TermError};
+use crate::error::{Fault, TermCause};
 use crate::frame::Hole;
 use crate::stack::Stack;
 use std::alloc::Global;
@@ -54,14 +55,32 @@ impl Holes {
         self.depth < DEEPEST
     }
 
-    /// One more hole, inside of the others, where its levels allow it.
-    pub fn entered(self, hole: Hole) -> Result<Holes, TermError>
-        ensures { GivesWhere (Enters hole self) result (Some (hole ∷ self)) }
+    /// Whether there is none.
+    pub fn is_empty(&self) -> bool
+        ensures { result ≡ is_none self.now }
+    {
+        self.len() == 0
+    }
+
+    /// How many there are.
+    pub fn len(&self) -> usize
+        ensures value { result ≡ length self.now }
+        ensures few { result ≤ 64 }
+    {
+        self.open.len()
+    }
+
+    /// One more hole, inside of the others, where its levels allow it. The fault stands so far from the end.
+    pub fn entered(self, hole: Hole, left: usize) -> Result<Holes, Fault>
+        ensures { GivesWhere (Enters hole self) left result (Some (hole ∷ self)) }
     {
         let Holes { mut open, depth } = self;
         let depth = hole.cost() + depth;
         if depth > DEEPEST {
-            return Err(NOT_READ);
+            return Err(Fault {
+                left,
+                cause: TermCause::TooDeep,
+            });
         }
         open.push(hole)?;
         Ok(Holes { open, depth })

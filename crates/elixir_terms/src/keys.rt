@@ -1,13 +1,11 @@
-// Whether a map repeats a key.
-ghost use Rattle.std.specs.Prelude.{◌≡◌, [], ◌∷◌, ◌++◌, ◌↔◌, map, IfOk, OnOk, IsFalse};
+// The codes of keys, which tell whether a map repeats one.
+ghost use Rattle.std.specs.Prelude.{◌≡◌, [], ◌∷◌, ◌++◌, map, IfOk, OnOk};
 ghost use Rattle.std.specs.Int.Digits.{digits_of};
 ghost use Rattle.elixir_terms.specs.KeyCode.{term_code, integer_code, bytes_code, parts_code, pairs_code, pair_codes, marked};
-ghost use Rattle.elixir_terms.specs.Within.{Differ};
 
-use crate::term::{Pairs, Term};
+use crate::term::Term;
 use mx_base::Bytes;
 use std::alloc::{AllocError, Global};
-use std::collections::BTreeSet;
 
 // What a code begins with.
 const ATOM: u8 = 0;
@@ -27,23 +25,17 @@ const MORE: u8 = 1;
 
 const END: u8 = 0;
 
-/// Whether two of the keys are equal.
+/// The code of a key.
 ///
 /// # Errors
 ///
 /// `AllocError` where there is not enough memory.
-pub fn repeats_key(alloc: Global, pairs: &Pairs) -> Result<bool, AllocError>
-    ensures { IfOk result (λ repeats. IsFalse repeats ↔ Differ (map (λ p. p.0) pairs.now)) }
+pub fn code_of(alloc: Global, key: &Term) -> Result<Bytes, AllocError>
+    ensures { IfOk result (λ code. code ≡ term_code key.now) }
 {
-    let mut codes = BTreeSet::new(alloc);
-    for (key, _) in pairs.as_slice() {
-        let mut code = Vec::new(alloc);
-        push_term(&mut code, key)?;
-        if !codes.insert(Bytes::from_vec(code))? {
-            return Ok(true);
-        }
-    }
-    Ok(false)
+    let mut code = Vec::new(alloc);
+    push_term(&mut code, key)?;
+    Ok(Bytes::from_vec(code))
 }
 
 // Adds the code of a term: what kind it is, and what is in it.

@@ -1,73 +1,73 @@
 // The first token of a text.
-ghost use Rattle.std.specs.Prelude.{◌≡◌, ◌<◌, ℕ, List, IsFalse, IfOk, IfErr, length, option_map};
-ghost use Rattle.elixir_terms.specs.declared.token.Token.{Token};
-ghost use Rattle.elixir_terms.specs.Lexing.{LexesBy, IsNarrow, IsWide, atom_at, sign_at, first_token};
-ghost use Rattle.elixir_terms.specs.Refused.{is_memory, not_read};
+ghost use Rattle.std.specs.Prelude.{◌≡◌, ◌+◌, ◌<◌, ℕ, IsTrue, IsFalse, IfOk, IfErr, length};
+ghost use Rattle.elixir_terms.specs.Lexed.{LexedBy, atom_lexed, lexed};
+ghost use Rattle.elixir_terms.specs.Lexing.{IsNarrow};
+ghost use Rattle.elixir_terms.specs.declared.error.TermCause.{TermCause};
+ghost use Rattle.elixir_terms.specs.Local.{IsFirst, IsFree, Locally, takes};
+ghost use Rattle.elixir_terms.specs.Refused.{is_memory};
 ghost use Rattle.elixir_terms.specs.Tokens.{Begins};
 
-use crate::bracket::Bracket;
-use crate::bytes::is_digit;
-use crate::error::{NOT_READ, TermError};
-use crate::names::{key_or_atom, name_atom};
+use crate::bytes::{is_digit, is_name_start};
+use crate::error::{Fault, TermCause};
+use crate::expected::Expected;
+use crate::names::{name, name_atom};
 use crate::numbers::integer;
+use crate::signs::sign;
 use crate::strings::{quoted_atom, string};
-use crate::token::{Closing, Token};
+use crate::token::Token;
 use crate::words::words;
 use std::alloc::Global;
 
-/// The token that a text begins with, and the text after it.
+/// The token that a text begins with, where it may stand there, and the text after it.
 ///
-/// The error is `NOT_READ` where there is none, or only an integer that 128 bits don't hold, and
-/// `TermError::MEMORY` where memory ran out.
-pub fn first_token(alloc: Global, text: &[u8]) -> Result<(Token, &[u8]), TermError>
+/// A string or an atom without a colon is no token before a colon. The fault is the first of the text.
+pub fn first_token(alloc: Global, text: &[u8], expected: Expected) -> Result<(Token, &[u8]), Fault>
+    // The text's own term is no keyword's key.
+    requires { IsTrue expected.outermost → IsFalse expected.key }
     ensures begins { IfOk result (λ found. Begins text.now found.0 found.1.now) }
+    ensures taken { IfOk result (λ found. IsTrue (takes expected found.0)) }
     ensures narrow { IfOk result (λ found. IsNarrow found.0) }
+    ensures free { IfOk result (λ found. IsFree text.now found.0 found.1.now) }
     ensures shorter { IfOk result (λ found. length found.1.now < length text.now) }
-    ensures refused { IfErr result (λ error. IsFalse (is_memory error.cause) → error ≡ not_read) }
-    ensures none { IfErr result (λ error. IsFalse (is_memory error.cause) → (token : Token) (rest : List ℕ) → Begins text.now token rest → IsWide token) }
+    // Nothing holds there of the text.
+    ensures whole { IfOk result (λ found. (place : ℕ) (why : TermCause) → Locally expected text.now place why → ⊥) }
+    ensures refused { IfErr result (λ fault. IsFalse (is_memory fault.cause) → (k : ℕ) × (fault.left + k ≡ length text.now) × IsFirst expected text.now k fault.cause) }
 {
-    token(alloc, text)
+    token(alloc, text, expected)
 }
 
 /// The first token, by its first byte.
-fn token(alloc: Global, text: &[u8]) -> Result<(Token, &[u8]), TermError>
-    ensures { LexesBy (λ found. (found.0, found.1.now)) result (first_token text.now) }
+fn token(alloc: Global, text: &[u8], expected: Expected) -> Result<(Token, &[u8]), Fault>
+    ensures { LexedBy (λ found. (found.0, found.1.now)) result (lexed expected text.now) }
 {
     match text {
-        [] => Err(NOT_READ),
-        [b':', rest @ ..] => atom(alloc, rest),
-        [b'"', rest @ ..] => string(alloc, rest),
-        [b'~', rest @ ..] => words(alloc, rest),
-        [byte, ..] if *byte == b'-' || is_digit(*byte, 10) => integer(alloc, text),
-        _ => match sign(text) {
-            Some(found) => Ok(found),
-            None => key_or_atom(alloc, text),
-        },
+        [] => Err(Fault::before(text, TermCause::Unclosed)),
+        [b':', after @ ..] => atom(alloc, text, after, expected),
+        [b'"', inside @ ..] => string(alloc, text, inside, expected),
+        [b'~', after @ ..] if expected.term => words(alloc, text, after),
+        [b'~', ..] => Err(Fault::before(text, TermCause::Unexpected)),
+        [byte, ..] if *byte == b'-' || is_digit(*byte, 10) => integer(alloc, text, expected),
+        [byte, ..] if is_name_start(*byte) => name(alloc, text, expected),
+        _ => sign(text, expected),
     }
 }
 
-/// An atom, after its colon.
-fn atom(alloc: Global, text: &[u8]) -> Result<(Token, &[u8]), TermError>
-    ensures { LexesBy (λ found. (found.0, found.1.now)) result (atom_at text.now) }
+/// An atom: the text from its colon on, and after it.
+fn atom<'a>(
+    alloc: Global,
+    text: &'a [u8],
+    after: &'a [u8],
+    expected: Expected,
+) -> Result<(Token, &'a [u8]), Fault>
+    ensures { LexedBy (λ found. (found.0, found.1.now)) result (atom_lexed expected text.now after.now) }
 {
-    match text {
-        [b'"', rest @ ..] => quoted_atom(alloc, rest),
-        _ => name_atom(alloc, text),
+    if !expected.term {
+        return Err(Fault::before(text, TermCause::Unexpected));
     }
-}
-
-/// A bracket, a comma or an arrow, and the text after it.
-fn sign(text: &[u8]) -> Option<(Token, &[u8])>
-    ensures { option_map (λ found. (found.0, found.1.now)) result ≡ sign_at text.now }
-{
-    match text {
-        [b'[', rest @ ..] => Some((Token::Open(Bracket::List), rest)),
-        [b']', rest @ ..] => Some((Token::Close(Closing::Square), rest)),
-        [b'{', rest @ ..] => Some((Token::Open(Bracket::Tuple), rest)),
-        [b'}', rest @ ..] => Some((Token::Close(Closing::Curly), rest)),
-        [b'%', b'{', rest @ ..] => Some((Token::Open(Bracket::Map), rest)),
-        [b',', rest @ ..] => Some((Token::Comma, rest)),
-        [b'=', b'>', rest @ ..] => Some((Token::Arrow, rest)),
-        _ => None,
+    match after {
+        [] => Err(Fault::before(after, TermCause::Unclosed)),
+        [b'"', inside @ ..] => quoted_atom(alloc, after, inside),
+        [byte, ..] if is_name_start(*byte) => name_atom(alloc, after),
+        _ => Err(Fault::before(after, TermCause::Unexpected)),
     }
 }

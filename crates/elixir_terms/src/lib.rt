@@ -2,12 +2,13 @@
 //!
 //! A text is cut into tokens with blanks and comments between them, and the tokens are a term by a grammar.
 //! `specs/` says both without the reader: `Tokens.antt` the tokens, `Grammar.antt` the terms, `Spells.antt`
-//! joins them, and `Within.antt` has the limits. `read` answers the term that the whole text spells within the
-//! limits, exactly where there is one, and `one_reading` says that there is one at most.
+//! joins them, and `Within.antt` has the limits. `Refusals.antt` says where and why a text is refused. `read`
+//! answers the term that the whole text spells within the limits, or the text's refusal. `one_reading` and
+//! `one_refusal` say that there is one at most.
 //!
 //! The reader goes once from left to right and keeps the open brackets on a stack of its own: `blanks` and
 //! `lexer` find the next token, `state` takes it in, `holes` counts the levels, `enclosed` makes the term of a
-//! bracket that closes, and `keys` tells whether a map repeats a key.
+//! bracket that closes, and `opened` tells whether a map repeats a key.
 #![tactic(auto)]
 
 mod blanks;
@@ -15,32 +16,38 @@ mod bracket;
 mod bytes;
 mod enclosed;
 mod error;
+mod expected;
 mod frame;
 mod holes;
 mod keys;
+mod laws;
 mod lexer;
 mod names;
 mod numbers;
+mod opened;
 mod printer;
 mod reading;
 mod scalars;
+mod signs;
 mod stack;
 mod state;
 mod strings;
+mod stuck;
 mod term;
 mod token;
 mod words;
 
-pub use error::{TermCause, TermError};
+pub use error::{Feature, TermCause, TermError};
+pub use laws::{no_refusal, one_refusal};
 pub use printer::print;
 pub use reading::{one_reading, read};
 pub use term::{Pairs, Term, Terms};
 
 #[cfg(test)]
-mod keys_tests;
-#[cfg(test)]
 mod lexer_tests;
 #[cfg(test)]
 mod print_tests;
+#[cfg(test)]
+mod refusal_tests;
 #[cfg(test)]
 mod tests;

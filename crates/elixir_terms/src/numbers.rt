@@ -1,36 +1,70 @@
 // Integers.
-ghost use Rattle.std.specs.Prelude.{◌≡◌, ◌++◌, ◌≤◌, IsTrue, IfOk, length, option_map, false};
-ghost use Rattle.elixir_terms.specs.Lexing.{LexesBy, base_of, digits_from, integer_at, integer_of, run_len, are_signed_digits, signed_value, minus, IsNarrow};
+ghost use Rattle.std.specs.Prelude.{◌≡◌, ◌++◌, ◌≤◌, ℕ, List, IsTrue, IfOk, false};
 ghost use Rattle.std.specs.Option.{SomeIff};
 ghost use Rattle.elixir_terms.specs.declared.token.Token.TheVariants.{Int};
-ghost use Rattle.elixir_terms.specs.Refused.{GivesBy};
+ghost use Rattle.elixir_terms.specs.Lexed.{LexedBy, scanned, opens_fraction, numeral_lexed, integer_lexed};
+ghost use Rattle.elixir_terms.specs.Lexing.{base_of, are_signed_digits, signed_value, minus, IsNarrow};
+ghost use Rattle.elixir_terms.specs.Tokens.{ends_integer};
 
 use crate::bytes::{is_digit, is_name_byte};
-use crate::error::{NOT_READ, TermError};
+use crate::error::{Fault, Feature, TermCause};
+use crate::expected::Expected;
+use crate::names::cut_off;
 use crate::token::Token;
 use std::alloc::{AllocError, Global};
 
 /// An integer within 128 bits.
-pub fn integer(alloc: Global, text: &[u8]) -> Result<(Token, &[u8]), TermError>
-    ensures { LexesBy (λ found. (found.0, found.1.now)) result (integer_at text.now) }
+pub fn integer(alloc: Global, text: &[u8], expected: Expected) -> Result<(Token, &[u8]), Fault>
+    ensures { LexedBy (λ found. (found.0, found.1.now)) result (integer_lexed expected text.now) }
 {
     match text {
-        [b'-', numeral @ ..] => signed(alloc, true, numeral),
-        _ => signed(alloc, false, text),
+        _ if !expected.term => Err(Fault::before(text, TermCause::Unexpected)),
+        [b'-', numeral @ ..] => signed(alloc, text, true, numeral),
+        _ => signed(alloc, text, false, text),
     }
 }
 
-/// The integer of a numeral, which a `-` stood before where it is negative.
-fn signed(alloc: Global, negative: bool, text: &[u8]) -> Result<(Token, &[u8]), TermError>
-    ensures { LexesBy (λ found. (found.0, found.1.now)) result (integer_of negative text.now) }
+/// The integer that the text begins with, whose numeral a `-` stands before where it is negative.
+fn signed<'a>(
+    alloc: Global,
+    text: &'a [u8],
+    negative: bool,
+    numeral: &'a [u8],
+) -> Result<(Token, &'a [u8]), Fault>
+    ensures { LexedBy (λ found. (found.0, found.1.now)) result (numeral_lexed text.now negative numeral.now) }
 {
-    let (word, rest) = text.split_at(run_len(text));
-    let (base, digits) = base_of(word);
+    let (base, digits) = base_of(numeral);
     let mut written = minus(alloc, negative)?;
-    push_digits(base, digits, &mut written)?;
+    let (after_digit, rest) = push_digits(base, digits, &mut written)?;
+    if !after_digit || !ends_integer(rest) {
+        return Err(cut_off(rest));
+    }
     match value(base, written.as_slice()) {
+        None => Err(Fault::before(text, TermCause::NumberTooBig)),
+        Some(_) if base == 10 && opens_fraction(rest) => {
+            Err(Fault::before(rest, TermCause::Unsupported(Feature::Float)))
+        }
         Some(n) => Ok((Token::Int(n), rest)),
-        None => Err(NOT_READ),
+    }
+}
+
+/// Whether no byte of a name goes on an integer.
+fn ends_integer(text: &[u8]) -> bool
+    ensures { result ≡ ends_integer text.now }
+{
+    match text {
+        [byte, ..] => !is_name_byte(*byte),
+        [] => true,
+    }
+}
+
+/// `.` before a digit.
+fn opens_fraction(text: &[u8]) -> bool
+    ensures { result ≡ opens_fraction text.now }
+{
+    match text {
+        [b'.', digit, ..] => digit.is_ascii_digit(),
+        _ => false,
     }
 }
 
@@ -59,24 +93,31 @@ fn base_of(word: &[u8]) -> (u32, &[u8])
     }
 }
 
-/// Adds the digits of a numeral, without the single `_` between them.
-fn push_digits(base: u32, text: &[u8], written: &mut Vec<u8>) -> Result<(), TermError>
+/// Adds the digits of a numeral, without the single `_` between them: whether a digit is the last of them, and the
+/// text after them.
+fn push_digits<'a>(
+    base: u32,
+    text: &'a [u8],
+    written: &mut Vec<u8>,
+) -> Result<(bool, &'a [u8]), AllocError>
     requires least { 2 ≤ base }
     requires most { base ≤ 16 }
-    ensures { GivesBy (λ _. written.new.items) result (option_map (λ digits. written.old.items ++ digits) (digits_from base false text.now)) }
+    ensures { IfOk result (λ found. (digits : List ℕ) × ((found.0, digits, found.1.now) ≡ scanned base false text.now) × (written.new.items ≡ written.old.items ++ digits)) }
 {
     let mut after_digit = false;
-    for byte in text {
+    let mut rest = text;
+    while let [byte, after @ ..] = rest {
         if is_digit(*byte, base) {
             written.push(*byte)?;
             after_digit = true;
         } else if *byte == b'_' && after_digit {
             after_digit = false;
         } else {
-            return Err(NOT_READ);
+            break;
         }
+        rest = after;
     }
-    if after_digit { Ok(()) } else { Err(NOT_READ) }
+    Ok((after_digit, rest))
 }
 
 /// The number that digits of the base write, perhaps after a `-`, within 128 bits.
@@ -94,17 +135,4 @@ fn value(base: u32, written: &[u8]) -> Option<i128>
         Ok(value) => Some(value),
         Err(_) => None,
     }
-}
-
-/// How many bytes of names stand at the front.
-fn run_len(text: &[u8]) -> usize
-    ensures value { result ≡ run_len text.now }
-    ensures within { result ≤ length text.now }
-{
-    for (len, byte) in text.iter().enumerate() {
-        if !is_name_byte(*byte) {
-            return len;
-        }
-    }
-    text.len()
 }

@@ -1,13 +1,21 @@
 // The reader of a whole text.
-ghost use Rattle.std.specs.Prelude.{◌≡◌, ℕ, ◌≤◌, List, length, IfOk, IfErr};
+ghost use Rattle.std.specs.Prelude.{◌≡◌, ℕ, ◌+◌, ◌≤◌, ◌<◌, [], List, None, length, IsTrue, IsFalse, IfOk, IfErr};
 ghost use Rattle.std.specs.Str.{IsUtf8};
+ghost use Rattle.elixir_terms.specs.declared.error.TermCause.TheVariants.{Unclosed};
+ghost use Rattle.elixir_terms.specs.declared.state.State.TheVariants.{Done};
 ghost use Rattle.elixir_terms.specs.declared.term.Term.{Term};
-ghost use Rattle.elixir_terms.specs.Refused.{Refuses};
+ghost use Rattle.elixir_terms.specs.declared.token.Token.{Token};
+ghost use Rattle.elixir_terms.specs.Lexing.{past_blank};
+ghost use Rattle.elixir_terms.specs.Local.{takes};
+ghost use Rattle.elixir_terms.specs.Machine.{expected, step};
+ghost use Rattle.elixir_terms.specs.Reading.{Moves, Stops, noted};
+ghost use Rattle.elixir_terms.specs.Refusals.{IsRefusal};
+ghost use Rattle.elixir_terms.specs.Refused.{is_memory};
 ghost use Rattle.elixir_terms.specs.Spells.{Spells};
 ghost use Rattle.elixir_terms.specs.Within.{longest, Within};
 
 use crate::blanks::skip_blanks;
-use crate::error::{NOT_READ, TermError};
+use crate::error::{Fault, TermCause, TermError};
 use crate::holes::Holes;
 use crate::lexer::first_token;
 use crate::state::State;
@@ -18,45 +26,119 @@ use std::alloc::Global;
 const LONGEST: usize = 4_194_304;
 
 /// Reads the term that the whole text spells, within the limits: texts of at most 4,194,304 bytes, terms of at
-/// most 64 levels, integers of 128 bits, and maps whose keys differ. The cause is `NotRead`, at 0, exactly
-/// where there is none.
+/// most 64 levels, integers of 128 bits, and maps whose keys differ. The error is the first of what is against
+/// it.
 ///
 /// Goes once over the text, and takes memory for the term and for the brackets that are open.
 pub fn read(alloc: Global, text: &[u8]) -> Result<Term, TermError>
     // What is read is what the text spells.
     ensures read { IfOk result (λ term. Spells text.now term × Within text.now term) }
-    // What is refused spells no term within the limits, unless memory ran out.
-    ensures refused { IfErr result (λ error. Refuses text.now error) }
+    // What is refused has this refusal, unless memory ran out.
+    ensures refused { IfErr result (λ error. IsFalse (is_memory error.cause) → IsRefusal text.now error.at error.cause) }
 {
     if text.len() > LONGEST {
-        return Err(NOT_READ);
+        return Err(TermError {
+            at: LONGEST as u64,
+            cause: TermCause::TooLong,
+        });
     }
-    match str::from_utf8(text) {
-        Ok(_) => read_tokens(alloc, text),
-        Err(_) => Err(NOT_READ),
+    if let Err(error) = str::from_utf8(text) {
+        return Err(TermError {
+            at: error.valid_up_to() as u64,
+            cause: TermCause::BadUtf8,
+        });
+    }
+    match read_tokens(alloc, text) {
+        Ok(term) => Ok(term),
+        Err(fault) => Err(placed(text, fault)),
+    }
+}
+
+/// The fault with its place from the beginning of the text.
+fn placed(text: &[u8], fault: Fault) -> TermError
+    requires { IsFalse (is_memory fault.cause) → fault.left ≤ length text.now }
+    ensures place { IsFalse (is_memory fault.cause) → result.at + fault.left ≡ length text.now }
+    ensures cause { result.cause ≡ fault.cause }
+{
+    match fault.cause {
+        TermCause::OutOfMemory => TermError::MEMORY,
+        cause => TermError {
+            at: (text.len() - fault.left) as u64,
+            cause,
+        },
     }
 }
 
 /// Reads the term of a text that is UTF-8 and no longer than allowed.
-fn read_tokens(alloc: Global, text: &[u8]) -> Result<Term, TermError>
+fn read_tokens(alloc: Global, text: &[u8]) -> Result<Term, Fault>
     requires utf8 { IsUtf8 text.now }
     requires short { length text.now ≤ longest }
     ensures read { IfOk result (λ term. Spells text.now term × Within text.now term) }
-    ensures refused { IfErr result (λ error. Refuses text.now error) }
+    ensures refused { IfErr result (λ fault. IsFalse (is_memory fault.cause) → (at : ℕ) × (at + fault.left ≡ length text.now) × IsRefusal text.now at fault.cause) }
 {
     let mut state = State::Value {
         holes: Holes::new(alloc),
     };
+    // Where the last key began in each open bracket.
+    let mut begun: Vec<usize> = vec![in alloc; 0; 65]?;
     let mut rest = skip_blanks(text);
     while !rest.is_empty() {
-        let (token, after) = first_token(alloc, rest)?;
-        state = state.step(alloc, token)?;
+        note(&mut begun, &state, rest.len());
+        let (next, after) = read_token(alloc, state, rest)?;
+        if next.repeats_entry(alloc)? {
+            return Err(Fault {
+                left: begun[next.depth()],
+                cause: TermCause::DuplicateKey,
+            });
+        }
+        state = next;
         rest = skip_blanks(after);
     }
+    finished(state)
+}
+
+/// The term of the text that ends here, where it is whole.
+fn finished(state: State) -> Result<Term, Fault>
+    ensures whole { IfOk result (λ term. state ≡ Done term) }
+    ensures open_ { IfErr result (λ fault. (fault.left ≡ 0) × (fault.cause ≡ Unclosed) × ((t : Term) → state ≡ Done t → ⊥)) }
+{
     match state {
         State::Done { term } => Ok(term),
-        _ => Err(NOT_READ),
+        _other => Err(Fault {
+            left: 0,
+            cause: TermCause::Unclosed,
+        }),
     }
+}
+
+/// Where a key may begin, notes its place for the bracket.
+fn note(begun: &mut Vec<usize>, state: &State, left: usize)
+    requires { length begun.old.items ≡ 65 }
+    ensures { begun.new.items ≡ noted state.now left begun.old.items }
+{
+    let depth = state.depth();
+    if let State::Element { .. } = state {
+        begun[depth] = left;
+    }
+}
+
+/// The state after the first token of the text, and the text after it.
+fn read_token(alloc: Global, state: State, text: &[u8]) -> Result<(State, &[u8]), Fault>
+    requires steps { (token : Token) → IsTrue (takes (expected state) token) → step state token ≡ None → ⊥ }
+    ensures moves { IfOk result (λ found. Moves state text.now found.0 found.1.now) }
+    ensures shorter { IfOk result (λ found. length found.1.now < length text.now) }
+    ensures stops { IfErr result (λ fault. IsFalse (is_memory fault.cause) → (k : ℕ) × (fault.left + k ≡ length text.now) × Stops state text.now k fault.cause) }
+{
+    if let State::Done { .. } = state {
+        return Err(Fault::before(text, TermCause::TrailingText));
+    }
+    let (token, after) = first_token(alloc, text, state.expected())?;
+    let again = state.repeats_keyword(alloc, &token)?;
+    let next = state.step(alloc, token, text.len())?;
+    if again {
+        return Err(Fault::before(text, TermCause::DuplicateKey));
+    }
+    Ok((next, after))
 }
 
 /// No text spells two terms.

@@ -2,10 +2,11 @@
 ghost use Rattle.std.specs.Prelude.{◌≡◌, ◌<◌, ◌++◌, true, OnOk};
 ghost use Rattle.std.specs.Fmt.{decimal, signed_decimal, digit_glyph};
 ghost use Rattle.std.specs.Str.{is_utf8};
-ghost use Rattle.elixir_terms.specs.Names.{is_name, is_name_rest, is_bare_atom};
+ghost use Rattle.elixir_terms.specs.Names.{is_name, is_name_rest};
 ghost use Rattle.elixir_terms.specs.Printed.{letter_of, is_hidden, by_digits, escape, escaped, quoted, name_text, atom_text, key_text};
 
 use crate::bytes::{is_name_byte, is_name_mark, is_name_start, opens_interpolation};
+use crate::names::is_bare_atom;
 use std::alloc::AllocError;
 
 /// Adds an atom.
@@ -128,17 +129,10 @@ fn print_digits(out: &mut Vec<u8>, n: u128) -> Result<(), AllocError>
     Ok(())
 }
 
-fn is_utf8(bytes: &[u8]) -> bool
+pub fn is_utf8(bytes: &[u8]) -> bool
     ensures { result ≡ is_utf8 bytes.now }
 {
     str::from_utf8(bytes).is_ok()
-}
-
-// `true`, `false` or `nil`.
-fn is_bare_atom(name: &[u8]) -> bool
-    ensures { result ≡ is_bare_atom name.now }
-{
-    name == b"true".as_slice() || name == b"false".as_slice() || name == b"nil".as_slice()
 }
 
 fn is_name(name: &[u8]) -> bool

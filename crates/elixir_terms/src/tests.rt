@@ -1,6 +1,6 @@
-// Texts that are read, and texts that are refused.
+// Texts that are read.
 
-use crate::{Term, TermCause, TermError, one_reading, print, read};
+use crate::{Term, one_reading, print, read};
 use mx_base::Bytes;
 use std::alloc::Global;
 use std::test::Fail;
@@ -8,17 +8,6 @@ use std::test::Fail;
 fn printed(alloc: Global, text: &[u8]) -> Result<Bytes, Fail> {
     let term = read(alloc, text)?;
     Ok(print(alloc, &term)?)
-}
-
-fn is_refused(alloc: Global, text: &[u8]) -> bool {
-    match read(alloc, text) {
-        Ok(_) => false,
-        Err(error) => error
-            == TermError {
-                at: 0,
-                cause: TermCause::NotRead,
-            },
-    }
 }
 
 #[test]
@@ -71,58 +60,6 @@ fn texts_are_read(rt: HostRuntime) -> Result<(), Fail> {
     Ok(())
 }
 
-#[test]
-fn other_texts_are_refused(rt: HostRuntime) -> Result<(), Fail> {
-    let alloc = rt.alloc();
-    for text in [
-        "",
-        " ",
-        "#",
-        ":a :b",
-        "[",
-        "]",
-        "[:a",
-        "[:a}",
-        "{:a]",
-        "%{]",
-        "[,]",
-        "[:a,,]",
-        "[:a :b]",
-        "{a: 1}",
-        "[a: 1, :b]",
-        "{1, a: 1, 2}",
-        "[1 => 2]",
-        "{1 => 2}",
-        "%{1}",
-        "%{1, 2}",
-        "%{1 =>}",
-        "%{=> 1}",
-        "%{1 => 2 => 3}",
-        "%{a: 1, :b => 2}",
-        "%{:a => 1, :a => 2}",
-        "%{:a => 1, a: 2}",
-        "%{a: 1, a: 1}",
-        "%{[1] => 1, [0x1] => 2}",
-        "[a:]",
-        "[a]",
-        "[1,",
-        "1.5",
-        "[a: , 1]",
-        "a: 1",
-        "=>",
-        ",",
-        "%",
-        "%{1 => a: 2}",
-        "170141183460469231731687303715884105728",
-        "[{\"x\", -170141183460469231731687303715884105729}]",
-    ] {
-        assert!(rt; is_refused(alloc, text.as_bytes()), "at {text:?}");
-    }
-    assert!(rt; is_refused(alloc, &[b'"', 255, b'"']));
-    assert!(rt; is_refused(alloc, &[b':', b'a', b' ', b'#', 255]));
-    Ok(())
-}
-
 /// The opening so many times, then the inside, then the closing as often.
 fn nested(
     alloc: Global,
@@ -163,35 +100,10 @@ fn terms_of_64_levels_are_read(rt: HostRuntime) -> Result<(), Fail> {
 }
 
 #[test]
-fn deeper_terms_are_refused(rt: HostRuntime) -> Result<(), Fail> {
-    let alloc = rt.alloc();
-    for (count, opening, inside, closing) in [
-        (65, "[", "", "]"),
-        (65, "{", "1", "}"),
-        (65, "%{1 => ", "2", "}"),
-        (65, "%{a: ", "2", "}"),
-        (64, "%{", "%{}", " => 1}"),
-        (33, "[a: ", "1", "]"),
-        (22, "{1, a: ", "1", "}"),
-        (32, "[a: ", "[]", "]"),
-        (64, "[", "~w(a b)", "]"),
-        (64, "[", "a: 1", "]"),
-        (62, "[", "{1, a: 1}", "]"),
-        (100000, "[", "", "]"),
-    ] {
-        let text = nested(alloc, count, opening, inside, closing)?;
-        assert!(rt; is_refused(alloc, &text), "at {opening:?} {inside:?}");
-    }
-    Ok(())
-}
-
-#[test]
 fn the_longest_text_has_4_194_304_bytes(rt: HostRuntime) -> Result<(), Fail> {
     let alloc = rt.alloc();
-    let mut text = nested(alloc, 4_194_302, " ", ":a", "")?;
+    let text = nested(alloc, 4_194_302, " ", ":a", "")?;
     assert!(rt; read(alloc, &text).is_ok());
-    text.push(b' ')?;
-    assert!(rt; is_refused(alloc, &text));
     Ok(())
 }
 

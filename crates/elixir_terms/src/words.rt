@@ -1,9 +1,11 @@
 // Lists of words, as `~w(dev test)a`.
-ghost use Rattle.std.specs.Prelude.{◌≡◌, ◌++◌, ◌≤◌, IfOk, OnOk, length, map, option_map, []};
-ghost use Rattle.elixir_terms.specs.Lexing.{LexesBy, words_at, words_in, inside_len, kind_of, word_term, words_from, flushed};
+ghost use Rattle.std.specs.Prelude.{◌≡◌, ◌++◌, ◌≤◌, IfOk, OnOk, length, map, take, drop, []};
+ghost use Rattle.elixir_terms.specs.Lexed.{LexedBy, words_stop, after_tilde_lexed};
+ghost use Rattle.elixir_terms.specs.Lexing.{inside_len, kind_of, word_term, words_from, flushed};
 
 use crate::bytes::{is_blank, opens_interpolation};
-use crate::error::{NOT_READ, TermError};
+use crate::error::{Fault, Feature, TermCause};
+use crate::strings::broken;
 use crate::term::{Term, Terms};
 use crate::token::Token;
 use mx_base::{Bytes, Text};
@@ -16,27 +18,32 @@ enum WordKind {
     Atoms,
 }
 
-/// A list of words, after its `~`.
-pub fn words(alloc: Global, text: &[u8]) -> Result<(Token, &[u8]), TermError>
-    ensures { LexesBy (λ found. (found.0, found.1.now)) result (words_at text.now) }
+/// A list of words: the text from its `~` on, and after it.
+pub fn words<'a>(alloc: Global, text: &'a [u8], after: &'a [u8]) -> Result<(Token, &'a [u8]), Fault>
+    ensures { LexedBy (λ found. (found.0, found.1.now)) result (after_tilde_lexed text.now after.now) }
 {
-    match text {
+    match after {
+        [] | [b'w'] => Err(Fault {
+            left: 0,
+            cause: TermCause::Unclosed,
+        }),
         [b'w', b'(', inside @ ..] => words_in(alloc, inside),
-        _ => Err(NOT_READ),
+        _ => Err(Fault::before(text, TermCause::Unsupported(Feature::Sigil))),
     }
 }
 
 /// A list of words, after its opening parenthesis.
-fn words_in(alloc: Global, text: &[u8]) -> Result<(Token, &[u8]), TermError>
-    ensures { LexesBy (λ found. (found.0, found.1.now)) result (words_in text.now) }
+fn words_in(alloc: Global, text: &[u8]) -> Result<(Token, &[u8]), Fault>
+    ensures { LexedBy (λ found. (found.0, found.1.now)) result (words_stop (take (inside_len text.now) text.now) (drop (inside_len text.now) text.now)) }
 {
     let (inside, rest) = text.split_at(inside_len(text));
     match rest {
+        [] => Err(Fault::before(rest, TermCause::Unclosed)),
         [b')', after @ ..] => {
             let (kind, rest) = kind_of(after);
             Ok((Token::Words(cut(alloc, kind, inside)?), rest))
         }
-        _ => Err(NOT_READ),
+        [byte, ..] => Err(Fault::before(rest, broken(*byte))),
     }
 }
 

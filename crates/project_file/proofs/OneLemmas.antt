@@ -4,7 +4,10 @@ use Rattle.mx_base.specs.declared.file.File.{File}
 use Rattle.mx_base.specs.Order.{bytes_at}
 use Rattle.elixir_terms.specs.declared.error.TermError.{TermError}
 use Rattle.elixir_terms.specs.declared.term.Term.{Term}
+use Rattle.elixir_terms.specs.declared.error.TermCause.{TermCause}
+use Rattle.elixir_terms.specs.Refusals.{IsRefusal}
 use Rattle.elixir_terms.specs.Spells.{Spells}
+use Rattle.elixir_terms.specs.Within.{Within}
 use Rattle.dep_options.specs.declared.decl.Decl.{Decl}
 use Rattle.dep_options.specs.declared.error.OptionError.{OptionError}
 use Rattle.dep_options.specs.Decls.{AreDecls}
@@ -21,9 +24,11 @@ use Rattle.project_file.specs.Files.AreSettings.{absent as unset, unread as unre
 use Rattle.project_file.specs.Manifest.{Stated, stated_of, project_of, IsProject}
 use Rattle.project_file.specs.Manifest.IsProject.{shape, bare, options, whole}
 
--- no text spells two terms
-abbrev pub OneReading : Type 0
-OneReading = (text : List ℕ) (t u : Term) → Spells text t → Spells text u → t ≡ u
+-- no text spells two terms, is refused in two ways, or both spells a term within the limits and is refused
+pub record OneReading : Type 0 where
+  pub terms : (text : List ℕ) (t u : Term) → Spells text t → Spells text u → t ≡ u
+  pub refusals : (text : List ℕ) (at place : ℕ) (why other : TermCause) → IsRefusal text at why → IsRefusal text place other → (at ≡ place) × (why ≡ other)
+  pub apart : (text : List ℕ) (t : Term) (at : ℕ) (why : TermCause) → Spells text t → Within text t → IsRefusal text at why → ⊥
 
 -- no term declares two things
 abbrev pub OneAnswer : Type 0
@@ -80,16 +85,22 @@ project_one one {dir = dir} {t = t} (whole s d {decls = xs} e some are) (whole u
 also_read : (found : Option (List ℕ)) (text other : List ℕ) (t : Term) → found ≡ Some text → found ≡ Some other → IsReadAs other t → IsReadAs text t
 also_read found text other t at there read = subst (λ (x : List ℕ). IsReadAs x t) (some_one found other text there at) read
 
-same_refusal : (text other : List ℕ) (d e : TermError) → IsRefusedText text d → IsRefusedText other e → d ≡ e
-same_refusal text other d e why also = (why.1 why.0).0 ∙ sym (also.1 also.0).0
+same_error : (d e : TermError) → d.at ≡ e.at → d.cause ≡ e.cause → d ≡ e
+same_error d e places causes = ap (λ (at : ℕ). record { at = at; cause = d.cause }) places ∙ ap (λ (cause : TermCause). record { at = e.at; cause = cause }) causes
 
-not_both : (found : Option (List ℕ)) (text other : List ℕ) (error : TermError) (t : Term) → found ≡ Some text → found ≡ Some other → IsRefusedText text error → IsReadAs other t → ⊥
-not_both found text other error t at there why read =
+same_refusal : OneReading → (found : Option (List ℕ)) (text other : List ℕ) (d e : TermError) → found ≡ Some text → found ≡ Some other → IsRefusedText text d → IsRefusedText other e → d ≡ e
+same_refusal reading found text other d e at there why also =
+    let is : IsRefusal text e.at e.cause = subst (λ (x : List ℕ). IsRefusal x e.at e.cause) (some_one found other text there at) also.1 in
+    let same = reading.refusals text d.at e.at d.cause e.cause why.1 is in
+    same_error d e same.0 same.1
+
+not_both : OneReading → (found : Option (List ℕ)) (text other : List ℕ) (error : TermError) (t : Term) → found ≡ Some text → found ≡ Some other → IsRefusedText text error → IsReadAs other t → ⊥
+not_both reading found text other error t at there why read =
     let same = also_read found text other t at there read in
-    (why.1 why.0).1 t same.0 same.1
+    reading.apart text t error.at error.cause same.0 same.1 why.1
 
 terms_one : OneReading → (found : Option (List ℕ)) (text other : List ℕ) (t u : Term) → found ≡ Some text → found ≡ Some other → IsReadAs text t → IsReadAs other u → t ≡ u
-terms_one reading found text other t u at there read also = reading text t u read.0 (also_read found text other u at there also).0
+terms_one reading found text other t u at there read also = reading.terms text t u read.0 (also_read found text other u at there also).0
 
 said_one : OneReading → OneAnswer → (found : Option (List ℕ)) (text other : List ℕ) (t u : Term) (dir : List ℕ) (a b : Result Project ProjectError) → found ≡ Some text → found ≡ Some other → IsReadAs text t → IsReadAs other u → IsProject dir t a → IsProject dir u b → a ≡ b
 said_one reading one found text other t u dir a b at there read also says tells =
@@ -102,17 +113,18 @@ loaded_one reading one {files = files} {dir = dir} (absent e) (unread other ther
 loaded_one reading one {files = files} {dir = dir} (absent e) (refused other u there also tells) = absurd (no_some (bytes_at (manifest_at dir) files) other e there)
 loaded_one reading one {files = files} {dir = dir} (absent e) (loaded other u there also tells) = absurd (no_some (bytes_at (manifest_at dir) files) other e there)
 loaded_one reading one {files = files} {dir = dir} (unread text at why) (absent f) = absurd (no_some (bytes_at (manifest_at dir) files) text f at)
-loaded_one reading one (unread text {error = x} at why) (unread other {error = y} there also) = ap (λ (z : TermError). Err (project.Term z)) (same_refusal text other x y why also)
-loaded_one reading one {files = files} {dir = dir} (unread text {error = x} at why) (refused other u there also tells) = absurd (not_both (bytes_at (manifest_at dir) files) text other x u at there why also)
-loaded_one reading one {files = files} {dir = dir} (unread text {error = x} at why) (loaded other u there also tells) = absurd (not_both (bytes_at (manifest_at dir) files) text other x u at there why also)
+loaded_one reading one {files = files} {dir = dir} (unread text {error = x} at why) (unread other {error = y} there also) =
+    ap (λ (z : TermError). Err (project.Term z)) (same_refusal reading (bytes_at (manifest_at dir) files) text other x y at there why also)
+loaded_one reading one {files = files} {dir = dir} (unread text {error = x} at why) (refused other u there also tells) = absurd (not_both reading (bytes_at (manifest_at dir) files) text other x u at there why also)
+loaded_one reading one {files = files} {dir = dir} (unread text {error = x} at why) (loaded other u there also tells) = absurd (not_both reading (bytes_at (manifest_at dir) files) text other x u at there why also)
 loaded_one reading one {files = files} {dir = dir} (refused text t at read says) (absent f) = absurd (no_some (bytes_at (manifest_at dir) files) text f at)
-loaded_one reading one {files = files} {dir = dir} (refused text t at read says) (unread other {error = y} there why) = absurd (not_both (bytes_at (manifest_at dir) files) other text y t there at why read)
+loaded_one reading one {files = files} {dir = dir} (refused text t at read says) (unread other {error = y} there why) = absurd (not_both reading (bytes_at (manifest_at dir) files) other text y t there at why read)
 loaded_one reading one {files = files} {dir = dir} (refused text t {error = x} at read says) (refused other u {error = y} there also tells) =
     ap (λ (z : ProjectError). Err z) (err_one x y (said_one reading one (bytes_at (manifest_at dir) files) text other t u dir (Err x) (Err y) at there read also says tells))
 loaded_one reading one {files = files} {dir = dir} (refused text t {error = x} at read says) (loaded other u {p = q} there also tells) =
     absurd (err_not_ok x q (said_one reading one (bytes_at (manifest_at dir) files) text other t u dir (Err x) (Ok q) at there read also says tells))
 loaded_one reading one {files = files} {dir = dir} (loaded text t at read says) (absent f) = absurd (no_some (bytes_at (manifest_at dir) files) text f at)
-loaded_one reading one {files = files} {dir = dir} (loaded text t at read says) (unread other {error = y} there why) = absurd (not_both (bytes_at (manifest_at dir) files) other text y t there at why read)
+loaded_one reading one {files = files} {dir = dir} (loaded text t at read says) (unread other {error = y} there why) = absurd (not_both reading (bytes_at (manifest_at dir) files) other text y t there at why read)
 loaded_one reading one {files = files} {dir = dir} (loaded text t {p = p} at read says) (refused other u {error = y} there also tells) =
     absurd (err_not_ok y p (sym (said_one reading one (bytes_at (manifest_at dir) files) text other t u dir (Ok p) (Err y) at there read also says tells)))
 loaded_one reading one {files = files} {dir = dir} (loaded text t {p = p} at read says) (loaded other u {p = q} there also tells) =
@@ -131,16 +143,17 @@ settings_one reading {files = files} (unset e) (unread_settings other there also
 settings_one reading {files = files} (unset e) (no_settings other u there also none) = absurd (no_some (bytes_at settings_path files) other e there)
 settings_one reading {files = files} (unset e) (set other u there also some) = absurd (no_some (bytes_at settings_path files) other e there)
 settings_one reading {files = files} (unread_settings text at why) (unset f) = absurd (no_some (bytes_at settings_path files) text f at)
-settings_one reading (unread_settings text {error = x} at why) (unread_settings other {error = y} there also) = ap (λ (z : TermError). Err (setting.Term z)) (same_refusal text other x y why also)
-settings_one reading {files = files} (unread_settings text {error = x} at why) (no_settings other u there also none) = absurd (not_both (bytes_at settings_path files) text other x u at there why also)
-settings_one reading {files = files} (unread_settings text {error = x} at why) (set other u there also some) = absurd (not_both (bytes_at settings_path files) text other x u at there why also)
+settings_one reading {files = files} (unread_settings text {error = x} at why) (unread_settings other {error = y} there also) =
+    ap (λ (z : TermError). Err (setting.Term z)) (same_refusal reading (bytes_at settings_path files) text other x y at there why also)
+settings_one reading {files = files} (unread_settings text {error = x} at why) (no_settings other u there also none) = absurd (not_both reading (bytes_at settings_path files) text other x u at there why also)
+settings_one reading {files = files} (unread_settings text {error = x} at why) (set other u there also some) = absurd (not_both reading (bytes_at settings_path files) text other x u at there why also)
 settings_one reading {files = files} (no_settings text t at read none) (unset f) = absurd (no_some (bytes_at settings_path files) text f at)
-settings_one reading {files = files} (no_settings text t at read none) (unread_settings other {error = y} there why) = absurd (not_both (bytes_at settings_path files) other text y t there at why read)
+settings_one reading {files = files} (no_settings text t at read none) (unread_settings other {error = y} there why) = absurd (not_both reading (bytes_at settings_path files) other text y t there at why read)
 settings_one reading (no_settings text t at read none) (no_settings other u there also nothing) = refl
 settings_one reading {files = files} (no_settings text t at read none) (set other u {s = r} there also some) =
     absurd (no_some (settings_of u) r (sym (read_settings reading (bytes_at settings_path files) text other t u at there read also) ∙ none) some)
 settings_one reading {files = files} (set text t at read some) (unset f) = absurd (no_some (bytes_at settings_path files) text f at)
-settings_one reading {files = files} (set text t at read some) (unread_settings other {error = y} there why) = absurd (not_both (bytes_at settings_path files) other text y t there at why read)
+settings_one reading {files = files} (set text t at read some) (unread_settings other {error = y} there why) = absurd (not_both reading (bytes_at settings_path files) other text y t there at why read)
 settings_one reading {files = files} (set text t {s = s} at read some) (no_settings other u there also none) =
     absurd (no_some (settings_of u) s none (sym (read_settings reading (bytes_at settings_path files) text other t u at there read also) ∙ some))
 settings_one reading {files = files} (set text t {s = s} at read some) (set other u {s = r} there also same) =

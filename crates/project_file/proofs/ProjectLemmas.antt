@@ -7,7 +7,8 @@ use Rattle.mx_base.specs.declared.file.File.{File}
 use Rattle.mx_base.specs.Order.{bytes_at}
 use Rattle.elixir_terms.specs.declared.error.TermError.{TermError}
 use Rattle.elixir_terms.specs.declared.term.Term.{Term}
-use Rattle.elixir_terms.specs.Refused.{Refuses, is_memory}
+use Rattle.elixir_terms.specs.Refusals.{IsRefusal}
+use Rattle.elixir_terms.specs.Refused.{is_memory}
 use Rattle.dep_options.specs.declared.decl.Decl.{Decl}
 use Rattle.dep_options.specs.declared.error.OptionError.{OptionError}
 use Rattle.dep_options.specs.Decls.{AreDecls}
@@ -54,12 +55,12 @@ options_of dir t found h deps error is some written are = at (options_memory err
     at false m inside = options (stated_in h) deps.now (states t found h is some) (ap option_copied written) (are m)
 
 -- a text that is refused
-pub text_refused : (dir text : List ℕ) (error : TermError) → Refuses text error → IsFalse (is_outside (term_refused error)) → IsRefusedManifest dir text (term_refused error)
+pub text_refused : (dir text : List ℕ) (error : TermError) → (IsFalse (is_memory error.cause) → IsRefusal text error.at error.cause) → IsFalse (is_outside (term_refused error)) → IsRefusedManifest dir text (term_refused error)
 text_refused dir text error why = at (is_memory error.cause) refl
   where
     at : (b : Bool) → is_memory error.cause ≡ b → IsFalse (is_outside (if b then project.OutOfMemory else project.Term error)) → IsRefusedManifest dir text (if b then project.OutOfMemory else project.Term error)
     at true m inside = cc
-    at false m inside = as_text (m, why)
+    at false m inside = as_text (m, why m)
 
 -- a term that is refused
 pub term_says : (dir text : List ℕ) (t : Term) (result : Result Project ProjectError) → IsReadAs text t → IfErr result (λ e. IsFalse (is_outside e) → IsProject dir t (Err e)) → IfErr result (λ e. IsFalse (is_outside e) → IsRefusedManifest dir text e)

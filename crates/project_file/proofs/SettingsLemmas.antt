@@ -4,7 +4,8 @@ use Rattle.mx_base.specs.declared.file.File.{File}
 use Rattle.mx_base.specs.Order.{bytes_at}
 use Rattle.elixir_terms.specs.declared.error.TermError.{TermError}
 use Rattle.elixir_terms.specs.declared.term.Term.{Term}
-use Rattle.elixir_terms.specs.Refused.{Refuses, is_memory}
+use Rattle.elixir_terms.specs.Refusals.{IsRefusal}
+use Rattle.elixir_terms.specs.Refused.{is_memory}
 use Rattle.project_file.specs.declared.error.SettingsError.TheVariants as settings
 use Rattle.project_file.specs.declared.settings.Settings.{Settings}
 use Rattle.project_file.specs.Compilers.{settings_of, no_settings}
@@ -19,12 +20,12 @@ pub settings_absent : (found : Option (List ℕ)) (s : Settings) → found ≡ N
 settings_absent found s none is files at =
     subst (λ (x : Settings). AreSettings files (Ok x)) (sym is) (absent (sym at ∙ none))
 
-pub settings_unread : (found : Option (List ℕ)) (text slice : List ℕ) (error : TermError) → found ≡ Some text → slice ≡ text → Refuses slice error → IsFalse (settings_outside (settings_term_refused error)) → (files : List File) → found ≡ bytes_at settings_path files → AreSettings files (Err (settings_term_refused error))
+pub settings_unread : (found : Option (List ℕ)) (text slice : List ℕ) (error : TermError) → found ≡ Some text → slice ≡ text → (IsFalse (is_memory error.cause) → IsRefusal slice error.at error.cause) → IsFalse (settings_outside (settings_term_refused error)) → (files : List File) → found ≡ bytes_at settings_path files → AreSettings files (Err (settings_term_refused error))
 settings_unread found text slice error is same why = at (is_memory error.cause) refl
   where
     at : (b : Bool) → is_memory error.cause ≡ b → IsFalse (settings_outside (if b then settings.OutOfMemory else settings.Term error)) → (files : List File) → found ≡ bytes_at settings_path files → AreSettings files (Err (if b then settings.OutOfMemory else settings.Term error))
     at true m inside files here = cc
-    at false m inside files here = unread slice (there files found text slice is same here) (m, why)
+    at false m inside files here = unread slice (there files found text slice is same here) (m, why m)
 
 pub settings_set : (found : Option (List ℕ)) (text slice : List ℕ) (t : Term) (read : Option Settings) (s : Settings) → found ≡ Some text → slice ≡ text → IsReadAs slice t → read ≡ settings_of t → read ≡ Some s → (files : List File) → found ≡ bytes_at settings_path files → AreSettings files (Ok s)
 settings_set found text slice t read s is same reads say some files at =

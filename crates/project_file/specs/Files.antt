@@ -5,7 +5,8 @@ use Rattle.mx_base.specs.Order.{bytes_at}
 use Rattle.mx_base.specs.Path.{child_of}
 use Rattle.elixir_terms.specs.declared.error.TermError.{TermError}
 use Rattle.elixir_terms.specs.declared.term.Term.{Term}
-use Rattle.elixir_terms.specs.Refused.{Refuses, is_memory}
+use Rattle.elixir_terms.specs.Refusals.{IsRefusal}
+use Rattle.elixir_terms.specs.Refused.{is_memory}
 use Rattle.elixir_terms.specs.Spells.{Spells}
 use Rattle.elixir_terms.specs.Within.{Within}
 use Rattle.dep_options.specs.declared.decl.Manager.{Manager}
@@ -25,7 +26,7 @@ IsReadAs text t = Spells text t × Within text t
 
 -- the text is refused, and not for want of memory
 abbrev pub IsRefusedText : List ℕ → TermError → Type 0
-IsRefusedText text error = IsFalse (is_memory error.cause) × Refuses text error
+IsRefusedText text error = IsFalse (is_memory error.cause) × IsRefusal text error.at error.cause
 
 -- the path of a manifest
 abbrev pub manifest_at : List ℕ → List ℕ

@@ -52,8 +52,8 @@ impl From<TermError> for ProjectError {
 
     fn from(error: TermError) -> ProjectError {
         match error.cause {
-            TermCause::NotRead => ProjectError::Term(error),
             TermCause::OutOfMemory => ProjectError::OutOfMemory,
+            _ => ProjectError::Term(error),
         }
     }
 }
@@ -106,8 +106,8 @@ impl From<TermError> for SettingsError {
 
     fn from(error: TermError) -> SettingsError {
         match error.cause {
-            TermCause::NotRead => SettingsError::Term(error),
             TermCause::OutOfMemory => SettingsError::OutOfMemory,
+            _ => SettingsError::Term(error),
         }
     }
 }

@@ -8,13 +8,15 @@ ghost use Rattle.project_file.specs.declared.settings.Settings.{Settings};
 ghost use Rattle.project_file.specs.Files.{IsLoaded, AreSettings};
 
 use dep_options::one_answer;
-use elixir_terms::one_reading;
+use elixir_terms::{no_refusal, one_reading, one_refusal};
 
 /// The manifest in a folder says one thing, or is refused in one way.
 pub fn one_project()
     ensures { (files : List File) (dir : List ℕ) (answer other : Result (Option Project) ProjectError) → IsLoaded files dir answer → IsLoaded files dir other → answer ≡ other }
 {
     one_reading();
+    one_refusal();
+    no_refusal();
     one_answer();
 }
 
@@ -23,4 +25,6 @@ pub fn one_settings()
     ensures { (files : List File) (answer other : Result Settings SettingsError) → AreSettings files answer → AreSettings files other → answer ≡ other }
 {
     one_reading();
+    one_refusal();
+    no_refusal();
 }

@@ -1,4 +1,4 @@
-use Rattle.elixir_terms.proofs.ReadLemmas.{spells_one}
+use Rattle.elixir_terms.proofs.SpellLemmas.{spells_one}
 use Rattle.elixir_terms.proofs.reading.one_reading.Goals as goal
 
 pub returns : goal.returns

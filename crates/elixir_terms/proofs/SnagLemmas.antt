@@ -1,0 +1,404 @@
+-- Where the lexer stops, what it says is the refusal of the text.
+use Rattle.std.specs.Prelude.{IsTrue, IsFalse, ℤ, pos, neg_ℤ, ◌^◌, ◌≤ℤ◌, ◌<ℤ◌}
+use Rattle.std.proofs.Common.{◌≡◌, ◌≢◌, ℕ, zero, suc, ◌+◌, ◌<◌, ◌≤◌, ◌⊎◌, inl, inr, Bool, true, false, not, ◌&&◌, eqb, cond, List, [], ◌∷◌, ◌++◌, Option, Some, None, length, take, drop, refl, sym, ap, ◌∙◌, subst, arith, append_assoc, ⊎_elim}
+use Rattle.std.specs.Int.Signed.{clash_ℤ}
+use Rattle.std.proofs.lemmas.Int.{by_lt_z}
+use Rattle.std.proofs.lemmas.Bool.{true≢false, false≢true, and_parts, and_from}
+use Rattle.std.proofs.lemmas.List.{append-nil, length-append, take-append-drop, length-take-le, take_all}
+use Rattle.elixir_terms.specs.declared.bracket.Bracket.TheVariants as bracket
+use Rattle.elixir_terms.specs.declared.error.Feature.TheVariants.{Heredoc, Float}
+use Rattle.elixir_terms.specs.declared.error.TermCause.{TermCause}
+use Rattle.elixir_terms.specs.declared.error.TermCause.TheVariants as cause
+use Rattle.elixir_terms.specs.declared.expected.Expected.{Expected}
+use Rattle.elixir_terms.specs.declared.frame.Frame.{Frame}
+use Rattle.elixir_terms.specs.declared.frame.Hole.{Hole}
+use Rattle.elixir_terms.specs.declared.frame.Slot.{Slot}
+use Rattle.elixir_terms.specs.declared.frame.Slot.TheVariants as slot
+use Rattle.elixir_terms.specs.declared.state.State.{State}
+use Rattle.elixir_terms.specs.declared.state.State.TheVariants as state
+use Rattle.elixir_terms.specs.declared.term.Term.{Term}
+use Rattle.elixir_terms.specs.declared.term.Term.TheVariants as term
+use Rattle.elixir_terms.specs.declared.token.Token.{Token}
+use Rattle.elixir_terms.specs.declared.token.Token.TheVariants.{Atom, Int, Str, Words, Key, Open, Close, Comma, Arrow}
+use Rattle.elixir_terms.specs.Grammar.{IsTerm, atom as atom_term, string as string_term}
+use Rattle.elixir_terms.specs.Lexing.{past_blank, IsNarrow, IsWide}
+use Rattle.elixir_terms.specs.Local.{IsOpening, IsFloat, starts_with, is_plain, IsFree, takes, IsPart, IsShut, rank, Locally, charlist, sigil, heredoc, bits, interpolation, interpolated_words, float, alias_alone, alias, escape, escape_in_words, atom_utf8, key_utf8, number, colon_after, unclosed, unexpected, IsFirst}
+use Rattle.elixir_terms.specs.Machine.{is_none, takes_part, part_slot, placed, placed_in, begun, step, expected}
+use Rattle.elixir_terms.specs.Names.{is_blank}
+use Rattle.elixir_terms.specs.Prefixes.{AreOpen, Leads, none as no_token, token as one_token, IsOpenText, StandsAt, TakesTerm, TakesKey, TakesEither}
+use Rattle.elixir_terms.specs.Refusals.{AreTooDeep, Holds}
+use Rattle.elixir_terms.specs.Refusals as far
+use Rattle.elixir_terms.specs.Tokens.{is_colon, Begins, bare_atom, atom, quoted_atom, integer, string, words, key, quoted_key, opens, closes, comma, arrow, Blanks, none, AreTokens}
+use Rattle.elixir_terms.specs.Within.{deepest, Fits}
+use Rattle.elixir_terms.proofs.AgainLemmas.{Held, Starts, Again, held, starts, later, again, single_last}
+use Rattle.elixir_terms.proofs.BlankLemmas.{blanks_stop, blanks_meet}
+use Rattle.elixir_terms.proofs.CalmLemmas.{calm, Marred, fraction, quotes}
+use Rattle.elixir_terms.proofs.EndLemmas.{state_ends}
+use Rattle.elixir_terms.proofs.FollowLemmas.{bare_first}
+use Rattle.elixir_terms.proofs.LimitLemmas.{allowed}
+use Rattle.elixir_terms.proofs.Meaning.{Wants}
+use Rattle.elixir_terms.proofs.OpenLemmas.{runs, start, Passes, passes, runs_push, step_taken, term_expected, key_expected, passed_back, cond_test, open_next}
+use Rattle.elixir_terms.proofs.OptionLemmas.{none_some, some_same}
+use Rattle.elixir_terms.proofs.PlaceLemmas.{Past}
+use Rattle.elixir_terms.proofs.PrefixLemmas.{AllSound, start_sound, trail_sound, next_sound, token_shallow, takes_steps, step_open}
+use Rattle.elixir_terms.proofs.Runs.{wants_end, wants_first, first_wants}
+use Rattle.elixir_terms.proofs.ShutLemmas.{is_single, joint_byte, IsPlaced, single_placed, no_more, taken, Tied, tied, front_shut}
+use Rattle.elixir_terms.proofs.SoundLemmas.{need}
+use Rattle.elixir_terms.proofs.StopLemmas.{Beyond, Stop, Verdict, early, joined, Repeats, stop_beyond, stop_open, Went, went, none_behind, early_beyond}
+use Rattle.elixir_terms.proofs.TokenLaws.{begins_one, begins_solid, begins_shorter}
+use Rattle.elixir_terms.proofs.TrailLemmas.{Trail, rests, steps, trail_solid, trail_runs, trail_leads, trail_fronts, behind}
+
+-- where what holds locally stands
+
+local_within : {e : Expected} {text : List ℕ} {k : ℕ} {why : TermCause} → Locally e text k why → k ≤ length text
+local_within (charlist x) = omega arith
+local_within (sigil x a b c) = omega arith
+local_within (heredoc x) = omega arith
+local_within (bits x) = omega arith
+local_within (interpolation {opening = opening} {inside = inside} more x o q e) = omega (arith, ap length e, length-append opening (inside ++ 35 ∷ 123 ∷ more), length-append inside (35 ∷ 123 ∷ more))
+local_within (interpolated_words inside more x i e) = omega (arith, ap length e, length-append inside (35 ∷ 123 ∷ more))
+local_within (float {word = word} digit more x d g e) = omega (arith, ap length e, length-append word (46 ∷ digit ∷ more))
+local_within (alias_alone x k c) = omega arith
+local_within (alias byte name more x c n ends colon e) = omega arith
+local_within (escape {opening = opening} {inside = inside} more x o q e lacks) = omega (arith, ap length e, length-append opening (inside ++ 92 ∷ more), length-append inside (92 ∷ more))
+local_within (escape_in_words inside more x i e) = omega (arith, ap length e, length-append inside (92 ∷ more))
+local_within (atom_utf8 more x q u e) = omega (arith, ap length e)
+local_within (key_utf8 white more x q u b e) = omega arith
+local_within (number x b w) = omega arith
+local_within (colon_after {word = word} more x b p e) = omega (arith, ap length e, length-append word (58 ∷ more))
+local_within (unclosed p n) = omega arith
+local_within (unexpected l p s) = omega arith
+
+local_end : {e : Expected} {text : List ℕ} {k : ℕ} {why : TermCause} → Locally e text k why → k ≡ length text → rank why ≤ 13
+local_end (charlist x) h = omega arith
+local_end (sigil x a b c) h = omega arith
+local_end (heredoc x) h = omega arith
+local_end (bits x) h = omega arith
+local_end (interpolation more x o q e) h = omega arith
+local_end (interpolated_words inside more x i e) h = omega arith
+local_end (float digit more x d g e) h = omega arith
+local_end (alias_alone x k c) h = omega arith
+local_end (alias byte name more x c n ends colon e) h = omega arith
+local_end (escape more x o q e lacks) h = omega arith
+local_end (escape_in_words inside more x i e) h = omega arith
+local_end (atom_utf8 more x q u e) h = omega arith
+local_end (key_utf8 white more x q u b e) h = omega arith
+local_end (number x b w) h = omega arith
+local_end (colon_after more x b p e) h = omega arith
+local_end (unclosed p n) h = omega arith
+local_end (unexpected l p s) h = absurd (omega arith)
+
+local_rank : {e : Expected} {text : List ℕ} {k : ℕ} {why : TermCause} → Locally e text k why → rank why ≤ 14
+local_rank (charlist x) = omega arith
+local_rank (sigil x a b c) = omega arith
+local_rank (heredoc x) = omega arith
+local_rank (bits x) = omega arith
+local_rank (interpolation more x o q e) = omega arith
+local_rank (interpolated_words inside more x i e) = omega arith
+local_rank (float digit more x d g e) = omega arith
+local_rank (alias_alone x k c) = omega arith
+local_rank (alias byte name more x c n ends colon e) = omega arith
+local_rank (escape more x o q e lacks) = omega arith
+local_rank (escape_in_words inside more x i e) = omega arith
+local_rank (atom_utf8 more x q u e) = omega arith
+local_rank (key_utf8 white more x q u b e) = omega arith
+local_rank (number x b w) = omega arith
+local_rank (colon_after more x b p e) = omega arith
+local_rank (unclosed p n) = omega arith
+local_rank (unexpected l p s) = omega arith
+
+-- integers within 128 bits and others
+
+wide_or : (n : ℤ) → IsNarrow (Int n) ⊎ IsWide (Int n)
+wide_or n =
+    by_lt_z n (neg_ℤ (pos (2 ^ 127))) (λ below. inr (λ small. clash_ℤ below small.0))
+    (λ least. by_lt_z n (pos (2 ^ 127)) (λ most. inl (least, most)) (λ above. inr (λ small. clash_ℤ small.1 above)))
+
+-- what the lexer refuses although a token stands there
+pub data Snag (rest : List ℕ) (k : ℕ) (why : TermCause) (tok : Token) (after : List ℕ) : Type 0 where
+  ties : Tied rest tok after → is_plain rest tok ≡ true → Snag rest k why tok after
+  wides : (n : ℤ) → tok ≡ Int n → k ≡ 0 → rank why ≤ 9 → IsWide (Int n) → Snag rest k why tok after
+  fractions : (n : ℤ) (more : List ℕ) → tok ≡ Int n → IsFloat rest → k + length after ≡ length rest → after ≡ 46 ∷ more → rank why ≤ 12 → Snag rest k why tok after
+  three : (more : List ℕ) → tok ≡ Str [] → k ≡ 0 → rank why ≤ 9 → after ≡ 34 ∷ more → Snag rest k why tok after
+
+marred_snag : {rest : List ℕ} {tok : Token} {after : List ℕ} {k : ℕ} {why : TermCause} → Marred rest tok after k why → Snag rest k why tok after
+marred_snag (fraction n more same f sum e) = fractions n more same f sum e (omega arith)
+marred_snag (quotes more e same a) = three more same refl (omega arith) a
+
+term_key : (e : Expected) (n : ℤ) (tok : Token) → tok ≡ Int n → takes e tok ≡ true → e.term ≡ true
+term_key e n tok same h = subst (λ t. takes e t ≡ true) same h
+
+pub outer_key : (s : State) → (expected s).outermost ≡ true → (expected s).key ≡ false
+outer_key (state.Value holes) h = refl
+outer_key (state.Element frame holes) h = absurd (cc)
+outer_key (state.Separator frame holes) h = absurd (cc)
+outer_key (state.Arrow entry frame holes) h = absurd (cc)
+outer_key (state.Done t) h = absurd (cc)
+
+pub snag : (s : State) (rest : List ℕ) (k : ℕ) (why : TermCause) (tok : Token) (after : List ℕ) → IsFirst (expected s) rest k why → Begins rest tok after → takes (expected s) tok ≡ true → Snag rest k why tok after
+snag s rest k why tok after first begins t = by (is_plain rest tok && starts_with 58 after) refl
+  where
+    small : (is_plain rest tok && starts_with 58 after) ≡ false → IsNarrow tok → Snag rest k why tok after
+    small free narrow = marred_snag (calm (expected s) (outer_key s) begins t narrow free first.holds)
+    wide : (n : ℤ) → tok ≡ Int n → IsWide (Int n) → Snag rest k why tok after
+    wide n same w =
+        let b = first.first 0 cause.NumberTooBig (number (term_key (expected s) n tok same t) (subst (λ x. Begins rest x after) same begins) w) in
+        wides n same (⊎_elim (λ l. absurd (omega arith)) (λ l. l.0) b) (⊎_elim (λ l. absurd (omega arith)) (λ l. l.1) b) w
+    free_ : (is_plain rest tok && starts_with 58 after) ≡ false → (x : Token) → tok ≡ x → Snag rest k why tok after
+    free_ free (Int n) same = ⊎_elim (λ narrow. small free (subst (λ y. IsNarrow y) (sym same) narrow)) (λ w. wide n same w) (wide_or n)
+    free_ free (Atom name) same = small free (subst (λ y. IsNarrow y) (sym same) tt)
+    free_ free (Str bytes) same = small free (subst (λ y. IsNarrow y) (sym same) tt)
+    free_ free (Words terms) same = small free (subst (λ y. IsNarrow y) (sym same) tt)
+    free_ free (Key name) same = small free (subst (λ y. IsNarrow y) (sym same) tt)
+    free_ free (Open kind) same = small free (subst (λ y. IsNarrow y) (sym same) tt)
+    free_ free (Close closing) same = small free (subst (λ y. IsNarrow y) (sym same) tt)
+    free_ free Comma same = small free (subst (λ y. IsNarrow y) (sym same) tt)
+    free_ free Arrow same = small free (subst (λ y. IsNarrow y) (sym same) tt)
+    by : (b : Bool) → (is_plain rest tok && starts_with 58 after) ≡ b → Snag rest k why tok after
+    by false free = free_ free tok refl
+    by true e = ties (tied rest tok after e) (and_parts (is_plain rest tok) (starts_with 58 after) e).0
+
+-- such a token is an atom, an integer or a string, which needs no levels
+
+abbrev is_small : Token → Bool
+is_small (Atom name) = true
+is_small (Int n) = true
+is_small (Str bytes) = true
+is_small tok = false
+
+small_need : (s : State) (tok : Token) → is_small tok ≡ true → need s tok ≡ 0
+small_need (state.Value holes) (Atom name) h = refl
+small_need (state.Value holes) (Int n) h = refl
+small_need (state.Value holes) (Str bytes) h = refl
+small_need (state.Element frame holes) (Atom name) h = refl
+small_need (state.Element frame holes) (Int n) h = refl
+small_need (state.Element frame holes) (Str bytes) h = refl
+small_need (state.Separator frame holes) tok h = refl
+small_need (state.Arrow entry frame holes) tok h = refl
+small_need (state.Done t) tok h = refl
+small_need s (Words terms) h = absurd (cc)
+small_need s (Key name) h = absurd (cc)
+small_need s (Open kind) h = absurd (cc)
+small_need s (Close closing) h = absurd (cc)
+small_need s Comma h = absurd (cc)
+small_need s Arrow h = absurd (cc)
+
+plain_small : (text : List ℕ) (tok : Token) → is_plain text tok ≡ true → is_small tok ≡ true
+plain_small text (Atom name) h = refl
+plain_small text (Str bytes) h = refl
+plain_small text (Int n) h = absurd (cc)
+plain_small text (Words terms) h = absurd (cc)
+plain_small text (Key name) h = absurd (cc)
+plain_small text (Open kind) h = absurd (cc)
+plain_small text (Close closing) h = absurd (cc)
+plain_small text Comma h = absurd (cc)
+plain_small text Arrow h = absurd (cc)
+
+snag_small : {rest : List ℕ} {k : ℕ} {why : TermCause} {tok : Token} {after : List ℕ} → Snag rest k why tok after → is_small tok ≡ true
+snag_small {rest = rest} {tok = tok} (ties t p) = plain_small rest tok p
+snag_small (wides n same k r w) = ap is_small same
+snag_small (fractions n more same f sum e r) = ap is_small same
+snag_small (three more same k r e) = ap is_small same
+
+-- the byte behind it begins nothing
+pub record Blocked (tok : Token) (after : List ℕ) : Type 0 where
+  pub byte : ℕ
+  pub more : List ℕ
+  pub single : is_single tok ≡ true
+  pub is : after ≡ byte ∷ more
+  pub solid : past_blank after ≡ None
+  pub unlike : joint_byte byte ≡ false
+
+blocked_by : {tok : Token} {after : List ℕ} (byte : ℕ) (more : List ℕ) → is_single tok ≡ true → after ≡ byte ∷ more → past_blank (byte ∷ more) ≡ None → joint_byte byte ≡ false → Blocked tok after
+blocked_by byte more single e solid unlike = record { byte = byte; more = more; single = single; is = e; solid = subst (λ l. past_blank l ≡ None) (sym e) solid; unlike = unlike }
+
+snag_blocked : {rest : List ℕ} {k : ℕ} {why : TermCause} {tok : Token} {after : List ℕ} → Snag rest k why tok after → Blocked tok after ⊎ ((n : ℤ) × (tok ≡ Int n) × (k ≡ 0) × (rank why ≤ 9) × IsWide (Int n))
+snag_blocked (ties t p) = inl (blocked_by 58 t.more t.single t.colon refl refl)
+snag_blocked (wides n same k r w) = inr (n, same, k, r, w)
+snag_blocked (fractions n more same f sum e r) = inl (blocked_by 46 more (ap is_single same) e refl refl)
+snag_blocked (three more same k r e) = inl (blocked_by 34 more (ap is_single same) e refl refl)
+
+pub small_not_deep : (tokens : List Token) (s : State) (rest : List ℕ) (tok : Token) (after : List ℕ) → runs tokens start ≡ Some s → AllSound s → Begins rest tok after → takes (expected s) tok ≡ true → need s tok ≤ deepest → AreTooDeep (tokens ++ tok ∷ []) → ⊥
+small_not_deep tokens s rest tok after ran sound begins t n too =
+    let next = takes_steps (deepest + 0) s tok (sound 0) t in
+    let e = state_ends (deepest + 0) next.0 (next_sound (deepest + 0) s next.0 tok (sound 0) (token_shallow begins) n next.1) in
+    too.deep e.tokens e.u (first_wants e.u ((tokens ++ tok ∷ []) ++ e.tokens) (passed_back e.u (tokens ++ tok ∷ []) e.tokens start next.0 e.wanted (runs_push tokens tok start s next.0 ran next.1))) e.shallow
+
+-- where the lexer stops the reading stops
+
+placed_done : (t u : Term) (holes : List Hole) → placed t holes ≡ state.Done u → holes ≡ []
+placed_done t u [] e = refl
+placed_done t u (hole ∷ holes) e = absurd (in_slot hole.slot hole.frame e)
+  where
+    in_slot : (place : Slot) (frame : Frame) → placed_in place frame t holes ≡ state.Done u → ⊥
+    in_slot slot.Element frame e = cc
+    in_slot (slot.Keyword name) frame e = cc
+    in_slot slot.EntryKey frame e = cc
+    in_slot (slot.EntryValue entry) frame e = cc
+
+no_holes : (hole : Hole) (holes : List Hole) → hole ∷ holes ≡ [] → ⊥
+no_holes hole holes e = cc
+
+value_done : (t u : Term) (holes : List Hole) → Some (placed t holes) ≡ Some (state.Done u) → is_none holes ≡ true
+value_done t u holes e = ap is_none (placed_done t u holes (some_same e))
+
+part_done : (frame : Frame) (holes : List Hole) (t u : Term) → cond (takes_part frame) (Some (placed t (record { frame = frame; slot = part_slot frame.bracket } ∷ holes))) None ≡ Some (state.Done u) → ⊥
+part_done frame holes t u e =
+    let c = cond_test (takes_part frame) (Some (placed t (record { frame = frame; slot = part_slot frame.bracket } ∷ holes))) (state.Done u) e in
+    no_holes (record { frame = frame; slot = part_slot frame.bracket }) holes (placed_done t u (record { frame = frame; slot = part_slot frame.bracket } ∷ holes) (some_same c.1))
+
+-- a plain token that ends the text's term is the text's own
+plain_outer : (text : List ℕ) (s : State) (tok : Token) (u : Term) → is_plain text tok ≡ true → step s tok ≡ Some (state.Done u) → (expected s).outermost ≡ true
+plain_outer text (state.Value holes) (Atom name) u p e = value_done (term.Atom name) u holes e
+plain_outer text (state.Value holes) (Str bytes) u p e = value_done (term.Str bytes) u holes e
+plain_outer text (state.Element frame holes) (Atom name) u p e = absurd (part_done frame holes (term.Atom name) u e)
+plain_outer text (state.Element frame holes) (Str bytes) u p e = absurd (part_done frame holes (term.Str bytes) u e)
+plain_outer text (state.Separator frame holes) (Atom name) u p e = absurd (cc)
+plain_outer text (state.Separator frame holes) (Str bytes) u p e = absurd (cc)
+plain_outer text (state.Arrow entry frame holes) (Atom name) u p e = absurd (cc)
+plain_outer text (state.Arrow entry frame holes) (Str bytes) u p e = absurd (cc)
+plain_outer text (state.Done t) (Atom name) u p e = absurd (cc)
+plain_outer text (state.Done t) (Str bytes) u p e = absurd (cc)
+plain_outer text s (Int n) u p e = absurd (cc)
+plain_outer text s (Words terms) u p e = absurd (cc)
+plain_outer text s (Key name) u p e = absurd (cc)
+plain_outer text s (Open kind) u p e = absurd (cc)
+plain_outer text s (Close closing) u p e = absurd (cc)
+plain_outer text s Comma u p e = absurd (cc)
+plain_outer text s Arrow u p e = absurd (cc)
+
+-- a plain token by itself
+pub record PlainWord (rest : List ℕ) (tok : Token) (after : List ℕ) : Type 0 where
+  pub word : List ℕ
+  pub split : rest ≡ word ++ after
+  pub alone : Begins word tok []
+  pub plain : is_plain word tok ≡ true
+
+pub plain_word : {rest : List ℕ} {tok : Token} {after : List ℕ} → Begins rest tok after → is_plain rest tok ≡ true → PlainWord rest tok after
+plain_word (bare_atom {name = name} b ends colon e) p =
+    let first : starts_with 58 name ≡ false = subst (λ l. starts_with 58 l ≡ false) (append-nil name) (bare_first name [] b) in
+    record { word = name; split = e; alone = bare_atom b refl refl (sym (append-nil name)); plain = ap not first }
+plain_word (string {inside = inside} {rest = rest} q colon e) p = record { word = 34 ∷ inside ++ 34 ∷ []; split = e ∙ ap (λ l. 34 ∷ l) (sym (append_assoc inside (34 ∷ []) rest)); alone = string q refl refl; plain = refl }
+plain_word (atom a b e) p = absurd (false≢true (sym (ap (λ l. not (starts_with 58 l)) e) ∙ p))
+plain_word (quoted_atom a b e) p = absurd (false≢true (sym (ap (λ l. not (starts_with 58 l)) e) ∙ p))
+plain_word (integer a b c) p = absurd (false≢true p)
+plain_word (words a b c d f) p = absurd (false≢true p)
+plain_word (key white a b c) p = absurd (false≢true p)
+plain_word (quoted_key white a b c d) p = absurd (false≢true p)
+plain_word (opens a) p = absurd (false≢true p)
+plain_word (closes a) p = absurd (false≢true p)
+plain_word (comma a) p = absurd (false≢true p)
+plain_word (arrow a) p = absurd (false≢true p)
+
+fault_tells : (s : State) (rest : List ℕ) (k : ℕ) (why : TermCause) → IsFirst (expected s) rest k why → (tok : Token) (after : List ℕ) → Begins rest tok after → takes (expected s) tok ≡ true → Verdict s rest k why tok after
+fault_tells s rest k why first tok after begins t = by (snag s rest k why tok after first begins t)
+  where
+    by : Snag rest k why tok after → Verdict s rest k why tok after
+    by (wides n same z r w) = early z
+    by (three more same z r e) = early z
+    by (fractions n more same f sum e r) = joined 46 more (ap is_single same) e (subst (λ l. past_blank l ≡ None) (sym e) refl) refl (λ u stepped. inr (sum, r))
+    by (ties d plain) =
+        joined 58 d.more d.single d.colon (subst (λ l. past_blank l ≡ None) (sym d.colon) refl) refl
+        (λ u stepped.
+        let w = plain_word begins plain in
+        let size = length-append w.word after in
+        let whole = ap length w.split in
+        let b = first.first (length w.word) cause.TrailingText (colon_after d.more (plain_outer rest s tok u plain stepped) w.alone w.plain (w.split ∙ ap (λ l. w.word ++ l) d.colon)) in
+        ⊎_elim (λ l. inl (omega arith)) (λ l. let e = l.0 in inr (omega arith, l.1)) b)
+
+abbrev pub NotDone : State → Type 0
+NotDone s = (t : Term) → s ≡ state.Done t → ⊥
+
+pub fault_stop : {text : List ℕ} {tokens : List Token} {s : State} {rest : List ℕ} (at k : ℕ) (why : TermCause) → Trail tokens start s text rest → NotDone s → at + length rest ≡ length text → IsFirst (expected s) rest k why → Stop text tokens s rest at k why
+fault_stop {tokens = tokens} {s = s} {rest = rest} at k why trail open_ place first = record {
+  trail = trail;
+  place = place;
+  within_rest = local_within first.holds;
+  part = first.open_so_far;
+  first = first.first;
+  tells = fault_tells s rest k why first;
+  deep_here = λ tok after begins too.
+      let t = begun_taken tok after begins too in
+      let small = snag_small (snag s rest k why tok after first begins t) in
+      absurd (small_not_deep tokens s rest tok after (trail_runs trail) (trail_sound trail start_sound) begins t (omega (arith, small_need s tok small)) too);
+  done_here = λ t e. absurd (open_ t e);
+  end_rank = local_end first.holds;
+  most_rank = local_rank first.holds;
+}
+  where
+    begun_taken : (tok : Token) (after : List ℕ) → Begins rest tok after → AreTooDeep (tokens ++ tok ∷ []) → takes (expected s) tok ≡ true
+    begun_taken tok after begins too = let n = open_next tokens tok [] s (trail_runs trail) too.begins in step_taken s tok n.0 n.1
+
+-- no key that comes again stands before it
+
+element_placed : (frame : Frame) (holes : List Hole) (s : State) → s ≡ state.Element frame holes → IsPlaced s → ⊥
+element_placed frame holes s e p = by p.0 p.1 (sym p.2 ∙ e)
+  where
+    by : (t : Term) (outer : List Hole) → placed t outer ≡ state.Element frame holes → ⊥
+    by t [] e = cc
+    by t (hole ∷ outer) e = in_slot hole.slot hole.frame e
+      where
+        in_slot : (place : Slot) (other : Frame) → placed_in place other t outer ≡ state.Element frame holes → ⊥
+        in_slot slot.Element other e = cc
+        in_slot (slot.Keyword name) other e = cc
+        in_slot slot.EntryKey other e = cc
+        in_slot (slot.EntryValue entry) other e = cc
+
+-- the token at the stop inside of a key
+pub record InKey (s : State) (tok : Token) (more : List Token) (last : State) : Type 0 where
+  pub next : State
+  pub stepped : step s tok ≡ Some next
+  pub ran : runs more next ≡ Some last
+
+pub in_key : {tokens : List Token} {s : State} {rest : List ℕ} {others : List Token} (h : Held tokens s rest others) → runs tokens start ≡ Some s → InKey s h.tok h.more (state.Arrow h.key h.frame h.holes)
+in_key {tokens = tokens} {s = s} {others = others} h ran =
+    let whole : runs (tokens ++ h.tok ∷ h.more) start ≡ Some (state.Arrow h.key h.frame h.holes) = ap (λ l. runs (l ++ h.tok ∷ h.more) start) h.split ∙ ap (λ l. runs l start) (append_assoc others h.pre (h.tok ∷ h.more)) ∙ h.whole_ran in
+    let w = went tokens h.tok h.more s (state.Arrow h.key h.frame h.holes) ran whole in
+    record { next = w.next; stepped = w.stepped; ran = w.ran }
+
+-- no token that such a byte follows stands inside of a key behind its first
+pub held_blocked : {tokens : List Token} {s : State} {rest : List ℕ} {others : List Token} (h : Held tokens s rest others) → runs tokens start ≡ Some s → Blocked h.tok h.after → ⊥
+held_blocked h ran b =
+    let k = in_key h ran in
+    let q = none_behind k.next (state.Arrow h.key h.frame h.holes) b.byte b.more (single_placed _ h.tok k.next b.single k.stepped) b.is b.solid b.unlike h.leads k.ran in
+    h.some (single_last h.pre h.tok h.reads (ap (λ l. h.pre ++ h.tok ∷ l) q.2) b.single)
+
+-- a key's integers have 128 bits
+pub held_narrow : {tokens : List Token} {s : State} {rest : List ℕ} {others : List Token} (h : Held tokens s rest others) → IsNarrow h.tok
+held_narrow h =
+    let p = passes h.key h.pre (h.tok ∷ h.more) start (wants_first h.key (h.pre ++ h.tok ∷ h.more) h.reads) in
+    (allowed h.key h.fit p.last h.tok h.more p.wanted).small
+
+fault_again : {text : List ℕ} {tokens : List Token} {s : State} {rest : List ℕ} (at k here : ℕ) (why : TermCause) → Stop text tokens s rest at k why → IsFirst (expected s) rest k why → (r : Repeats text here) → Again tokens s rest (r.outer ++ Open bracket.Map ∷ r.inside) r.rest → Beyond (at + k) why here cause.DuplicateKey
+fault_again {tokens = tokens} {s = s} {rest = rest} at k here why stop first r (held h) =
+    let ran = trail_runs stop.trail in
+    let i = in_key h ran in
+    let sn = snag s rest k why h.tok h.after first h.begins (step_taken s h.tok i.next i.stepped) in
+    absurd (⊎_elim (λ b. held_blocked h ran b) (λ w. w.4 (subst (λ x. IsNarrow x) w.1 (held_narrow h))) (snag_blocked sn))
+fault_again {tokens = tokens} {s = s} {rest = rest} at k here why stop first r (starts e p st) = by (snag s rest k why st.tok st.after first st.begins (step_taken s st.tok st.next st.stepped))
+  where
+    same : k ≡ 0 → at + k ≡ here
+    same z = let x = stop.place in let y = r.stands.place in let w = ap length p in omega arith
+    by : Snag rest k why st.tok st.after → Beyond (at + k) why here cause.DuplicateKey
+    by (wides n same_ z q w) = inr (same z, omega arith)
+    by (three more same_ z q e_) = inr (same z, omega arith)
+    by (fractions n more same_ f sum e_ q) = absurd ((st.ended (ap is_single same_)).1 f)
+    by (ties d plain) =
+        let free : (is_plain rest st.tok && starts_with 58 st.after) ≡ false = (st.ended d.single).0 in
+        let both : (is_plain rest st.tok && starts_with 58 st.after) ≡ true = and_from (is_plain rest st.tok) (starts_with 58 st.after) plain (ap (starts_with 58) d.colon) in
+        absurd (true≢false (sym both ∙ free))
+fault_again {tokens = tokens} {s = s} {rest = rest} at k here why stop first r (later b el) =
+    let w = went tokens b.tok b.more s (state.Element el.0 el.1) (trail_runs stop.trail) (subst (λ ts. runs ts start ≡ Some (state.Element el.0 el.1)) b.split el.2) in
+    let sn = snag s rest k why b.tok b.after first b.begins (step_taken s b.tok w.next w.stepped) in
+    ⊎_elim (λ bl. absurd (behind_blocked w bl)) (λ wd. early_beyond at here k 0 why cause.DuplicateKey here b stop.place r.stands.place wd.2 (omega arith)) (snag_blocked sn)
+  where
+    behind_blocked : Went s b.tok b.more (state.Element el.0 el.1) → Blocked b.tok b.after → ⊥
+    behind_blocked w bl =
+        let p = single_placed s b.tok w.next bl.single w.stepped in
+        let q = none_behind w.next (state.Element el.0 el.1) bl.byte bl.more p bl.is bl.solid bl.unlike b.leads w.ran in
+        element_placed el.0 el.1 w.next (sym q.0) p
+
+pub fault_least : {text : List ℕ} {tokens : List Token} {s : State} {rest : List ℕ} (at k : ℕ) (why : TermCause) → Trail tokens start s text rest → NotDone s → at + length rest ≡ length text → IsFirst (expected s) rest k why → (place : ℕ) (other : TermCause) → Holds text place other → Beyond (at + k) why place other
+fault_least at k why trail open_ place first where_ other h =
+    let stop = fault_stop at k why trail open_ place first in
+    ⊎_elim (λ r. subst (λ c. Beyond (at + k) why where_ c) (sym r.0) (fault_again at k where_ why stop first r.1 (again trail r.1))) (λ b. b) (stop_beyond stop h)

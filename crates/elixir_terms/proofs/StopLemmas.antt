@@ -1,0 +1,349 @@
+-- What holds of a text holds no earlier than where the reading stops.
+use Rattle.std.specs.Prelude.{IsTrue, IsFalse, ℤ, pos}
+use Rattle.std.proofs.Common.{◌≡◌, ◌≢◌, ℕ, zero, suc, ◌+◌, ◌<◌, ◌≤◌, ◌⊎◌, inl, inr, Bool, true, false, not, ◌&&◌, eqb, cond, List, [], ◌∷◌, ◌++◌, Option, Some, None, length, take, drop, refl, sym, ap, ◌∙◌, subst, arith, append_assoc, ⊎_elim}
+use Rattle.std.proofs.lemmas.Bool.{true≢false, false≢true}
+use Rattle.std.proofs.lemmas.List.{append-nil, length-append, take-append-drop, take-append-le, length-take-le}
+use Rattle.std.proofs.lemmas.Bool.{cases_lt}
+use Rattle.std.proofs.Math.Nat.{eq-or-lt_of_le}
+use Rattle.std.proofs.Math.Seq.{take-append-add}
+use Rattle.elixir_terms.specs.declared.bracket.Bracket.TheVariants as bracket
+use Rattle.elixir_terms.specs.declared.error.Feature.TheVariants.{Heredoc, Float}
+use Rattle.elixir_terms.specs.declared.error.TermCause.{TermCause}
+use Rattle.elixir_terms.specs.declared.error.TermCause.TheVariants as cause
+use Rattle.elixir_terms.specs.declared.expected.Expected.{Expected}
+use Rattle.elixir_terms.specs.declared.state.State.{State}
+use Rattle.elixir_terms.specs.declared.state.State.TheVariants as state
+use Rattle.elixir_terms.specs.declared.term.Term.{Term}
+use Rattle.elixir_terms.specs.declared.token.Token.{Token}
+use Rattle.elixir_terms.specs.declared.token.Token.TheVariants.{Atom, Int, Str, Words, Key, Open, Close, Comma, Arrow}
+use Rattle.elixir_terms.specs.Grammar.{IsTerm}
+use Rattle.elixir_terms.specs.Lexing.{past_blank, IsNarrow, IsWide}
+use Rattle.elixir_terms.specs.Local as near
+use Rattle.elixir_terms.specs.Local.{IsOpening, IsCapital, is_plain, IsFree, takes, IsPart, rank, Locally}
+use Rattle.elixir_terms.specs.Machine.{step, expected}
+use Rattle.elixir_terms.specs.Names.{is_from, is_name_start, is_blank}
+use Rattle.elixir_terms.specs.Prefixes.{AreOpen, Leads, none as no_token, token as one_token, IsOpenText, StandsAt, TakesTerm, TakesKey, TakesEither}
+use Rattle.elixir_terms.specs.Refusals.{AreTooDeep, Pairs, KeyAhead, IsOneOf, Holds, charlist, sigil, heredoc, bits, interpolation, interpolated_words, float, alias_alone, alias, escape, escape_in_words, atom_utf8, key_utf8, number, deep, repeated, trailing, trailing_colon, unclosed, unexpected}
+use Rattle.elixir_terms.specs.Tokens.{Begins, Blanks, none, AreTokens}
+use Rattle.elixir_terms.specs.Within.{deepest}
+use Rattle.elixir_terms.proofs.BlankLemmas.{blanks_stop}
+use Rattle.elixir_terms.proofs.CalmLemmas.{decimal_begins}
+use Rattle.elixir_terms.proofs.EndLemmas.{state_ends}
+use Rattle.elixir_terms.proofs.FollowLemmas.{Like, same}
+use Rattle.elixir_terms.proofs.Meaning.{Wants}
+use Rattle.elixir_terms.proofs.OpenLemmas.{runs, start, Ran, runs_append, runs_push, open_runs, after_some, open_next, step_taken, Passes, passes, term_expected, key_expected, passed_back}
+use Rattle.elixir_terms.proofs.OptionLemmas.{none_some, some_same}
+use Rattle.elixir_terms.proofs.PlaceLemmas.{blanks_shorter, leads_shorter, Inside, Past, Meets, within, there, behind, meets}
+use Rattle.elixir_terms.proofs.PrefixLemmas.{AllSound, start_sound, trail_sound, next_sound, token_shallow, step_open, part_open}
+use Rattle.elixir_terms.proofs.Runs.{wants_end, wants_first, first_wants}
+use Rattle.elixir_terms.proofs.ShutLemmas.{is_single, is_joint, joint_byte, IsPlaced, single_placed, second_joint, placed_joins, solid_like}
+use Rattle.elixir_terms.proofs.SoundLemmas.{need}
+use Rattle.elixir_terms.proofs.TokenLaws.{begins_one, begins_solid, begins_shorter}
+use Rattle.elixir_terms.proofs.TokenLemmas.{start_not}
+use Rattle.elixir_terms.proofs.TrailLemmas.{Stood, Trail, trail_solid, trail_runs, trail_leads, Fronts, trail_fronts}
+
+-- what holds near a place between two tokens
+pub record Near (text : List ℕ) (place : ℕ) (why : TermCause) : Type 0 where
+  pub at : ℕ
+  pub tokens : List Token
+  pub rest : List ℕ
+  pub k : ℕ
+  pub stands : StandsAt text at tokens rest
+  pub solid : past_blank rest ≡ None
+  pub same : place ≡ at + k
+  pub wants : TakesEither tokens
+  pub local : (s : State) → runs tokens start ≡ Some s → AllSound s → Locally (expected s) rest k why
+
+-- a key of a map that comes again
+pub record Repeats (text : List ℕ) (at : ℕ) : Type 0 where
+  pub rest : List ℕ
+  pub outer : List Token
+  pub inside : List Token
+  pub keys : List Term
+  pub key : Term
+  pub stands : StandsAt text at (outer ++ Open bracket.Map ∷ inside) rest
+  pub starts : AreOpen (outer ++ Open bracket.Map ∷ inside)
+  pub pairs : Pairs inside keys
+  pub ahead : KeyAhead (outer ++ Open bracket.Map ∷ inside) rest key
+  pub again : IsOneOf key keys
+
+-- no earlier than the place, and there no sooner in the order of causes
+abbrev pub Beyond : ℕ → TermCause → ℕ → TermCause → Type 0
+Beyond at why place other = (at < place) ⊎ ((at ≡ place) × (rank why ≤ rank other))
+
+-- what a token tells that begins where the reading stops
+pub data Verdict (s : State) (rest : List ℕ) (k : ℕ) (why : TermCause) (tok : Token) (after : List ℕ) : Type 0 where
+  early : k ≡ 0 → Verdict s rest k why tok after
+  joined : (byte : ℕ) (more : List ℕ) → is_single tok ≡ true → after ≡ byte ∷ more → past_blank after ≡ None → joint_byte byte ≡ false → ((t : Term) → step s tok ≡ Some (state.Done t) → (k + length after < length rest) ⊎ ((k + length after ≡ length rest) × (rank why ≤ 12))) → Verdict s rest k why tok after
+
+-- the reading stops in the state, so many bytes behind the beginning of the rest
+pub record Stop (text : List ℕ) (tokens : List Token) (s : State) (rest : List ℕ) (at k : ℕ) (why : TermCause) : Type 0 where
+  pub trail : Trail tokens start s text rest
+  pub place : at + length rest ≡ length text
+  pub within_rest : k ≤ length rest
+  pub part : IsPart (expected s) (take k rest)
+  pub first : (j : ℕ) (other : TermCause) → Locally (expected s) rest j other → Beyond k why j other
+  pub tells : (tok : Token) (after : List ℕ) → Begins rest tok after → takes (expected s) tok ≡ true → Verdict s rest k why tok after
+  pub deep_here : (tok : Token) (after : List ℕ) → Begins rest tok after → AreTooDeep (tokens ++ tok ∷ []) → (k ≡ 0) × (rank why ≤ 10)
+  pub done_here : (t : Term) → s ≡ state.Done t → (rest ≡ []) ⊎ ((k ≡ 0) × (rank why ≤ 12))
+  pub end_rank : k ≡ length rest → rank why ≤ 13
+  pub most_rank : rank why ≤ 14
+
+-- what stands near
+
+either_expected : (tokens : List Token) (s : State) → runs tokens start ≡ Some s → TakesEither tokens → IsTrue (expected s).term ⊎ IsTrue (expected s).key
+either_expected tokens s ran h = ⊎_elim (λ t. inl (term_expected tokens s ran t)) (λ k. inr (key_expected tokens s ran k)) h
+
+opening_solid : (opening more : List ℕ) → IsOpening opening → past_blank (opening ++ more) ≡ None
+opening_solid opening more o = ⊎_elim (λ e. rw e refl) (λ e. rw e refl) o
+
+start_solid : (byte : ℕ) (more : List ℕ) → is_name_start byte ≡ true → past_blank (byte ∷ more) ≡ None
+start_solid byte more s = rw (start_not byte 35 s refl, start_not byte 32 s refl, start_not byte 9 s refl, start_not byte 13 s refl, start_not byte 10 s refl) refl
+
+capital_start : (byte : ℕ) → is_from 65 90 byte ≡ true → is_name_start byte ≡ true
+capital_start byte c = rw c refl
+
+key_refused : (tokens : List Token) (s : State) → runs tokens start ≡ Some s → AllSound s → (TakesKey tokens → ⊥) → IsFalse (expected s).key
+key_refused tokens s ran sound no_key = by (expected s).key refl
+  where
+    by : (b : Bool) → (expected s).key ≡ b → b ≡ false
+    by false e = refl
+    by true e = absurd (no_key (step_open tokens s (Key []) ran sound tt e))
+
+-- a text that an open one begins with is open
+pub open_less : (text more : List ℕ) → IsOpenText (text ++ more) → IsOpenText text
+open_less text more o = (more ++ o.0, o.1, o.2, subst (λ l. AreTokens o.1 l) (append_assoc text more o.0) o.3, o.4)
+
+-- tokens behind those that were read
+
+pub record Went (s : State) (tok : Token) (more : List Token) (last : State) : Type 0 where
+  pub next : State
+  pub stepped : step s tok ≡ Some next
+  pub ran : runs more next ≡ Some last
+
+pub went : (tokens : List Token) (tok : Token) (more : List Token) (s last : State) → runs tokens start ≡ Some s → runs (tokens ++ tok ∷ more) start ≡ Some last → Went s tok more last
+went tokens tok more s last ran whole =
+    let a = after_some (runs tokens start) (runs (tok ∷ more)) last (sym (runs_append tokens (tok ∷ more) start) ∙ whole) in
+    let same : a.0 ≡ s = some_same (sym a.1 ∙ ran) in
+    let b = after_some (step s tok) (runs more) last (subst (λ x. runs (tok ∷ more) x ≡ Some last) same a.2) in
+    record { next = b.0; stepped = b.1; ran = b.2 }
+
+-- a token that may follow, in the state behind the tokens
+record Last (tokens : List Token) (x : Token) : Type 0 where
+  last : State
+  ran : runs tokens start ≡ Some last
+  next : State
+  stepped : step last x ≡ Some next
+
+last_of : (tokens : List Token) (x : Token) → AreOpen (tokens ++ x ∷ []) → Last tokens x
+last_of tokens x h =
+    let r = open_runs (tokens ++ x ∷ []) h in
+    let a = after_some (runs tokens start) (runs (x ∷ [])) r.last (sym (runs_append tokens (x ∷ []) start) ∙ r.ran) in
+    let b = after_some (step a.0 x) (runs []) r.last a.2 in
+    record { last = a.0; ran = a.1; next = b.0; stepped = b.1 }
+
+-- behind a whole term that such a byte follows stands no token
+pub none_behind : {more : List Token} {after place : List ℕ} (next last : State) (byte : ℕ) (text : List ℕ) → IsPlaced next → after ≡ byte ∷ text → past_blank after ≡ None → joint_byte byte ≡ false → Leads more after place → runs more next ≡ Some last → (last ≡ next) × ((past_blank place ≡ None) → place ≡ after) × (more ≡ [])
+none_behind {after = after} {place = place} next last byte text p e solid j (no_token b) ran = (sym (some_same ran), (λ here. sym (blanks_stop place solid b)), refl)
+none_behind {after = after} next last byte text p e solid j (one_token {start = begin} {after = end} {token = tok} {tokens = more} b begins leads) ran =
+    let same : after ≡ begin = blanks_stop begin solid b in
+    let a = after_some (step next tok) (runs more) last ran in
+    absurd (second_joint next a.0 byte text p e j (subst (λ l. Begins l tok end) (sym same) begins) a.1)
+
+not_joint : (last next : State) (x : Token) → IsPlaced last → is_joint x ≡ false → step last x ≡ Some next → ⊥
+not_joint last next x p j e = true≢false (sym (placed_joins p.0 p.1 x next (subst (λ y. step y x ≡ Some next) p.2 e)) ∙ j)
+
+-- a place behind the first token that was not read
+further : {tokens others : List Token} {rest place : List ℕ} {all : ℕ} (at here : ℕ) (b : Past tokens rest others place) → at + length rest ≡ all → here + length place ≡ all → at < here
+further at here b x y = let a = begins_shorter b.begins in let c = leads_shorter b.leads in omega arith
+
+pub early_beyond : {tokens others : List Token} {rest place : List ℕ} {all : ℕ} (at here k j : ℕ) (why other : TermCause) (where_ : ℕ) (b : Past tokens rest others place) → at + length rest ≡ all → here + length place ≡ all → k ≡ 0 → where_ ≡ here + j → Beyond (at + k) why where_ other
+early_beyond at here k j why other where_ b x y z e = let f = further at here b x y in inl (omega arith)
+
+lifted : (at here k j where_ : ℕ) (why other : TermCause) → at ≡ here → where_ ≡ here + j → Beyond k why j other → Beyond (at + k) why where_ other
+lifted at here k j where_ why other e f b = ⊎_elim (λ l. inl (omega arith)) (λ l. let same_ = l.0 in inr (omega arith, l.1)) b
+
+near_behind : {text : List ℕ} {tokens : List Token} {s : State} {rest : List ℕ} {at k : ℕ} {why : TermCause} (place : ℕ) (other : TermCause) (stop : Stop text tokens s rest at k why) (n : Near text place other) (x : Token) → is_joint x ≡ false → AreOpen (n.tokens ++ x ∷ []) → Past tokens rest n.tokens n.rest → Beyond (at + k) why place other
+near_behind {text = text} {tokens = tokens} {s = s} {rest = rest} {at = at} {k = k} {why = why} place other stop n x j open_ b =
+    let l = last_of n.tokens x open_ in
+    let w = went tokens b.tok b.more s l.last (trail_runs stop.trail) (subst (λ ts. runs ts start ≡ Some l.last) b.split l.ran) in
+    by l w (stop.tells b.tok b.after b.begins (step_taken s b.tok w.next w.stepped))
+  where
+    by : (l : Last n.tokens x) (w : Went s b.tok b.more l.last) → Verdict s rest k why b.tok b.after → Beyond (at + k) why place other
+    by l w (early z) = early_beyond at n.at k n.k why other place b stop.place n.stands.place z n.same
+    by l w (joined byte more single e solid unlike _) =
+        let p = single_placed s b.tok w.next single w.stepped in
+        let q = none_behind w.next l.last byte more p e solid unlike b.leads w.ran in
+        absurd (not_joint w.next l.next x p j (subst (λ y. step y x ≡ Some l.next) q.0 l.stepped))
+
+near_beyond : {text : List ℕ} {tokens : List Token} {s : State} {rest : List ℕ} {at k : ℕ} {why : TermCause} (place : ℕ) (other : TermCause) → Stop text tokens s rest at k why → Near text place other → Beyond (at + k) why place other
+near_beyond {text = text} {tokens = tokens} {s = s} {rest = rest} {at = at} {k = k} {why = why} place other stop n = by (meets n.tokens n.rest stop.trail start_sound n.stands.leads n.solid)
+  where
+    by : Meets tokens start s rest n.tokens n.rest → Beyond (at + k) why place other
+    by (within i) = absurd (i.stood.calm n.k other (n.local i.here i.ran i.sound))
+    by (there e p) =
+        let ran : runs n.tokens start ≡ Some s = subst (λ ts. runs ts start ≡ Some s) (sym e) (trail_runs stop.trail) in
+        let local = subst (λ l. Locally (expected s) l n.k other) p (n.local s ran (trail_sound stop.trail start_sound)) in
+        let x = stop.place in
+        let y = n.stands.place in
+        let z = ap length p in
+        lifted at n.at k n.k place why other (omega arith) n.same (stop.first n.k other local)
+    by (behind b) = ⊎_elim (λ t. near_behind place other stop n (Int (pos 0)) refl t b) (λ t. near_behind place other stop n (Key []) refl t b) n.wants
+
+deep_beyond : {text rest : List ℕ} {tokens : List Token} {s : State} {at k : ℕ} {why : TermCause} (stop : Stop text tokens s rest at k why) (here : ℕ) (others : List Token) (place after : List ℕ) (tok : Token) → StandsAt text here others place → Begins place tok after → AreTooDeep (others ++ tok ∷ []) → Beyond (at + k) why here cause.TooDeep
+deep_beyond {text = text} {rest = rest} {tokens = tokens} {s = s} {at = at} {k = k} {why = why} stop here others place after tok stands begins too = by (meets others place stop.trail start_sound stands.leads (begins_solid begins))
+  where
+    by : Meets tokens start s rest others place → Beyond (at + k) why here cause.TooDeep
+    by (within i) =
+        let one = begins_one begins i.stood.begins in
+        let stepped : step i.here tok ≡ Some i.next = subst (λ t. step i.here t ≡ Some i.next) (sym one.0) i.stood.stepped in
+        let well : need i.here tok ≤ deepest = subst (λ t. need i.here t ≤ deepest) (sym one.0) i.stood.well in
+        let e = state_ends (deepest + 0) i.next (next_sound (deepest + 0) i.here i.next tok (i.sound 0) (token_shallow begins) well stepped) in
+        let ran = runs_push others tok start i.here i.next i.ran stepped in
+        absurd (too.deep e.tokens e.u (first_wants e.u ((others ++ tok ∷ []) ++ e.tokens) (passed_back e.u (others ++ tok ∷ []) e.tokens start i.next e.wanted ran)) e.shallow)
+    by (there e p) =
+        let d = stop.deep_here tok after (subst (λ l. Begins l tok after) p begins) (subst (λ ts. AreTooDeep (ts ++ tok ∷ [])) e too) in
+        let x = stop.place in
+        let y = stands.place in
+        let z = ap length p in
+        let nil = d.0 in
+        inr (omega arith, d.1)
+    by (behind b) =
+        let l = last_of others tok too.begins in
+        let w = went tokens b.tok b.more s l.last (trail_runs stop.trail) (subst (λ ts. runs ts start ≡ Some l.last) b.split l.ran) in
+        told b l w (stop.tells b.tok b.after b.begins (step_taken s b.tok w.next w.stepped))
+      where
+        told : (b : Past tokens rest others place) (l : Last others tok) (w : Went s b.tok b.more l.last) → Verdict s rest k why b.tok b.after → Beyond (at + k) why here cause.TooDeep
+        told b l w (early z) = early_beyond at here k 0 why cause.TooDeep here b stop.place stands.place z (omega arith)
+        told b l w (joined byte more single e solid unlike _) =
+            let p = single_placed s b.tok w.next single w.stepped in
+            let q = none_behind w.next l.last byte more p e solid unlike b.leads w.ran in
+            absurd (second_joint w.next l.next byte more p e unlike (subst (λ x. Begins x tok after) (q.1 (begins_solid begins)) begins) (subst (λ y. step y tok ≡ Some l.next) q.0 l.stepped))
+
+-- a whole term, and more
+pub whole_last : (others : List Token) (t : Term) → IsTerm others t → runs others start ≡ Some (state.Done t)
+whole_last others t h =
+    let p = passes t others [] start (wants_first t (others ++ []) (subst (λ l. IsTerm l t) (sym (append-nil others)) h)) in
+    p.ran ∙ ap Some (wants_end t p.last p.wanted)
+
+done_stuck : (t : Term) (tok : Token) (s next : State) → s ≡ state.Done t → step s tok ≡ Some next → ⊥
+done_stuck t tok s next e h = none_some (subst (λ x. step x tok ≡ Some next) e h)
+
+trailing_beyond : {text rest : List ℕ} {tokens : List Token} {s : State} {at k : ℕ} {why : TermCause} (stop : Stop text tokens s rest at k why) (here byte : ℕ) (others : List Token) (more : List ℕ) (t : Term) → StandsAt text here others (byte ∷ more) → IsTerm others t → past_blank (byte ∷ more) ≡ None → Beyond (at + k) why here cause.TrailingText
+trailing_beyond {text = text} {rest = rest} {tokens = tokens} {s = s} {at = at} {k = k} {why = why} stop here byte others more t stands term_ solid = by (meets others (byte ∷ more) stop.trail start_sound stands.leads solid)
+  where
+    by : Meets tokens start s rest others (byte ∷ more) → Beyond (at + k) why here cause.TrailingText
+    by (within i) = absurd (done_stuck t i.tok i.here i.next (some_same (sym i.ran ∙ whole_last others t term_)) i.stood.stepped)
+    by (there e p) =
+        let done : s ≡ state.Done t = some_same (sym (trail_runs stop.trail) ∙ subst (λ ts. runs ts start ≡ Some (state.Done t)) e (whole_last others t term_)) in
+        let x = stop.place in
+        let y = stands.place in
+        let z = ap length p in
+        ⊎_elim (λ n. absurd (some_rest p n)) (λ d. let nil = d.0 in inr (omega arith, d.1)) (stop.done_here t done)
+      where
+        some_rest : byte ∷ more ≡ rest → rest ≡ [] → ⊥
+        some_rest p n = cc
+    by (behind b) =
+        let w = went tokens b.tok b.more s (state.Done t) (trail_runs stop.trail) (subst (λ ts. runs ts start ≡ Some (state.Done t)) b.split (whole_last others t term_)) in
+        told b w (stop.tells b.tok b.after b.begins (step_taken s b.tok w.next w.stepped))
+      where
+        told : (b : Past tokens rest others (byte ∷ more)) (w : Went s b.tok b.more (state.Done t)) → Verdict s rest k why b.tok b.after → Beyond (at + k) why here cause.TrailingText
+        told b w (early z) = early_beyond at here k 0 why cause.TrailingText here b stop.place stands.place z (omega arith)
+        told b w (joined first others_ single e there_ unlike ends) =
+            let p = single_placed s b.tok w.next single w.stepped in
+            let q = none_behind w.next (state.Done t) first others_ p e there_ unlike b.leads w.ran in
+            let r = ends t (w.stepped ∙ ap Some (sym q.0)) in
+            let x = stop.place in
+            let y = stands.place in
+            let z = ap length (q.1 solid) in
+            ⊎_elim (λ l. inl (omega arith)) (λ l. let f = l.0 in inr (omega arith, l.1)) r
+
+pub some_token : {word : List ℕ} {tok : Token} → Begins word tok [] → (byte : ℕ) × (more : List ℕ) × (word ≡ byte ∷ more)
+some_token {word = word} h = by word (begins_shorter h)
+  where
+    by : (w : List ℕ) → length {A = ℕ} [] < length w → (byte : ℕ) × (more : List ℕ) × (w ≡ byte ∷ more)
+    by [] l = absurd (omega arith)
+    by (byte ∷ more) l = (byte, more, refl)
+
+word_solid : {word : List ℕ} {tok : Token} → Begins word tok [] → (tail : List ℕ) → past_blank (word ++ tail) ≡ None
+word_solid {word = word} h tail =
+    let f = some_token h in
+    let own : past_blank (f.0 ∷ f.1) ≡ None = subst (λ l. past_blank l ≡ None) f.2 (begins_solid h) in
+    subst (λ l. past_blank (l ++ tail) ≡ None) (sym f.2) (solid_like f.0 f.1 (f.1 ++ tail) own)
+
+colon_beyond : {text rest : List ℕ} {tokens : List Token} {s : State} {at k : ℕ} {why : TermCause} (stop : Stop text tokens s rest at k why) (here blank : ℕ) (place word more : List ℕ) (tok : Token) → StandsAt text here [] place → Begins word tok [] → IsTrue (is_plain word tok) → place ≡ word ++ 58 ∷ blank ∷ more → Beyond (at + k) why (here + length word) cause.TrailingText
+colon_beyond {text = text} {rest = rest} {tokens = tokens} {s = s} {at = at} {k = k} {why = why} stop here white place word more tok stands begins plain e = by (meets [] place stop.trail start_sound stands.leads (subst (λ l. past_blank l ≡ None) (sym e) (word_solid begins (58 ∷ white ∷ more))))
+  where
+    local : Locally (expected start) place (length word) cause.TrailingText
+    local = near.colon_after (white ∷ more) refl begins plain e
+    by : Meets tokens start s rest [] place → Beyond (at + k) why (here + length word) cause.TrailingText
+    by (within i) = let first : i.here ≡ start = sym (some_same i.ran) in absurd (i.stood.calm (length word) cause.TrailingText (subst (λ x. Locally (expected x) place (length word) cause.TrailingText) (sym first) local))
+    by (there n p) =
+        let first : start ≡ s = some_same (subst (λ ts. runs ts start ≡ Some s) (sym n) (trail_runs stop.trail)) in
+        let x = stop.place in
+        let y = stands.place in
+        let z = ap length p in
+        lifted at here k (length word) (here + length word) why cause.TrailingText (omega arith) refl
+        (stop.first (length word) cause.TrailingText (subst (λ l. Locally (expected s) l (length word) cause.TrailingText) p (subst (λ x. Locally (expected x) place (length word) cause.TrailingText) first local)))
+    by (behind b) = absurd (no_split tokens b.tok b.more b.split)
+      where
+        no_split : (xs : List Token) (t : Token) (ys : List Token) → [] ≡ xs ++ t ∷ ys → ⊥
+        no_split [] t ys e = cc
+        no_split (x ∷ xs) t ys e = cc
+
+unclosed_beyond : {text rest : List ℕ} {tokens : List Token} {s : State} {at k : ℕ} {why : TermCause} → Stop text tokens s rest at k why → Beyond (at + k) why (length text) cause.Unclosed
+unclosed_beyond stop = let x = stop.place in ⊎_elim (λ e. inr (omega arith, stop.end_rank e)) (λ l. inl (omega arith)) (eq-or-lt_of_le stop.within_rest)
+
+part_like : (rest more : List ℕ) (k : ℕ) → (take k rest ≡ []) ⊎ Like rest (take k rest ++ more)
+part_like rest more zero = inl refl
+part_like [] more (suc k) = inl refl
+part_like (byte ∷ rest) more (suc k) = inr (same byte)
+
+-- what was read up to the stop is an open prefix
+pub stop_open : {text rest : List ℕ} {tokens : List Token} {s : State} {at k : ℕ} {why : TermCause} → Stop text tokens s rest at k why → IsOpenText (take (at + k) text)
+stop_open {text = text} {rest = rest} {s = s} {at = at} {k = k} stop =
+    let f = trail_fronts stop.trail in
+    let x = stop.place in
+    let size : length f.front ≡ at = omega (arith, ap length f.split, length-append f.front rest) in
+    let cut : take (at + k) text ≡ f.front ++ take k rest = ap (λ n. take (n + k) text) (sym size) ∙ ap (take (length f.front + k)) f.split ∙ take-append-add f.front rest k in
+    subst IsOpenText (sym cut) (part_open s f (take k rest) (trail_runs stop.trail) (trail_sound stop.trail start_sound) stop.part (λ more. part_like rest more k))
+
+take_less : (text : List ℕ) (m n : ℕ) → m ≤ n → n ≤ length text → take m (take n text) ≡ take m text
+take_less text m n h l = sym (take-append-le m (take n text) (drop n text) (omega (arith, length-take-le n text l))) ∙ ap (take m) (take-append-drop n text)
+
+unexpected_beyond : {text rest : List ℕ} {tokens : List Token} {s : State} {at k : ℕ} {why : TermCause} → Stop text tokens s rest at k why → (here : ℕ) → (IsOpenText (take (suc here) text) → ⊥) → Beyond (at + k) why here cause.Unexpected
+unexpected_beyond {text = text} {rest = rest} {at = at} {k = k} stop here shut =
+    ⊎_elim (λ l. absurd (shut (less l))) (λ l. ⊎_elim (λ e. inr (e, stop.most_rank)) (λ m. inl m) (eq-or-lt_of_le l)) (cases_lt here (at + k))
+  where
+    less : here < at + k → IsOpenText (take (suc here) text)
+    less l =
+        let x = stop.place in
+        let w = stop.within_rest in
+        let cut : take (suc here) (take (at + k) text) ++ drop (suc here) (take (at + k) text) ≡ take (at + k) text = take-append-drop (suc here) (take (at + k) text) in
+        subst IsOpenText (take_less text (suc here) (at + k) (omega arith) (omega arith)) (open_less (take (suc here) (take (at + k) text)) (drop (suc here) (take (at + k) text)) (subst IsOpenText (sym cut) (stop_open stop)))
+
+near_of : {text rest : List ℕ} {at place : ℕ} {why : TermCause} {tokens : List Token} → StandsAt text at tokens rest → (k : ℕ) → past_blank rest ≡ None → place ≡ at + k → TakesEither tokens → ((s : State) → runs tokens start ≡ Some s → AllSound s → Locally (expected s) rest k why) → Near text place why
+near_of {rest = rest} {at = at} {tokens = tokens} stands k solid sum wants local = record { at = at; tokens = tokens; rest = rest; k = k; stands = stands; solid = solid; same = sum; wants = wants; local = local }
+
+-- all that holds does so no earlier, but perhaps for a key that comes again
+pub stop_beyond : {text rest : List ℕ} {tokens : List Token} {s : State} {at k : ℕ} {why : TermCause} {place : ℕ} {other : TermCause} → Stop text tokens s rest at k why → Holds text place other → ((other ≡ cause.DuplicateKey) × Repeats text place) ⊎ Beyond (at + k) why place other
+stop_beyond {place = place} {other = other} stop (charlist {at = here} stands t) = inr (near_beyond place other stop (near_of stands (0) (refl) (omega arith) (inl t) (λ s ran sound. near.charlist (term_expected _ s ran t))))
+stop_beyond {place = place} {other = other} stop (sigil {at = here} stands t a b c) = inr (near_beyond place other stop (near_of stands (0) (refl) (omega arith) (inl t) (λ s ran sound. near.sigil (term_expected _ s ran t) a b c)))
+stop_beyond {place = place} {other = other} stop (heredoc {at = here} stands t) = inr (near_beyond place other stop (near_of stands (0) (refl) (omega arith) (inl t) (λ s ran sound. near.heredoc (term_expected _ s ran t))))
+stop_beyond {place = place} {other = other} stop (bits {at = here} stands t) = inr (near_beyond place other stop (near_of stands (0) (refl) (omega arith) (inl t) (λ s ran sound. near.bits (term_expected _ s ran t))))
+stop_beyond {place = place} {other = other} stop (interpolation {opening = opening} {inside = inside} more {at = here} stands t o q e) = inr (near_beyond place other stop (near_of stands (length opening + length inside) (subst (λ l. past_blank l ≡ None) (sym e) (opening_solid opening (inside ++ 35 ∷ 123 ∷ more) o)) (omega arith) (t) (λ s ran sound. near.interpolation more (either_expected _ s ran t) o q e)))
+stop_beyond {place = place} {other = other} stop (interpolated_words inside more {at = here} stands t i e) = inr (near_beyond place other stop (near_of stands (3 + length inside) (subst (λ l. past_blank l ≡ None) (sym e) refl) (omega arith) (inl t) (λ s ran sound. near.interpolated_words inside more (term_expected _ s ran t) i e)))
+stop_beyond {place = place} {other = other} stop (float {word = word} digit more {at = here} stands t d g e) = inr (near_beyond place other stop (near_of stands (length word) (subst (λ l. past_blank l ≡ None) (sym e) (begins_solid (decimal_begins word (digit ∷ more) d).1)) (refl) (inl t) (λ s ran sound. near.float digit more (term_expected _ s ran t) d g e)))
+stop_beyond {place = place} {other = other} stop (alias_alone {more = more} {byte = byte} {at = here} {tokens = tokens} stands t no_key c) = inr (near_beyond place other stop (near_of stands (0) (start_solid byte more (capital_start byte c)) (omega arith) (inl t) (λ s ran sound. near.alias_alone (term_expected _ s ran t) (key_refused tokens s ran sound no_key) c)))
+stop_beyond {place = place} {other = other} stop (alias byte name more {at = here} stands t c n ends colon e) = inr (near_beyond place other stop (near_of stands (0) (subst (λ l. past_blank l ≡ None) (sym e) (start_solid byte (name ++ more) (capital_start byte c))) (omega arith) (t) (λ s ran sound. near.alias byte name more (either_expected _ s ran t) c n ends colon e)))
+stop_beyond {place = place} {other = other} stop (escape {opening = opening} {inside = inside} more {at = here} stands t o q e lacks) = inr (near_beyond place other stop (near_of stands (length opening + length inside) (subst (λ l. past_blank l ≡ None) (sym e) (opening_solid opening (inside ++ 92 ∷ more) o)) (omega arith) (t) (λ s ran sound. near.escape more (either_expected _ s ran t) o q e lacks)))
+stop_beyond {place = place} {other = other} stop (escape_in_words inside more {at = here} stands t i e) = inr (near_beyond place other stop (near_of stands (3 + length inside) (subst (λ l. past_blank l ≡ None) (sym e) refl) (omega arith) (inl t) (λ s ran sound. near.escape_in_words inside more (term_expected _ s ran t) i e)))
+stop_beyond {place = place} {other = other} stop (atom_utf8 more {at = here} stands t q u e) = inr (near_beyond place other stop (near_of stands (1) (subst (λ l. past_blank l ≡ None) (sym e) refl) (omega arith) (inl t) (λ s ran sound. near.atom_utf8 more (term_expected _ s ran t) q u e)))
+stop_beyond {place = place} {other = other} stop (key_utf8 white more {at = here} stands t q u b e) = inr (near_beyond place other stop (near_of stands (0) (subst (λ l. past_blank l ≡ None) (sym e) refl) (omega arith) (inr t) (λ s ran sound. near.key_utf8 white more (key_expected _ s ran t) q u b e)))
+stop_beyond {place = place} {other = other} stop (number {at = here} stands t b w) = inr (near_beyond place other stop (near_of stands (0) (begins_solid b) (omega arith) (inl t) (λ s ran sound. near.number (term_expected _ s ran t) b w)))
+stop_beyond stop (deep {rest = place} {after = after} {token = tok} {at = here} {tokens = others} stands begins too) = inr (deep_beyond stop here others place after tok stands begins too)
+stop_beyond stop (repeated {rest = place} outer inside {keys = keys} {key = key} stands starts pairs ahead again) = inl (refl, record { rest = place; outer = outer; inside = inside; keys = keys; key = key; stands = stands; starts = starts; pairs = pairs; ahead = ahead; again = again })
+stop_beyond stop (trailing {more = more} {byte = byte} {at = here} {tokens = others} {t = t} stands whole solid) = inr (trailing_beyond stop here byte others more t stands whole solid)
+stop_beyond stop (trailing_colon {rest = place} {word = word} white more {token = tok} {at = here} stands begins plain b e) = inr (colon_beyond stop here white place word more tok stands begins plain e)
+stop_beyond stop (unclosed o none_) = inr (unclosed_beyond stop)
+stop_beyond {place = place} stop (unexpected l o shut) = inr (unexpected_beyond stop place shut)

@@ -1,0 +1,40 @@
+-- What the reader answers of one token.
+use Rattle.std.specs.Prelude.{◌≡◌, ℕ, List, length, Some, None, IsTrue, set}
+use Rattle.elixir_terms.specs.declared.error.TermCause.{TermCause}
+use Rattle.elixir_terms.specs.declared.error.TermCause.TheVariants.{TooDeep, DuplicateKey, TrailingText}
+use Rattle.elixir_terms.specs.declared.state.State.{State}
+use Rattle.elixir_terms.specs.declared.state.State.TheVariants.{Element, Done}
+use Rattle.elixir_terms.specs.declared.term.Term.{Term}
+use Rattle.elixir_terms.specs.declared.token.Token.{Token}
+use Rattle.elixir_terms.specs.Lexing.{IsNarrow}
+use Rattle.elixir_terms.specs.Local.{IsFree, IsFirst, Locally, takes}
+use Rattle.elixir_terms.specs.Machine.{step, expected, HasLevels, NewKeyword}
+use Rattle.elixir_terms.specs.Tokens.{Begins}
+
+-- a token stands at the front of the text, is one that is expected in the state, and nothing holds of the text there
+pub record Stands (s : State) (text : List ℕ) (token : Token) (after : List ℕ) : Type 0 where
+  pub begins : Begins text token after
+  pub taken : IsTrue (takes (expected s) token)
+  pub narrow : IsNarrow token
+  pub free : IsFree text token after
+  pub whole : (place : ℕ) (why : TermCause) → Locally (expected s) text place why → ⊥
+
+-- and leads to the next state
+pub record Moves (s : State) (text : List ℕ) (next : State) (after : List ℕ) : Type 0 where
+  pub token : Token
+  pub stands : Stands s text token after
+  pub levels : HasLevels s token
+  pub stepped : step s token ≡ Some next
+  pub new : NewKeyword s token
+
+-- no token leads on: where and why
+pub data Stops : State → List ℕ → ℕ → TermCause → Type 0 where
+  trailing : {s : State} {text : List ℕ} (t : Term) → s ≡ Done t → Stops s text 0 TrailingText
+  lexed : {s : State} {text : List ℕ} {k : ℕ} {why : TermCause} → ((t : Term) → s ≡ Done t → ⊥) → IsFirst (expected s) text k why → Stops s text k why
+  deep : {s : State} {text after : List ℕ} (token : Token) → Stands s text token after → (HasLevels s token → ⊥) → Stops s text 0 TooDeep
+  again : {s : State} {text after : List ℕ} (token : Token) → Stands s text token after → HasLevels s token → (NewKeyword s token → ⊥) → Stops s text 0 DuplicateKey
+
+-- the places where the last key began in each open bracket, with this one where a key may begin
+abbrev pub noted : State → ℕ → List ℕ → List ℕ
+noted (Element frame holes) left begun = set begun (length holes) left
+noted s left begun = begun

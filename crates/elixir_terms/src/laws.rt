@@ -1,0 +1,17 @@
+// What holds of every text.
+ghost use Rattle.std.specs.Prelude.{◌≡◌, ℕ, List};
+ghost use Rattle.elixir_terms.specs.declared.error.TermCause.{TermCause};
+ghost use Rattle.elixir_terms.specs.declared.term.Term.{Term};
+ghost use Rattle.elixir_terms.specs.Refusals.{IsRefusal};
+ghost use Rattle.elixir_terms.specs.Spells.{Spells};
+ghost use Rattle.elixir_terms.specs.Within.{Within};
+
+/// No text is refused in two ways.
+pub fn one_refusal()
+    ensures { (text : List ℕ) (at place : ℕ) (why other : TermCause) → IsRefusal text at why → IsRefusal text place other → (at ≡ place) × (why ≡ other) }
+{}
+
+/// No text that spells a term within the limits is refused.
+pub fn no_refusal()
+    ensures { (text : List ℕ) (term : Term) (at : ℕ) (why : TermCause) → Spells text term → Within text term → IsRefusal text at why → ⊥ }
+{}

@@ -1,0 +1,1 @@
+[app: :log, version: "0.3.1"]
