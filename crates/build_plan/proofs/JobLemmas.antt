@@ -1,8 +1,8 @@
 -- One job after another.
-use Rattle.std.proofs.Common.{◌≡◌, ℕ, zero, suc, ◌+◌, ◌<◌, ◌≤◌, ◌⊎◌, inl, inr, Bool, true, false, ◌||◌, List, [], ◌∷◌, ◌++◌, length, take, map, sum, refl, sym, ◌∙◌, ap, ap₂, subst, arith, IsTrue, IsFalse, IfSome, MatchOption, Option, Some, None, Result, Ok, Err, All, Contains}
+use Rattle.std.proofs.Common.{◌≡◌, ℕ, zero, suc, ◌+◌, ◌<◌, ◌≤◌, ◌⊎◌, inl, inr, min, Bool, true, false, ◌||◌, List, [], ◌∷◌, ◌++◌, length, take, map, sum, refl, sym, ◌∙◌, ap, ap₂, subst, arith, IsTrue, IsFalse, IfSome, MatchOption, Option, Some, None, Result, Ok, Err, All, Contains}
 use Rattle.std.specs.Prelude.{nat_lt, nat_le}
 use Rattle.std.specs.List.{slice_get}
-use Rattle.std.proofs.lemmas.Bool.{or_left, or_right, le-leb, lt-leb, le-ltb, lt-ltb}
+use Rattle.std.proofs.lemmas.Bool.{cases_lt, or_left, or_right, le-leb, lt-leb, le-ltb, lt-ltb}
 use Rattle.std.proofs.lemmas.List.{take-append-le, take_all}
 use Rattle.std.proofs.lemmas.List.Elements.{All-contains}
 use Rattle.std.proofs.lemmas.Option.{slice_get_within}
@@ -14,7 +14,7 @@ use Rattle.project_file.specs.declared.settings.Settings.{Settings}
 use Rattle.build_plan.specs.declared.error.PlanError.{PlanError}
 use Rattle.build_plan.specs.declared.error.PlanError.TheVariants.{TooLarge}
 use Rattle.build_plan.specs.declared.found.Found.{Found}
-use Rattle.build_plan.specs.Dependencies.{version_by}
+use Rattle.build_plan.specs.Dependencies.{is_apart, version_by}
 use Rattle.build_plan.specs.Found.{AreSources, IsFound, IsSound}
 use Rattle.build_plan.specs.Jobs.{AllFit, AreFirstJobs, IsJobAt, is_too_large, job_with, places_in, most_bytes, most_files, most_plan_bytes, source_bytes}
 use Rattle.build_plan.specs.Needs.{apps_of}
@@ -102,3 +102,89 @@ post_job files settings rows places order all at row found reached with_found me
 
 pub found_is : (files : List File) (rows : List Row) (places order : List ℕ) (all : List Found) (at : ℕ) (row : Row) (found : Found) (reached : List ℕ) → IsPostWith rows places order all at row found reached → All (IsFound files) all → IsFound files found
 found_is files rows places order all at row found reached with_found meant = All-contains (IsFound files) all found meant with_found.among
+
+-- ---- the same where the store may not tell its files
+
+module _ (settings : Settings) (rows : List Row) (places order : List ℕ) (all : List Found) (at : ℕ) (row : Row) (found : Found) (reached : List ℕ) (with_found : IsPostWith rows places order all at row found reached) where
+  ghost_job : List File → Job
+  ghost_job files = job_with files settings row found.dir (version_by found.project) (places_in order reached) (apps_of rows places reached)
+
+  pub if_job : (told : Option (List File)) (room : ℕ) (sources : List File) (job : Job) → IfSome told (λ files. All (IsFound files) all) → IfSome told (λ files. IsFound files found → AreSources files found.dir room (Some sources)) → job ≡ job_from settings row found.dir (version_by found.project) sources (places_in order reached) (apps_of rows places reached) → IfSome told (λ files. IsJobAt files settings rows places order at job)
+  if_job None room sources job meant read is = tt
+  if_job (Some files) room sources job meant read is =
+      let found_here = found_is files rows places order all at row found reached with_found meant in
+      let same = is ∙ job_from_sources files settings row found.dir (version_by found.project) sources (places_in order reached) (apps_of rows places reached) (read found_here) in
+      subst (IsJobAt files settings rows places order at) (sym same) (post_job files settings rows places order all at row found reached with_found meant)
+
+  pub if_missed : (told : Option (List File)) (room most : ℕ) → most ≡ min room most_bytes → IfSome told (λ files. All (IsFound files) all) → IfSome told (λ files. IsFound files found → AreSources files found.dir most None) → IfSome told (λ files. Misses files settings rows places order row at room)
+  if_missed None room most is meant read = tt
+  if_missed (Some files) room most is meant read =
+      let found_here = found_is files rows places order all at row found reached with_found meant in
+      let stands = post_job files settings rows places order all at row found reached with_found meant in
+      elim (read found_here) [
+        | inl many ↦ (_, stands, refl, inr (inr (inl many)))
+        | inr large ↦ elim (cases_lt most_bytes (bytes_in (sources_of found.dir files))) [
+          | inl above ↦ (_, stands, refl, inr (inl above))
+          | inr below ↦ (_, stands, refl, inr (inr (inr (inl (omega (arith, is, large, below))))))
+        ]
+      ]
+
+  pub known_at : (sources : List File) (job : Job) → job ≡ job_from settings row found.dir (version_by found.project) sources (places_in order reached) (apps_of rows places reached) → IsKnownAt rows places order at job
+  known_at sources job is = record {
+    row = row;
+    reached = reached;
+    post = with_found.post;
+    app = ap (λ (j : Job). j.app) is;
+    needs = ap (λ (j : Job). j.needs) is;
+    need_apps = ap (λ (j : Job). j.need_apps) is;
+    apart = subst (λ (dir : List ℕ). IsTrue (is_apart dir)) (sym (ap (λ (j : Job). j.dir) is)) with_found.sound.apart;
+  }
+
+  pub if_many : (told : Option (List File)) (room : ℕ) (error : PlanError) → most_jobs ≤ at → error ≡ TooLarge row.app → IfSome told (λ files. All (IsFound files) all) → IfSome told (λ files. RefusesJob files settings rows places order at room error)
+  if_many None room error many is meant = tt
+  if_many (Some files) room error many is meant = (_, post_job files settings rows places order all at row found reached with_found meant, inl many, is)
+
+pub if_refused_missed : (told : Option (List File)) (settings : Settings) (rows : List Row) (places order : List ℕ) (row : Row) (at room : ℕ) (error : PlanError) → error ≡ TooLarge row.app → IfSome told (λ files. Misses files settings rows places order row at room) → IfSome told (λ files. RefusesJob files settings rows places order at room error)
+if_refused_missed None settings rows places order row at room error is missed = tt
+if_refused_missed (Some files) settings rows places order row at room error is missed = refuses_missed files settings rows places order row at room error is missed
+
+pub if_refused_sent : (told : Option (List File)) (settings : Settings) (rows : List Row) (places order : List ℕ) (row : Row) (at room : ℕ) (error : PlanError) (job : Job) → error ≡ TooLarge row.app → job.app ≡ row.app → most_sent < sent_size job → IfSome told (λ files. IsJobAt files settings rows places order at job) → IfSome told (λ files. RefusesJob files settings rows places order at room error)
+if_refused_sent None settings rows places order row at room error job is app large stands = tt
+if_refused_sent (Some files) settings rows places order row at room error job is app large stands =
+    (job, stands, inr (inr (inr (inr large))), is ∙ ap (λ (name : List ℕ). TooLarge name) (sym app))
+
+pub if_refuses_jobs : (told : Option (List File)) (settings : Settings) (rows : List Row) (places order : List ℕ) (jobs : List Job) (at room : ℕ) (error : PlanError) → at < length order → length jobs ≡ at → IfSome told (λ files. (k : ℕ) (job : Job) → slice_get jobs k ≡ Some job → IsJobAt files settings rows places order k job) → AllFit jobs → room + source_bytes jobs ≡ most_plan_bytes → IfSome told (λ files. RefusesJob files settings rows places order at room error) → IfSome told (λ files. RefusesJobs files settings rows places order error)
+if_refuses_jobs None settings rows places order jobs at room error within long each fit left refused = tt
+if_refuses_jobs (Some files) settings rows places order jobs at room error within long each fit left refused =
+    refuses_jobs files settings rows places order jobs room error (omega (arith, within, long)) each fit left
+    (subst (λ (n : ℕ). RefusesJob files settings rows places order n room error) (sym long) refused)
+
+pub if_first_jobs : (told : Option (List File)) (settings : Settings) (rows : List Row) (places order : List ℕ) (jobs : List Job) → length jobs ≤ length order → IfSome told (λ files. (k : ℕ) (job : Job) → slice_get jobs k ≡ Some job → IsJobAt files settings rows places order k job) → IfSome told (λ files. AreFirstJobs files settings rows places order jobs)
+if_first_jobs None settings rows places order jobs few each = tt
+if_first_jobs (Some files) settings rows places order jobs few each = record { few = few; each = each }
+
+-- one job more
+pub if_jobs_more : (told : Option (List File)) (settings : Settings) (rows : List Row) (places order : List ℕ) (jobs new : List Job) (at : ℕ) (job : Job) → new ≡ jobs ++ job ∷ [] → length jobs ≡ at → IfSome told (λ files. (k : ℕ) (j : Job) → slice_get jobs k ≡ Some j → IsJobAt files settings rows places order k j) → IfSome told (λ files. IsJobAt files settings rows places order at job) → IfSome told (λ files. (k : ℕ) (j : Job) → slice_get new k ≡ Some j → IsJobAt files settings rows places order k j)
+if_jobs_more None settings rows places order jobs new at job pushed long each is = tt
+if_jobs_more (Some files) settings rows places order jobs new at job pushed long each is =
+    subst (λ (js : List Job). (k : ℕ) (j : Job) → slice_get js k ≡ Some j → IsJobAt files settings rows places order k j) (sym pushed)
+    (each_more (IsJobAt files settings rows places order) jobs job each (subst (λ (n : ℕ). IsJobAt files settings rows places order n job) (sym long) is))
+
+pub known_more : (rows : List Row) (places order : List ℕ) (jobs new : List Job) (at : ℕ) (job : Job) → new ≡ jobs ++ job ∷ [] → length jobs ≡ at → ((k : ℕ) (j : Job) → slice_get jobs k ≡ Some j → IsKnownAt rows places order k j) → IsKnownAt rows places order at job → (k : ℕ) (j : Job) → slice_get new k ≡ Some j → IsKnownAt rows places order k j
+known_more rows places order jobs new at job pushed long each is =
+    subst (λ (js : List Job). (k : ℕ) (j : Job) → slice_get js k ≡ Some j → IsKnownAt rows places order k j) (sym pushed)
+    (each_more (IsKnownAt rows places order) jobs job each (subst (λ (n : ℕ). IsKnownAt rows places order n job) (sym long) is))
+
+pub sent_more : (jobs new : List Job) (job : Job) → new ≡ jobs ++ job ∷ [] → ((k : ℕ) (j : Job) → slice_get jobs k ≡ Some j → sent_size j ≤ most_sent) → sent_size job ≤ most_sent → (k : ℕ) (j : Job) → slice_get new k ≡ Some j → sent_size j ≤ most_sent
+sent_more jobs new job pushed each is =
+    subst (λ (js : List Job). (k : ℕ) (j : Job) → slice_get js k ≡ Some j → sent_size j ≤ most_sent) (sym pushed)
+    (each_more (λ k j. sent_size j ≤ most_sent) jobs job each is)
+
+pub fit_more : (jobs new : List Job) (at room : ℕ) (job : Job) → new ≡ jobs ++ job ∷ [] → length jobs ≡ at → room + source_bytes jobs ≡ most_plan_bytes → AllFit jobs → Fits at room job → AllFit new
+fit_more jobs new at room job pushed long left fit fits =
+    subst AllFit (sym pushed) (all_fit_more jobs job fit (fits_well jobs job room left (subst (λ (n : ℕ). Fits n room job) (sym long) fits)))
+
+pub room_more : (jobs new : List Job) (room rest : ℕ) (job : Job) → new ≡ jobs ++ job ∷ [] → rest + bytes_in job.sources ≡ room → room + source_bytes jobs ≡ most_plan_bytes → rest + source_bytes new ≡ most_plan_bytes
+room_more jobs new room rest job pushed left so_far =
+    let here : source_bytes new ≡ source_bytes jobs + bytes_in job.sources = ap source_bytes pushed ∙ source_bytes_push jobs job in
+    omega (arith, here, left, so_far)

@@ -1,6 +1,11 @@
 pub mod JobLemmas
+pub mod LineLemmas
 pub mod ManagerLemmas
 pub mod NeedLemmas
 pub mod PlanLemmas
 pub mod PlannedLemmas
 pub mod Positions
+pub mod PostLemmas
+pub mod SearchLemmas
+pub mod VersionsLemmas
+pub mod SceneLemmas

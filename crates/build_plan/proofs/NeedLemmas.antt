@@ -5,7 +5,7 @@ use Rattle.std.specs.Option.{is_some, option_map, option_and_then}
 use Rattle.std.specs.BTreeMap.{BTreeMap, UpdatesBy}
 use Rattle.std.specs.Ordering.{is_eq}
 use Rattle.std.proofs.lemmas.Bool.{both_ways, false≢true}
-use Rattle.std.proofs.lemmas.List.{take_more, length-take, length-map, get_or_default}
+use Rattle.std.proofs.lemmas.List.{take_more, take_all, length-take, length-map, get_or_default}
 use Rattle.std.proofs.lemmas.List.Elements.{filter-append, filter_map-append}
 use Rattle.std.proofs.lemmas.List.Quantifiers.{position-Some}
 use Rattle.std.proofs.lemmas.Option.{slice_get-map, slice_get_within, slice_get_read, slice_get-get_or, get_or_from_slice_get, none-some}
@@ -135,3 +135,52 @@ graph_within rows places k d within =
         get_or_default (graph_of rows places) k d [] within ∙ get_or_map (direct_needs rows places) places k inside in
     let long : length (graph_of rows places) ≡ length places = length-map places (direct_needs rows places) in
     rw is (rw long (nodes_within rows places (filter (λ (r : Row). is_child_at (get_or places k 0) r.by) rows)))
+
+-- ---- the loops
+
+pub nothing_added : (needs more : List ℕ) → more ≡ [] → needs ≡ needs ++ more
+nothing_added needs more none = sym (ap (λ (l : List ℕ). needs ++ l) none ∙ append-nil needs)
+
+pub node_row : (rows : List Row) (places : List ℕ) (i : ℕ) (row : Row) → i < length places → All (λ place. place < length rows) places → row ≡ get_or rows (get_or places i 0) row → slice_get rows (get_or places i 0) ≡ Some row
+node_row rows places i row within all is = slice_get_read rows (length rows) (get_or places i 0) row refl (all i 0 within) is
+
+pub same_place : (places : List ℕ) (i : ℕ) → i < length places → get_or places i 0 ≡ get_or places i (get_or places i 0)
+same_place places i within = get_or_default places i 0 (get_or places i 0) within
+
+pub row_added : (rows : List Row) (places known : List ℕ) (i : ℕ) (row : Row) (old new : List (List ℕ)) → known ≡ places → i < length rows → row ≡ get_or rows i row → ((node : ℕ) → node < length places → needs_of old node ≡ needs_from rows places (take i rows) (get_or places node 0)) → ((node : ℕ) → node < length known → needs_of new node ≡ needs_of old node ++ needs_from rows known (row ∷ []) (get_or known node 0)) → (node : ℕ) → node < length places → needs_of new node ≡ needs_from rows places (take (i + 1) rows) (get_or places node 0)
+row_added rows places known i row old new same within is so_far added node inside =
+    let here : needs_of new node ≡ needs_of old node ++ needs_from rows places (row ∷ []) (get_or places node 0) =
+        subst (λ (ps : List ℕ). (node : ℕ) → node < length ps → needs_of new node ≡ needs_of old node ++ needs_from rows ps (row ∷ []) (get_or ps node 0)) same added node inside in
+    here
+    ∙ ap (λ (l : List ℕ). l ++ needs_from rows places (row ∷ []) (get_or places node 0)) (so_far node inside)
+    ∙ sym (needs_from_more rows places i row (get_or places node 0) within is)
+
+pub graph_done : (rows : List Row) (places : List ℕ) (i : ℕ) (needs : List (List ℕ)) → length rows ≤ i → length needs ≡ length places → ((node : ℕ) → node < length places → needs_of needs node ≡ needs_from rows places (take i rows) (get_or places node 0)) → needs ≡ graph_of rows places
+graph_done rows places i needs past long each =
+    is_whole_graph rows places needs long (λ node inside. each node inside ∙ ap (λ (part : List Row). needs_from rows places part (get_or places node 0)) (take_all i rows past))
+
+-- ---- the apps of nodes
+
+pub no_place : (rows : List Row) (places : List ℕ) (node : ℕ) (apps : List (List ℕ)) → None ≡ slice_get places node → apps ≡ apps ++ apps_of rows places (node ∷ [])
+no_place rows places node apps none =
+    sym (ap (λ (o : Option ℕ). apps ++ cons_option (option_and_then (app_of rows) o) []) (sym none) ∙ append-nil apps)
+
+pub no_row : (rows : List Row) (places : List ℕ) (node place : ℕ) (apps : List (List ℕ)) → Some place ≡ slice_get places node → None ≡ slice_get rows place → apps ≡ apps ++ apps_of rows places (node ∷ [])
+no_row rows places node place apps some none =
+    sym (ap (λ (o : Option ℕ). apps ++ cons_option (option_and_then (app_of rows) o) []) (sym some)
+    ∙ ap (λ (o : Option Row). apps ++ cons_option (option_map (λ (r : Row). r.app) o) []) (sym none)
+    ∙ append-nil apps)
+
+pub one_app : (rows : List Row) (places : List ℕ) (node place : ℕ) (row : Row) (apps new : List (List ℕ)) (app : List ℕ) → Some place ≡ slice_get places node → Some row ≡ slice_get rows place → app ≡ row.app → new ≡ apps ++ app ∷ [] → new ≡ apps ++ apps_of rows places (node ∷ [])
+one_app rows places node place row apps new app some there same pushed =
+    pushed
+    ∙ ap (λ (a : List ℕ). apps ++ a ∷ []) same
+    ∙ sym (ap (λ (o : Option ℕ). apps ++ cons_option (option_and_then (app_of rows) o) []) (sym some)
+    ∙ ap (λ (o : Option Row). apps ++ cons_option (option_map (λ (r : Row). r.app) o) []) (sym there))
+
+pub apps_more : (rows : List Row) (places nodes : List ℕ) (i : ℕ) (old new : List (List ℕ)) → i < length nodes → old ≡ apps_of rows places (take i nodes) → new ≡ old ++ apps_of rows places (get_or nodes i 0 ∷ []) → new ≡ apps_of rows places (take (i + 1) nodes)
+apps_more rows places nodes i old new within so_far added =
+    added
+    ∙ ap (λ (l : List (List ℕ)). l ++ apps_of rows places (get_or nodes i 0 ∷ [])) so_far
+    ∙ sym (filter_map-append (λ (node : ℕ). option_and_then (app_of rows) (slice_get places node)) (take i nodes) (get_or nodes i 0 ∷ []))
+    ∙ ap (apps_of rows places) (sym (take_more nodes i 0 within))

@@ -40,7 +40,7 @@ has_files files dir = is_apart dir && not (is_empty (paths_below dir files))
 -- what an app with this winner declares in turn, or why that isn't known: the declarations of its manifest
 -- that are for the winner's environment
 pub data AreChildren (files : List File) (app : List ℕ) (winner : Decl) : Result (List Decl) ChildFault → Type 0 where
-  unlocked : (package : List ℕ) → winner.source ≡ Hex package → AreChildren files app winner (Err (NotLocked app))
+  unlocked : (name : List ℕ) → winner.source ≡ Hex name → AreChildren files app winner (Err (NotLocked app))
   missing : (dir : List ℕ) → winner.source ≡ Path dir → IsFalse (has_files files dir) → AreChildren files app winner (Err (PathMissing app dir))
   refused : (dir : List ℕ) {fault : ProjectError} → winner.source ≡ Path dir → IsTrue (has_files files dir) → IsLoaded files dir (Err fault) → AreChildren files app winner (Err (Refused (manifest_at dir) fault))
   declared : (dir : List ℕ) {found : Option Project} → winner.source ≡ Path dir → IsTrue (has_files files dir) → IsLoaded files dir (Ok found) → AreChildren files app winner (Ok (filter (λ decl. admits decl.only winner.env) (declared_by found)))

@@ -63,6 +63,7 @@ fn nodes_of<'a>(
 }
 
 /// Adds what a row says of the needs of the winner that declares it.
+#[tactic(auto, using(crate::proofs::NeedLemmas::nothing_added))]
 fn add_row(
     needs: &mut Vec<Places>,
     rows: &[Row],
@@ -91,6 +92,7 @@ fn add_need(needs: &mut Vec<Places>, node: usize, need: usize) -> Result<(), All
 }
 
 /// Which winner declares a row, and which one it needs by that.
+#[tactic(auto, using(crate::proofs::NeedLemmas::no_child, crate::proofs::NeedLemmas::no_node, crate::proofs::NeedLemmas::one_need))]
 fn need_of(rows: &[Row], nodes: &Nodes<'_>, row: &Row) -> Option<(usize, usize)>
     requires in_order { AllPairs (λ earlier later. earlier < later) nodes.now.places.now }
     requires nodes { AreNodes rows.now nodes.now.places.now (λ app. get_by (λ key. text_cmp app key.now) nodes.now.by_app) }
@@ -155,5 +157,6 @@ fn add_app(
     let Some(row) = rows.get(*place as usize) else {
         return Ok(());
     };
-    apps.push(row.app.clone()?)
+    apps.push(row.app.clone()?)?;
+    Ok(())
 }

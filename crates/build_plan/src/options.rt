@@ -1,12 +1,12 @@
 // The options text of a job.
-ghost use Rattle.std.specs.Prelude.{◌≡◌, [], ◌∷◌, map, IfOk};
+ghost use Rattle.std.specs.Prelude.{◌≡◌, [], ◌∷◌, ◌++◌, map, IfOk, OnOk};
 ghost use Rattle.elixir_terms.specs.declared.term.Term.TheVariants as term;
-ghost use Rattle.build_plan.specs.Options.{keyword, truth, manager_name, compile_term, compiler_term, variable_term, options_term, options_text};
+ghost use Rattle.build_plan.specs.Options.{names_terms, compiler_terms, keyword, truth, manager_name, compile_term, compiler_term, variable_term, options_term, options_text};
 
 use compile_model::How;
 use dep_options::{CompileBy, Decl, Manager};
 use elixir_terms::{Term, Terms, print};
-use mx_base::{Bytes, Text, Variable};
+use mx_base::{Bytes, Text, Variable, Variables};
 use std::alloc::{AllocError, Global};
 
 /// All that a declaration says of how it is compiled, with the version, the manager and the compiler of its app.
@@ -33,15 +33,46 @@ fn options_term(
     ensures { IfOk result (λ made. made ≡ options_term version.now decl.now manager how.now) }
 {
     let mut parts = Terms::new(alloc);
-    parts.push(keyword(alloc, "app", atom(alloc, decl.app.as_str())?)?)?;
-    parts.push(keyword(alloc, "version", string(alloc, version.as_slice())?)?)?;
-    parts.push(keyword(alloc, "env", atom(alloc, decl.env.as_str())?)?)?;
-    parts.push(keyword(alloc, "manager", atom(alloc, manager_name(manager))?)?)?;
-    parts.push(keyword(alloc, "compile", compile_term(alloc, &decl.compile)?)?)?;
-    parts.push(keyword(alloc, "compiler", compiler_term(alloc, how)?)?)?;
-    parts.push(keyword(alloc, "app_file", truth(alloc, decl.app_file)?)?)?;
-    parts.push(keyword(alloc, "system_env", variables_term(alloc, decl.system_env.as_slice())?)?)?;
+    add_names(alloc, &mut parts, version, decl, manager)?;
+    add_compiler(alloc, &mut parts, decl, how)?;
     Ok(Term::List(parts))
+}
+
+/// Adds what the app is.
+fn add_names(
+    alloc: Global,
+    parts: &mut Terms,
+    version: &Text,
+    decl: &Decl,
+    manager: Manager,
+) -> Result<(), AllocError>
+    ensures { OnOk result (parts.new ≡ parts.old ++ names_terms version.now decl.now manager) }
+{
+    parts.push(keyword(alloc, "app", atom(alloc, decl.app.as_str())?)?)?;
+    let version = string(alloc, version.as_slice())?;
+    parts.push(keyword(alloc, "version", version)?)?;
+    parts.push(keyword(alloc, "env", atom(alloc, decl.env.as_str())?)?)?;
+    let manager = atom(alloc, manager_name(manager))?;
+    parts.push(keyword(alloc, "manager", manager)?)
+}
+
+/// Adds how it is compiled.
+fn add_compiler(
+    alloc: Global,
+    parts: &mut Terms,
+    decl: &Decl,
+    how: &How,
+) -> Result<(), AllocError>
+    ensures { OnOk result (parts.new ≡ parts.old ++ compiler_terms decl.now how.now) }
+{
+    let compile = compile_term(alloc, &decl.compile)?;
+    parts.push(keyword(alloc, "compile", compile)?)?;
+    let compiler = compiler_term(alloc, how)?;
+    parts.push(keyword(alloc, "compiler", compiler)?)?;
+    let app_file = truth(alloc, decl.app_file)?;
+    parts.push(keyword(alloc, "app_file", app_file)?)?;
+    let variables = variables_term(alloc, &decl.system_env)?;
+    parts.push(keyword(alloc, "system_env", variables)?)
 }
 
 fn atom(alloc: Global, name: &str) -> Result<Term, AllocError>
@@ -117,7 +148,13 @@ fn words_term(alloc: Global, words: &[Text]) -> Result<Term, AllocError>
     Ok(Term::List(parts))
 }
 
-fn variables_term(alloc: Global, variables: &[Variable]) -> Result<Term, AllocError>
+fn variables_term(alloc: Global, variables: &Variables) -> Result<Term, AllocError>
+    ensures { IfOk result (λ made. made ≡ term.List (map variable_term variables.now)) }
+{
+    pairs_term(alloc, variables.as_slice())
+}
+
+fn pairs_term(alloc: Global, variables: &[Variable]) -> Result<Term, AllocError>
     ensures { IfOk result (λ made. made ≡ term.List (map variable_term variables.now)) }
 {
     let mut parts = Terms::new(alloc);

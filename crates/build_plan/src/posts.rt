@@ -56,6 +56,7 @@ impl<'a> Scene<'a> {
     fn found_at(&self, place: u32) -> &'a Found
         requires winning { AreWinners self.now.rows.now self.now.winners.now }
         requires founds { AllZip (IsFoundAt self.now.rows.now) self.now.winners.now self.now.found.now }
+        requires long { length self.now.found.now ≡ length self.now.winners.now }
         requires has { Contains self.now.winners.now place }
         ensures at { IsFoundAt self.now.rows.now place result.now }
         ensures among { Contains self.now.found.now result.now }

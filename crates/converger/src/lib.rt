@@ -17,3 +17,4 @@ mod web;
 
 pub use converged::{ConvergeError, Converged, Versions, converge, for_env};
 pub use divergence::{Divergence, Divergences, Rule};
+pub use reach::admits;

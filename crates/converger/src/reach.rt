@@ -48,7 +48,7 @@ fn start_at(web: &Web<'_>, env: &str, place: usize) -> Option<u32>
 }
 
 /// Whether a declaration is for the environment.
-pub(crate) fn admits(only: &Option<Names>, env: &str) -> bool
+pub fn admits(only: &Option<Names>, env: &str) -> bool
     ensures { result ≡ admits only.now env.now }
 {
     match only {

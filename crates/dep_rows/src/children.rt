@@ -36,6 +36,9 @@ pub trait Children {
 
     ghost made_over: { Self → Basis };
 
+    /// What holds of it between calls.
+    ghost stands: { Self → Type 0 };
+
     /// The children of the app with this winner.
     fn children(
         &mut self,
@@ -43,9 +46,11 @@ pub trait Children {
         app: &AppName,
         winner: &Decl,
     ) -> Result<Vec<Decl>, Self::Fault>
+        requires { stands self.old }
         ensures answer { IfSome (meaning self.old) (λ known. MatchResult result (λ decls. children_of known app.now winner.now (Ok decls.items)) (λ fault. MayEndIn is_outside is_memory (children_of known app.now winner.now) fault)) }
         ensures meaning { meaning self.new ≡ meaning self.old }
         ensures made_over { made_over self.new ≡ made_over self.old }
+        ensures stands { stands self.new }
         ensures cause { Counted (faults self.old) (faults self.new) (fails is_outside result) };
 
     /// Each winner has one answer at most.

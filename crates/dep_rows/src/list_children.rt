@@ -79,6 +79,8 @@ impl<P: Faults + Drop> Children for ListChildren<P> {
 
     ghost made_over = { λ list. list.answers };
 
+    ghost stands = { λ _. Unit {0} };
+
     ghost one = { λ list app winner answer other is also. is ∙ sym also };
 
     ghost told = { λ list app winner fault is. listed_is_reason list.answers app fault (sym is) };

@@ -21,11 +21,13 @@ pub fn rows<C: Children>(
     root: &[Decl],
     children: &mut C,
 ) -> Result<Rows, RowsError<C::Fault>>
+    requires { C.stands children.old }
     ensures read { IfOk result (λ answer. IfSome (C.meaning children.old) (λ known. AreRows (C.children_of known) root.now answer.rows answer.winners)) }
     ensures within { IfOk result (λ answer. IsWithinLimit answer) }
     ensures refused { IfErr result (λ error. IfSome (C.meaning children.old) (λ known. HasCause C.is_outside C.is_memory (C.children_of known) root.now error)) }
     ensures meaning { C.meaning children.new ≡ C.meaning children.old }
     ensures made_over { C.made_over children.new ≡ C.made_over children.old }
+    ensures stands { C.stands children.new }
     ensures cause { Counted (C.faults children.old) (C.faults children.new) (fails (is_child_fault C.is_outside) result) }
 {
     if root.len() > MOST_ROWS {
@@ -52,11 +54,13 @@ fn bring_in<C: Children>(
     requires within { winner < vec_len listing.old.rows }
     requires few { vec_len listing.old.rows ≤ most_rows }
     requires apps { HasRequiredApps listing.old.apps listing.old.rows.items }
+    requires stands { C.stands children.old }
     ensures ok { OnOk result (BringsIn C.children_of (C.meaning children.old) winner listing.old.rows.items listing.new.rows.items listing.old.winners.items listing.new.winners.items) }
     ensures apps { OnOk result (HasRequiredApps listing.new.apps listing.new.rows.items) }
     ensures err { IfErr result (λ error. IfSome (C.meaning children.old) (λ known. Hinders C.is_outside C.is_memory (C.children_of known) listing.old.rows.items winner error)) }
     ensures meaning { C.meaning children.new ≡ C.meaning children.old }
     ensures made_over { C.made_over children.new ≡ C.made_over children.old }
+    ensures stands { C.stands children.new }
     ensures cause { Counted (C.faults children.old) (C.faults children.new) (fails (is_child_fault C.is_outside) result) }
 {
     let row = &listing.rows[winner as usize];

@@ -19,6 +19,7 @@ loop-asked-init g c =
       apps = c.in_ok-add_all.ensures.apps;
       meaning = refl;
       made_over = refl;
+      standing = c.requires;
       faults = refl;
     }
 
@@ -65,6 +66,7 @@ loop-asked-preserved g c =
       apps = c.in_ok-bring_in.ensures.apps;
       meaning = c.in_ok-bring_in.ensures.meaning ∙ at.invariant.meaning;
       made_over = c.in_ok-bring_in.ensures.made_over ∙ at.invariant.made_over;
+      standing = c.in_ok-bring_in.ensures.stands;
       faults = c.in_ok-bring_in.ensures.cause.kept (refl {a = false}) ∙ at.invariant.faults;
     }
 

@@ -10,6 +10,7 @@ invariant-loop-asked g l = record {
   apps : HasRequiredApps l.listing.apps l.listing.rows.items;
   meaning : g.C.Children.meaning l.children ≡ g.C.Children.meaning l.fn.children;
   made_over : g.C.Children.made_over l.children ≡ g.C.Children.made_over l.fn.children;
+  standing : g.C.Children.stands l.children;
   faults : g.C.Children.faults l.children ≡ g.C.Children.faults l.fn.children;
 }
 
