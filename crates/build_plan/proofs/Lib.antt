@@ -9,3 +9,4 @@ pub mod PostLemmas
 pub mod SearchLemmas
 pub mod VersionsLemmas
 pub mod SceneLemmas
+pub mod OptionLemmas

@@ -116,17 +116,17 @@ is_whole_graph rows places needs long each =
     (λ k within. let inside : k < length places = omega (arith, within, length-map places (direct_needs rows places)) in
     each k inside ∙ sym (get_or_map (direct_needs rows places) places k inside))
 
+first_within : (n node : ℕ) (nodes : List ℕ) → node < n → All (λ x. x < n) nodes → All (λ x. x < n) (node ∷ nodes)
+first_within n node nodes inside rest zero d within = inside
+first_within n node nodes inside rest (suc k) d within = rest k d (omega arith)
+
 nodes_within : (rows : List Row) (places : List ℕ) (part : List Row) → All (λ node. node < length places) (filter_map (λ (r : Row). node_of rows places r.app) part)
 nodes_within rows places [] = λ k d within. absurd (omega arith)
-nodes_within rows places (row ∷ part) = at (node_of rows places row.app) refl
+nodes_within rows places (row ∷ part) = at (node_of rows places row.app) refl (nodes_within rows places part)
   where
-    at : (o : Option ℕ) → node_of rows places row.app ≡ o → All (λ node. node < length places) (cons_option o (filter_map (λ (r : Row). node_of rows places r.app) part))
-    at None e = nodes_within rows places part
-    at (Some node) e = first
-      where
-        first : (k d : ℕ) → k < length (node ∷ filter_map (λ (r : Row). node_of rows places r.app) part) → get_or (node ∷ filter_map (λ (r : Row). node_of rows places r.app) part) k d < length places
-        first zero d within = (position-Some (is_app_at rows row.app) places node 0 e).0
-        first (suc k) d within = nodes_within rows places part k d (omega arith)
+    at : (o : Option ℕ) → node_of rows places row.app ≡ o → All (λ node. node < length places) (filter_map (λ (r : Row). node_of rows places r.app) part) → All (λ node. node < length places) (cons_option o (filter_map (λ (r : Row). node_of rows places r.app) part))
+    at None e rest = rest
+    at (Some node) e rest = first_within (length places) node _ (position-Some (is_app_at rows row.app) places node 0 e).0 rest
 
 pub graph_within : (rows : List Row) (places : List ℕ) → NeedsAreWithin (graph_of rows places)
 graph_within rows places k d within =

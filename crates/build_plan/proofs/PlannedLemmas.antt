@@ -69,14 +69,14 @@ module _ (p : ℕ → Bool) where
   pub ranks_from : (at : ℕ) (xs : List ℕ) (r : ℕ) → Contains (ranks p at xs) r → Ranked p at xs r
   unfolding ranks
   ranks_from at [] r has = absurd (omega (arith, has.1))
-  ranks_from at (y ∷ xs) r has = by_test (p y) refl has
+  ranks_from at (y ∷ xs) r has = by_test (p y) refl (ranks_from (suc at) xs r) has
     where
-      by_test : (b : Bool) → p y ≡ b → Contains (cond b (at ∷ ranks p (suc at) xs) (ranks p (suc at) xs)) r → Ranked p at (y ∷ xs) r
-      by_test true e h = elim (contains_cases at r (ranks p (suc at) xs) h) [
+      by_test : (b : Bool) → p y ≡ b → (Contains (ranks p (suc at) xs) r → Ranked p (suc at) xs r) → Contains (cond b (at ∷ ranks p (suc at) xs) (ranks p (suc at) xs)) r → Ranked p at (y ∷ xs) r
+      by_test true e rest h = elim (contains_cases at r (ranks p (suc at) xs) h) [
         | inl same ↦ record { k = 0; x = y; is = omega (arith, same); stands = refl; passes = e }
-        | inr later ↦ one_later at y xs r (ranks_from (suc at) xs r later)
+        | inr later ↦ one_later at y xs r (rest later)
       ]
-      by_test false e h = one_later at y xs r (ranks_from (suc at) xs r h)
+      by_test false e rest h = one_later at y xs r (rest h)
 
   pairs_first : (x : ℕ) (xs : List ℕ) → ((y : ℕ) → Contains xs y → x < y) → AllPairs (λ a b. a < b) xs → AllPairs (λ a b. a < b) (x ∷ xs)
   pairs_first x xs less rest i zero d before within = absurd (omega arith)
@@ -166,6 +166,11 @@ reach_through graph from through need first (Direct _ has) = Further through nee
 reach_through graph from through need first (Further middle _ reached has) = Further middle need (reach_through graph from through middle first reached) has
 
 -- ---- the jobs
+
+job_at : (jobs : List Job) (k : ℕ) → k < length jobs → (job : Job) × (slice_get jobs k ≡ Some job)
+job_at [] k within = absurd (omega arith)
+job_at (j ∷ jobs) zero within = (j, refl)
+job_at (j ∷ jobs) (suc k) within = job_at jobs k (omega arith)
 
 module _ (rows : List Row) (places order : List ℕ) (is_order : IsOrderOf (graph_of rows places) order) where
   apart : AllPairs (λ a b. a ≢ b) order
@@ -263,11 +268,6 @@ module _ (rows : List Row) (places order : List ℕ) (is_order : IsOrderOf (grap
     module _ (jobs : List Job) (all : length jobs ≡ length order) (few : length jobs ≤ most_jobs) (known : (k : ℕ) (job : Job) → slice_get jobs k ≡ Some job → IsKnownAt rows places order k job) (sent : (k : ℕ) (job : Job) → slice_get jobs k ≡ Some job → sent_size job ≤ most_sent) where
       some_job : (k x : ℕ) → slice_get order k ≡ Some x → (job : Job) × (slice_get jobs k ≡ Some job)
       some_job k x stands = job_at jobs k (omega (arith, all, slice_get_within order k x stands))
-        where
-          job_at : (js : List Job) (k : ℕ) → k < length js → (job : Job) × (slice_get js k ≡ Some job)
-          job_at [] k within = absurd (omega arith)
-          job_at (j ∷ js) zero within = (j, refl)
-          job_at (j ∷ js) (suc k) within = job_at js k (omega arith)
 
       app_of_node : (r x : ℕ) → slice_get order r ≡ Some x → option_and_then (app_of rows) (slice_get places x) ≡ app_at jobs r
       app_of_node r x stands =

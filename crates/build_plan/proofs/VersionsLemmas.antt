@@ -1,5 +1,5 @@
 -- Versions of winners, and the rows of divergences.
-use Rattle.std.proofs.Common.{◌≡◌, ℕ, zero, suc, ◌<◌, List, [], ◌∷◌, length, get_or, All, sym, ap, subst, arith, Option, Some, None, IsSome, none-some}
+use Rattle.std.proofs.Common.{◌≡◌, ℕ, zero, suc, ◌<◌, List, [], ◌∷◌, length, get_or, All, sym, ap, subst, arith, Option, Some, None, IsSome}
 use Rattle.std.specs.List.{AllZip, slice_get}
 use Rattle.std.proofs.lemmas.Option.{slice_get_within, get_or_from_slice_get}
 use Rattle.semver.specs.declared.Version.{Version}

@@ -72,7 +72,8 @@ fn add_compiler(
     let app_file = truth(alloc, decl.app_file)?;
     parts.push(keyword(alloc, "app_file", app_file)?)?;
     let variables = variables_term(alloc, &decl.system_env)?;
-    parts.push(keyword(alloc, "system_env", variables)?)
+    parts.push(keyword(alloc, "system_env", variables)?)?;
+    Ok(())
 }
 
 fn atom(alloc: Global, name: &str) -> Result<Term, AllocError>

@@ -1,6 +1,7 @@
-use Rattle.std.proofs.Common.{◌<◌, length, sym, ◌∙◌, ap, arith}
+use Rattle.std.proofs.Common.{◌<◌, length, get_or, sym, ◌∙◌, ap, arith}
 use Rattle.std.specs.Option.{is_some}
 use Rattle.std.specs.Prelude.{slice_index}
+use Rattle.std.proofs.lemmas.List.{get_or_default}
 use Rattle.converger.proofs.WebLemmas.{at_app}
 use Rattle.build_plan.proofs.NeedLemmas.{node_row, same_place, nodes_more_new, nodes_more_same}
 use Rattle.build_plan.proofs.needs.nodes_of.Goals as goal
@@ -12,9 +13,9 @@ loop-node-preserved c =
     let places = c.args.places.now in
     let i = c.loop-node.node in
     let place = slice_index places i in
-    let row = c.index-rows-place.result in
+    let row = get_or rows place c.index-rows-place.result in
     let within : i < length places = omega arith in
-    let stands = node_row rows places i row within c.requires c.index-rows-place.is in
+    let stands = node_row rows places i row within c.requires (get_or_default rows place c.index-rows-place.result row (c.requires i 0 within)) in
     let same = same_place places i within in
     elim c.if-not-contains_key.branch [
       | then-not-contains_key+in_ok-insert w ↦
