@@ -72,12 +72,12 @@ all_fit_more jobs job fit last =
 -- ---- refusals
 
 pub refuses_jobs : (files : List File) (settings : Settings) (rows : List Row) (places order : List ℕ) (jobs : List Job) (room : ℕ) (error : PlanError) → length jobs < length order → ((k : ℕ) (job : Job) → slice_get jobs k ≡ Some job → IsJobAt files settings rows places order k job) → AllFit jobs → room + source_bytes jobs ≡ most_plan_bytes → RefusesJob files settings rows places order (length jobs) room error → RefusesJobs files settings rows places order error
-refuses_jobs files settings rows places order jobs room error within each fit left (job , is , passes , told) =
+refuses_jobs files settings rows places order jobs room error within each fit left (job, is, passes, told) =
     (jobs, job, record { few = grind arith; each = each_more (IsJobAt files settings rows places order) jobs job each is }, fit, passes_limit jobs job room left passes, told)
 
 -- a job that passes a limit is refused
 pub refuses_missed : (files : List File) (settings : Settings) (rows : List Row) (places order : List ℕ) (row : Row) (at room : ℕ) (error : PlanError) → error ≡ TooLarge row.app → Misses files settings rows places order row at room → RefusesJob files settings rows places order at room error
-refuses_missed files settings rows places order row at room error is (job , stands , app , passes) =
+refuses_missed files settings rows places order row at room error is (job, stands, app, passes) =
     (job, stands, passes, is ∙ ap (λ (name : List ℕ). TooLarge name) (sym app))
 
 pub post_job : (files : List File) (settings : Settings) (rows : List Row) (places order : List ℕ) (all : List Found) (at : ℕ) (row : Row) (found : Found) (reached : List ℕ) → IsPostWith rows places order all at row found reached → All (IsFound files) all → IsJobAt files settings rows places order at (job_with files settings row found.dir (version_by found.project) (places_in order reached) (apps_of rows places reached))

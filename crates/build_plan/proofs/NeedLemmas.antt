@@ -132,7 +132,7 @@ pub graph_within : (rows : List Row) (places : List ℕ) → NeedsAreWithin (gra
 graph_within rows places k d within =
     let inside : k < length places = omega (arith, within, length-map places (direct_needs rows places)) in
     let is : get_or (graph_of rows places) k d ≡ direct_needs rows places (get_or places k 0) =
-        get_or_default (graph_of rows places) k d [] within ∙ get_or_map (direct_needs rows places) places k inside in
+    get_or_default (graph_of rows places) k d [] within ∙ get_or_map (direct_needs rows places) places k inside in
     let long : length (graph_of rows places) ≡ length places = length-map places (direct_needs rows places) in
     rw is (rw long (nodes_within rows places (filter (λ (r : Row). is_child_at (get_or places k 0) r.by) rows)))
 
@@ -150,7 +150,7 @@ same_place places i within = get_or_default places i 0 (get_or places i 0) withi
 pub row_added : (rows : List Row) (places known : List ℕ) (i : ℕ) (row : Row) (old new : List (List ℕ)) → known ≡ places → i < length rows → row ≡ get_or rows i row → ((node : ℕ) → node < length places → needs_of old node ≡ needs_from rows places (take i rows) (get_or places node 0)) → ((node : ℕ) → node < length known → needs_of new node ≡ needs_of old node ++ needs_from rows known (row ∷ []) (get_or known node 0)) → (node : ℕ) → node < length places → needs_of new node ≡ needs_from rows places (take (i + 1) rows) (get_or places node 0)
 row_added rows places known i row old new same within is so_far added node inside =
     let here : needs_of new node ≡ needs_of old node ++ needs_from rows places (row ∷ []) (get_or places node 0) =
-        subst (λ (ps : List ℕ). (node : ℕ) → node < length ps → needs_of new node ≡ needs_of old node ++ needs_from rows ps (row ∷ []) (get_or ps node 0)) same added node inside in
+    subst (λ (ps : List ℕ). (node : ℕ) → node < length ps → needs_of new node ≡ needs_of old node ++ needs_from rows ps (row ∷ []) (get_or ps node 0)) same added node inside in
     here
     ∙ ap (λ (l : List ℕ). l ++ needs_from rows places (row ∷ []) (get_or places node 0)) (so_far node inside)
     ∙ sym (needs_from_more rows places i row (get_or places node 0) within is)

@@ -18,15 +18,15 @@ refused_as : (files : List File) (env : List ℕ) (error other : PlanError) → 
 refused_as files env error other is p = subst (λ (e : PlanError). IsPlan files env (Err e)) (sym is) p
 
 refused_settings : (files : List File) (env : List ℕ) (error : PlanError) → RefusesSettings files error → IsPlan files env (Err error)
-refused_settings files env error (fault , are , is) = refused_as files env error _ is (plan.settings are)
+refused_settings files env error (fault, are, is) = refused_as files env error _ is (plan.settings are)
 
 refused_root : (files : List File) (env : List ℕ) (settings : Settings) (error : PlanError) → AreSettings files (Ok settings) → RefusesRoot files error → IsPlan files env (Err error)
-refused_root files env settings error set (inl (none , is)) = refused_as files env error _ is (plan.no_project settings set none)
-refused_root files env settings error set (inr (fault , loaded , is)) = refused_as files env error _ is (plan.project settings set loaded)
+refused_root files env settings error set (inl (none, is)) = refused_as files env error _ is (plan.no_project settings set none)
+refused_root files env settings error set (inr (fault, loaded, is)) = refused_as files env error _ is (plan.project settings set loaded)
 
 refused_rows : (files : List File) (env : List ℕ) (settings : Settings) (root : Project) (error : PlanError) → IsRoot files settings root → RefusesRows files root.decls error → IsPlan files env (Err error)
-refused_rows files env settings root error is_root (inl (fault , meets , is)) = refused_as files env error _ is (plan.dependency settings root is_root meets)
-refused_rows files env settings root error is_root (inr (passes , is)) = refused_as files env error _ is (plan.too_many settings root is_root passes)
+refused_rows files env settings root error is_root (inl (fault, meets, is)) = refused_as files env error _ is (plan.dependency settings root is_root meets)
+refused_rows files env settings root error is_root (inr (passes, is)) = refused_as files env error _ is (plan.too_many settings root is_root passes)
 
 diverged : (files : List File) (env : List ℕ) (settings : Settings) (root : Project) (rows : List Row) (winners : List ℕ) (error : PlanError) → IsRoot files settings root → AreRows (AreChildren files) root.decls rows winners → length rows ≤ most_rows → Diverge files rows winners error → IsPlan files env (Err error)
 diverged files env settings root rows winners error is_root listed few d =
@@ -36,7 +36,7 @@ diverged files env settings root rows winners error is_root listed few d =
 no_jobs : (files : List File) (env : List ℕ) (settings : Settings) (root : Project) (rows : List Row) (winners : List ℕ) (error : PlanError) → IsRoot files settings root → AreRows (AreChildren files) root.decls rows winners → length rows ≤ most_rows → Match files rows winners → HasNoJobs files settings rows env error → IsPlan files env (Err error)
 no_jobs files env settings root rows winners _ is_root listed few m (cycle places nodes reached around) =
     plan.cycle settings root rows places nodes is_root (record { winners = winners; versions = m.versions; listed = record { listed = listed; few = few; known = m.known }; together = m.together; reached = reached }) around
-no_jobs files env settings root rows winners error is_root listed few m (too_large places order reached is_order (jobs , job , first , fit , large , is)) =
+no_jobs files env settings root rows winners error is_root listed few m (too_large places order reached is_order (jobs, job, first, fit, large, is)) =
     refused_as files env error _ is
     (plan.too_large settings root rows places order jobs job is_root (record { winners = winners; versions = m.versions; listed = record { listed = listed; few = few; known = m.known }; together = m.together; reached = reached }) is_order first fit large)
 

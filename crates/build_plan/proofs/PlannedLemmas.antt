@@ -47,8 +47,8 @@ contains_later : (x y : ℕ) (xs : List ℕ) → Contains xs y → Contains (x �
 contains_later x y xs has = (suc has.0, omega (arith, has.1), has.2)
 
 contains_cases : (x y : ℕ) (xs : List ℕ) → Contains (x ∷ xs) y → (y ≡ x) ⊎ Contains xs y
-contains_cases x y xs (zero , within , is) = inl (sym is)
-contains_cases x y xs (suc k , within , is) = inr (k, omega arith, is)
+contains_cases x y xs (zero, within, is) = inl (sym is)
+contains_cases x y xs (suc k, within, is) = inr (k, omega arith, is)
 
 module _ (p : ℕ → Bool) where
   pub ranks_has : (at : ℕ) (xs : List ℕ) (k x : ℕ) → slice_get xs k ≡ Some x → p x ≡ true → Contains (ranks p at xs) (at + k)

@@ -61,6 +61,6 @@ module _ (rows : List Row) (env places : List ℕ) (reached : AreReached rows en
       too_large places order reached (subst (λ (g : List (List ℕ)). IsOrderOf g order) is is_order) refused
 
   pub if_cycle : (told : Option (List File)) (settings : Settings) (graph : List (List ℕ)) (error : PlanError) → graph ≡ graph_of rows places → IsCycleAmong rows places graph error → IfSome told (λ files. HasNoJobs files settings rows env error)
-  if_cycle None settings graph error is (nodes , around , told) = tt
-  if_cycle (Some files) settings graph error is (nodes , around , told) =
+  if_cycle None settings graph error is (nodes, around, told) = tt
+  if_cycle (Some files) settings graph error is (nodes, around, told) =
       subst (HasNoJobs files settings rows env) (sym told) (cycle places nodes reached (subst (λ (g : List (List ℕ)). IsCycleOf g nodes) is around))

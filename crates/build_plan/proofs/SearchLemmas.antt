@@ -100,10 +100,10 @@ unfolding KnownSoFar
 known_more order stands at x apart within is inside so_far node k h =
     let short : length (take at order) ≡ at = rw length-take (omega arith) in
     let pushed : position (nat_eq node) (take (at + 1) order) ≡ or_else (position (nat_eq node) (take at order)) (cond (eqb node x) (Some at) None) =
-        ap (position (nat_eq node)) (take_more order at 0 within)
-        ∙ position_push (nat_eq node) (take at order) (get_or order at 0)
-        ∙ ap (λ (n : ℕ). or_else (position (nat_eq node) (take at order)) (cond (eqb node n) (Some (length (take at order))) None)) (sym is)
-        ∙ ap (λ (n : ℕ). or_else (position (nat_eq node) (take at order)) (cond (eqb node x) (Some n) None)) short in
+    ap (position (nat_eq node)) (take_more order at 0 within)
+    ∙ position_push (nat_eq node) (take at order) (get_or order at 0)
+    ∙ ap (λ (n : ℕ). or_else (position (nat_eq node) (take at order)) (cond (eqb node n) (Some (length (take at order))) None)) (sym is)
+    ∙ ap (λ (n : ℕ). or_else (position (nat_eq node) (take at order)) (cond (eqb node x) (Some n) None)) short in
     stands_here order stands at node x k (position (nat_eq node) (take at order)) (eqb node x) apart within is inside refl (so_far node k) refl (sym pushed ∙ h)
 
 pub all_known : (order stands : List ℕ) (at : ℕ) → length order ≤ at → KnownSoFar order at stands → AreStands order stands

@@ -43,11 +43,7 @@ fn without_needs(alloc: Global, count: usize) -> Result<Vec<Places>, AllocError>
     Ok(needs)
 }
 
-fn nodes_of<'a>(
-    alloc: Global,
-    rows: &'a [Row],
-    places: &'a [u32],
-) -> Result<Nodes<'a>, AllocError>
+fn nodes_of<'a>(alloc: Global, rows: &'a [Row], places: &'a [u32]) -> Result<Nodes<'a>, AllocError>
     requires { All (λ place. place < length rows.now) places.now }
     ensures places { IfOk result (λ nodes. nodes.places.now ≡ places.now) }
     ensures nodes { IfOk result (λ nodes. AreNodes rows.now places.now (λ app. get_by (λ key. text_cmp app key.now) nodes.by_app)) }
@@ -143,12 +139,7 @@ pub(crate) fn apps_of(
     Ok(apps)
 }
 
-fn add_app(
-    apps: &mut Names,
-    rows: &[Row],
-    places: &[u32],
-    node: usize,
-) -> Result<(), AllocError>
+fn add_app(apps: &mut Names, rows: &[Row], places: &[u32], node: usize) -> Result<(), AllocError>
     ensures { OnOk result (apps.new ≡ apps.old ++ apps_of rows.now places.now (node ∷ [])) }
 {
     let Some(place) = places.get(node) else {

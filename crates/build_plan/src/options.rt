@@ -57,12 +57,7 @@ fn add_names(
 }
 
 /// Adds how it is compiled.
-fn add_compiler(
-    alloc: Global,
-    parts: &mut Terms,
-    decl: &Decl,
-    how: &How,
-) -> Result<(), AllocError>
+fn add_compiler(alloc: Global, parts: &mut Terms, decl: &Decl, how: &How) -> Result<(), AllocError>
     ensures { OnOk result (parts.new ≡ parts.old ++ compiler_terms decl.now how.now) }
 {
     let compile = compile_term(alloc, &decl.compile)?;

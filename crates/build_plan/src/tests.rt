@@ -38,7 +38,11 @@ fn store(alloc: Global, files: &[(&str, &str)]) -> Result<ConstStore, Fail> {
     Ok(MemStore::new(alloc, contents, NoFaults, NoFaults, NoFaults))
 }
 
-fn planned(alloc: Global, files: &[(&str, &str)], env: &str) -> Result<Result<Plan, PlanError>, Fail> {
+fn planned(
+    alloc: Global,
+    files: &[(&str, &str)],
+    env: &str,
+) -> Result<Result<Plan, PlanError>, Fail> {
     let env = AppName::of(alloc, env.as_bytes())?;
     Ok(plan(alloc, &mut store(alloc, files)?, &env))
 }
@@ -172,17 +176,71 @@ fn plans_and_refusals_of_small_projects(rt: HostRuntime) -> Result<(), Fail> {
     let alloc = rt.alloc();
     let cases = [
         // The root, p, a, b, and what is told.
-        ("{:a, path: \"a\", only: :test}, {:p, path: \"p\"}", "{:a, path: \"../a\"}", "", "", "V4 a: (root) at 0, p at 0; "),
-        ("{:a, path: \"a\", only: :test}, {:p, path: \"p\"}", "", "", "", "p; "),
-        ("{:a, path: \"a\"}, {:p, path: \"p\"}", "{:a, \"~> 1.0\"}", "", "", "V1 a: (root) at 0, p at 0; "),
-        ("{:a, path: \"a\", override: true}, {:p, path: \"p\"}", "{:a, \"~> 1.0\"}", "", "", "a; p 0 a; "),
-        ("{:p, path: \"p\"}", "{:a, \"~> 2.0\", path: \"../a\", optional: true}", "", "", "p; "),
-        ("{:a, path: \"a\"}, {:p, path: \"p\"}", "{:a, \"~> 2.0\", path: \"../a\", optional: true}", "", "", "V3 a: (root) at 0, p at 0; "),
-        ("{:a, path: \"a\"}", "{:a, path: \"../a\"}", "{:b, path: \"../b\"}", "{:p, path: \"../p\"}", "cycle: a b p"),
-        ("{:a, path: \"a\"}", "", "{:a, path: \"../a\"}", "", "cycle: a"),
+        (
+            "{:a, path: \"a\", only: :test}, {:p, path: \"p\"}",
+            "{:a, path: \"../a\"}",
+            "",
+            "",
+            "V4 a: (root) at 0, p at 0; ",
+        ),
+        (
+            "{:a, path: \"a\", only: :test}, {:p, path: \"p\"}",
+            "",
+            "",
+            "",
+            "p; ",
+        ),
+        (
+            "{:a, path: \"a\"}, {:p, path: \"p\"}",
+            "{:a, \"~> 1.0\"}",
+            "",
+            "",
+            "V1 a: (root) at 0, p at 0; ",
+        ),
+        (
+            "{:a, path: \"a\", override: true}, {:p, path: \"p\"}",
+            "{:a, \"~> 1.0\"}",
+            "",
+            "",
+            "a; p 0 a; ",
+        ),
+        (
+            "{:p, path: \"p\"}",
+            "{:a, \"~> 2.0\", path: \"../a\", optional: true}",
+            "",
+            "",
+            "p; ",
+        ),
+        (
+            "{:a, path: \"a\"}, {:p, path: \"p\"}",
+            "{:a, \"~> 2.0\", path: \"../a\", optional: true}",
+            "",
+            "",
+            "V3 a: (root) at 0, p at 0; ",
+        ),
+        (
+            "{:a, path: \"a\"}",
+            "{:a, path: \"../a\"}",
+            "{:b, path: \"../b\"}",
+            "{:p, path: \"../p\"}",
+            "cycle: a b p",
+        ),
+        (
+            "{:a, path: \"a\"}",
+            "",
+            "{:a, path: \"../a\"}",
+            "",
+            "cycle: a",
+        ),
         ("{:h, \"~> 1.0\"}", "", "", "", "not locked h"),
         ("{:q, path: \"q\"}", "", "", "", "missing q q"),
-        ("{:p, path: \"p\"}", "{:a}", "", "", "manifest p/project.exs"),
+        (
+            "{:p, path: \"p\"}",
+            "{:a}",
+            "",
+            "",
+            "manifest p/project.exs",
+        ),
         ("{:a}", "", "", "", "manifest project.exs"),
     ];
     for (root, p, a, b, wanted) in cases {

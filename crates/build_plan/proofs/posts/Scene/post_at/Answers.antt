@@ -31,7 +31,7 @@ returns c =
     let place = get_or s.places.now node 0 in
     let row = get_or s.rows.now place c.index-self-place.result in
     let inside : place < length s.rows.now =
-        place_within s.rows.now s.winners.now s.found.now s.places.now s.graph.now s.order.now s.stands.now c.requires.scene node
-        (node_within s.rows.now s.winners.now s.found.now s.places.now s.graph.now s.order.now s.stands.now c.requires.scene c.args.at c.requires.at) in
+    place_within s.rows.now s.winners.now s.found.now s.places.now s.graph.now s.order.now s.stands.now c.requires.scene node
+    (node_within s.rows.now s.winners.now s.found.now s.places.now s.graph.now s.order.now s.stands.now c.requires.scene c.args.at c.requires.at) in
     post_is s.rows.now s.winners.now s.found.now s.places.now s.graph.now s.order.now s.stands.now c.requires.scene c.args.at row c.found_at.result.now c.in_ok-reached.reached.items
     c.requires.at (get_or_default s.rows.now place c.index-self-place.result row inside) c.found_at.ensures.at c.found_at.ensures.among c.in_ok-reached.ensures.in_order c.in_ok-reached.ensures.reached
