@@ -3,7 +3,8 @@ use Rattle.std.proofs.Common.{◌≡◌, ℕ, zero, suc, ◌+◌, ◌<◌, ◌�
 use Rattle.std.specs.Prelude.{nat_lt, nat_le}
 use Rattle.std.specs.List.{slice_get}
 use Rattle.std.proofs.lemmas.Bool.{cases_lt, or_left, or_right, le-leb, lt-leb, le-ltb, lt-ltb}
-use Rattle.std.proofs.lemmas.List.{take-append-le, take_all}
+use Rattle.std.proofs.lemmas.List.{length-append, map-append, take-append-le, take_all}
+use Rattle.std.proofs.lemmas.List.Sums.{sum_by-append}
 use Rattle.std.proofs.lemmas.List.Elements.{All-contains}
 use Rattle.std.proofs.lemmas.Option.{slice_get_within}
 use Rattle.mx_base.specs.declared.file.File.{File}
@@ -30,8 +31,9 @@ each_more P (z ∷ xs) x each last zero y at = each 0 y at
 each_more P (z ∷ xs) x each last (suc k) y at = each_more (λ n. P (suc n)) xs x (λ n. each (suc n)) last k y at
 
 sum_push : {A : Type 0} (f : A → ℕ) (xs : List A) (x : A) → sum (map f (xs ++ x ∷ [])) ≡ sum (map f xs) + f x
-sum_push f [] x = omega arith
-sum_push f (y ∷ xs) x = omega (arith, sum_push f xs x)
+sum_push f xs x =
+    let one : sum (f x ∷ []) ≡ f x = omega arith in
+    ap sum (map-append f xs (x ∷ [])) ∙ sum_by-append (λ (n : ℕ). n) (map f xs) (f x ∷ []) ∙ ap (λ (n : ℕ). sum (map f xs) + n) one
 
 pub source_bytes_push : (jobs : List Job) (job : Job) → source_bytes (jobs ++ job ∷ []) ≡ source_bytes jobs + bytes_in job.sources
 source_bytes_push jobs job = sum_push (λ (j : Job). bytes_in j.sources) jobs job
@@ -39,7 +41,7 @@ source_bytes_push jobs job = sum_push (λ (j : Job). bytes_in j.sources) jobs jo
 -- ---- the limits
 
 none_of_five : (a b c d e : Bool) → a ≡ false → b ≡ false → c ≡ false → d ≡ false → e ≡ false → (a || (b || (c || (d || e)))) ≡ false
-none_of_five false false false false false p q r s t = refl
+none_of_five a b c d e p q r s t = rw p (rw q (rw r (rw s t)))
 
 pub fits_well : (before : List Job) (job : Job) (room : ℕ) → room + source_bytes before ≡ most_plan_bytes → Fits (length before) room job → IsFalse (is_too_large before job)
 fits_well before job room left fits =
@@ -73,7 +75,7 @@ all_fit_more jobs job fit last =
 
 pub refuses_jobs : (files : List File) (settings : Settings) (rows : List Row) (places order : List ℕ) (jobs : List Job) (room : ℕ) (error : PlanError) → length jobs < length order → ((k : ℕ) (job : Job) → slice_get jobs k ≡ Some job → IsJobAt files settings rows places order k job) → AllFit jobs → room + source_bytes jobs ≡ most_plan_bytes → RefusesJob files settings rows places order (length jobs) room error → RefusesJobs files settings rows places order error
 refuses_jobs files settings rows places order jobs room error within each fit left (job, is, passes, told) =
-    (jobs, job, record { few = grind arith; each = each_more (IsJobAt files settings rows places order) jobs job each is }, fit, passes_limit jobs job room left passes, told)
+    (jobs, job, record { few = omega (arith, within, length-append jobs (job ∷ [])); each = each_more (IsJobAt files settings rows places order) jobs job each is }, fit, passes_limit jobs job room left passes, told)
 
 -- a job that passes a limit is refused
 pub refuses_missed : (files : List File) (settings : Settings) (rows : List Row) (places order : List ℕ) (row : Row) (at room : ℕ) (error : PlanError) → error ≡ TooLarge row.app → Misses files settings rows places order row at room → RefusesJob files settings rows places order at room error
