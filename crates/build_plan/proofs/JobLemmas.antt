@@ -2,7 +2,7 @@
 use Rattle.std.proofs.Common.{◌≡◌, ℕ, zero, suc, ◌+◌, ◌<◌, ◌≤◌, ◌⊎◌, inl, inr, min, Bool, true, false, ◌||◌, List, [], ◌∷◌, ◌++◌, length, take, map, sum, refl, sym, ◌∙◌, ap, ap₂, subst, arith, IsTrue, IsFalse, IfSome, MatchOption, Option, Some, None, Result, Ok, Err, All, Contains}
 use Rattle.std.specs.Prelude.{nat_lt, nat_le}
 use Rattle.std.specs.List.{slice_get}
-use Rattle.std.proofs.lemmas.Bool.{cases_lt, or_left, or_right, le-leb, lt-leb, le-ltb, lt-ltb}
+use Rattle.std.proofs.lemmas.Bool.{false≢true, cases_lt, or_left, or_right, le-leb, lt-leb, le-ltb, lt-ltb}
 use Rattle.std.proofs.lemmas.List.{length-append, map-append, take-append-le, take_all}
 use Rattle.std.proofs.lemmas.List.Sums.{sum_by-append}
 use Rattle.std.proofs.lemmas.List.Elements.{All-contains}
@@ -12,10 +12,13 @@ use Rattle.compile_model.specs.declared.job.Job.{Job}
 use Rattle.compile_model.specs.Planned.{most_jobs, most_sent, sent_size}
 use Rattle.dep_rows.specs.declared.row.Row.{Row}
 use Rattle.project_file.specs.declared.settings.Settings.{Settings}
+use Rattle.tree_store.specs.declared.store.StoreFault.{StoreFault}
+use Rattle.tree_store.specs.declared.store.StoreFault.TheVariants.{Failed, OutOfMemory}
 use Rattle.build_plan.specs.declared.error.PlanError.{PlanError}
 use Rattle.build_plan.specs.declared.error.PlanError.TheVariants.{TooLarge}
 use Rattle.build_plan.specs.declared.found.Found.{Found}
 use Rattle.build_plan.specs.Dependencies.{is_apart, version_by}
+use Rattle.build_plan.specs.Faults.{is_memory_error, is_read_error, of_store}
 use Rattle.build_plan.specs.Found.{AreSources, IsFound, IsSound}
 use Rattle.build_plan.specs.Jobs.{AllFit, AreFirstJobs, IsJobAt, is_too_large, job_with, places_in, most_bytes, most_files, most_plan_bytes, source_bytes}
 use Rattle.build_plan.specs.Needs.{apps_of}
@@ -145,6 +148,11 @@ module _ (settings : Settings) (rows : List Row) (places order : List ℕ) (all 
   pub if_many : (told : Option (List File)) (room : ℕ) (error : PlanError) → most_jobs ≤ at → error ≡ TooLarge row.app → IfSome told (λ files. All (IsFound files) all) → IfSome told (λ files. RefusesJob files settings rows places order at room error)
   if_many None room error many is meant = tt
   if_many (Some files) room error many is meant = (_, post_job files settings rows places order all at row found reached with_found meant, inl many, is)
+
+-- the store's own faults are no refusals
+pub if_store_failed : (told : Option (List File)) (settings : Settings) (rows : List Row) (places order : List ℕ) (at room : ℕ) (fault : StoreFault) (error : PlanError) → error ≡ of_store fault → IsFalse (is_read_error error) → IsFalse (is_memory_error error) → IfSome told (λ files. RefusesJob files settings rows places order at room error)
+if_store_failed told settings rows places order at room Failed error is no_read no_memory = absurd (false≢true (sym no_read ∙ ap is_read_error is))
+if_store_failed told settings rows places order at room OutOfMemory error is no_read no_memory = absurd (false≢true (sym no_memory ∙ ap is_memory_error is))
 
 pub if_refused_missed : (told : Option (List File)) (settings : Settings) (rows : List Row) (places order : List ℕ) (row : Row) (at room : ℕ) (error : PlanError) → error ≡ TooLarge row.app → IfSome told (λ files. Misses files settings rows places order row at room) → IfSome told (λ files. RefusesJob files settings rows places order at room error)
 if_refused_missed None settings rows places order row at room error is missed = tt

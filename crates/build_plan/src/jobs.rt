@@ -4,6 +4,7 @@ ghost use Rattle.std.specs.List.{All};
 ghost use Rattle.mx_base.specs.Causes.{Counted};
 ghost use Rattle.mx_base.specs.declared.file.File.{File};
 ghost use Rattle.compile_model.specs.Planned.{ArePlanned, most_jobs};
+ghost use Rattle.tree_store.specs.Faults.{is_failed};
 ghost use Rattle.build_plan.specs.Dependencies.{version_by};
 ghost use Rattle.build_plan.specs.Faults.{is_read, is_read_error, is_memory_error};
 ghost use Rattle.build_plan.specs.Found.{IsFound};
@@ -25,7 +26,7 @@ use dep_rows::Row;
 use mx_base::{File, Files, Text, copy_text};
 use project_file::{Project, manager_by_files};
 use std::alloc::{AllocError, Global};
-use tree_store::Store;
+use tree_store::{Store, StoreFault};
 
 /// Makes the job of each place of the order.
 pub(crate) fn jobs<S: Store>(
@@ -106,7 +107,7 @@ fn job_of<S: Store>(
     post: &Post<'_>,
     at: usize,
     room: usize,
-) -> Result<Option<Job>, PlanError>
+) -> Result<Option<Job>, StoreFault>
     requires scene { IsScene scene.now.rows.now scene.now.winners.now scene.now.found.now scene.now.places.now scene.now.graph.now scene.now.order.now scene.now.stands.now }
     requires meant { IfSome (S.sources store.old) (λ files. All (IsFound files) scene.now.found.now) }
     requires post { IsPostWith scene.now.rows.now scene.now.places.now scene.now.order.now scene.now.found.now at post.now.row.now post.now.found.now post.now.reached.items }
@@ -118,7 +119,7 @@ fn job_of<S: Store>(
     ensures sources { S.sources store.new ≡ S.sources store.old }
     ensures same { S.slot store.new ≡ S.slot store.old }
     ensures returned { S.folder_faults store.new ≡ S.folder_faults store.old }
-    ensures cause { Counted (S.faults store.old) (S.faults store.new) (is_read result) }
+    ensures cause { Counted (S.faults store.old) (S.faults store.new) (is_failed result) }
 {
     match sources(alloc, store, post.found, room.min(MOST_BYTES))? {
         Some(sources) => Ok(Some(described(alloc, scene, post, at, sources)?)),
