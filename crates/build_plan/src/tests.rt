@@ -177,6 +177,13 @@ fn plans_and_refusals_of_small_projects(rt: HostRuntime) -> Result<(), Fail> {
     let cases = [
         // The root, p, a, b, and what is told.
         (
+            "{:p, path: \"p\"}, {:a, path: \"a\"}",
+            "",
+            "",
+            "",
+            "p; a; ",
+        ),
+        (
             "{:a, path: \"a\", only: :test}, {:p, path: \"p\"}",
             "{:a, path: \"../a\"}",
             "",
@@ -224,6 +231,13 @@ fn plans_and_refusals_of_small_projects(rt: HostRuntime) -> Result<(), Fail> {
             "{:b, path: \"../b\"}",
             "{:p, path: \"../p\"}",
             "cycle: a b p",
+        ),
+        (
+            "{:b, path: \"b\"}",
+            "{:a, path: \"../a\"}",
+            "{:b, path: \"../b\"}",
+            "{:p, path: \"../p\"}",
+            "cycle: b p a",
         ),
         (
             "{:a, path: \"a\"}",
