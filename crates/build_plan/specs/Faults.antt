@@ -1,5 +1,5 @@
 -- Which answers tell of the outside, and what the refusals of inner calls become.
-use Rattle.std.specs.Prelude.{Bool, true, false, Result, Ok, Err}
+use Rattle.std.specs.Prelude.{ℕ, List, Bool, true, false, Result, Ok, Err}
 use Rattle.project_file.specs.declared.error.ProjectError.{ProjectError}
 use Rattle.project_file.specs.declared.error.ProjectError.TheVariants as project
 use Rattle.project_file.specs.declared.error.SettingsError.{SettingsError}
@@ -33,6 +33,20 @@ of_child (child.PathMissing app dir) = PathMissing app dir
 of_child (child.Project path fault) = Project path fault
 of_child (child.NotLocked app) = NotLocked app
 of_child child.OutOfMemory = OutOfMemory
+
+abbrev pub of_settings : SettingsError → PlanError
+of_settings settings.Read = Read
+of_settings settings.OutOfMemory = OutOfMemory
+of_settings error = Settings error
+
+abbrev pub of_project : List ℕ → ProjectError → PlanError
+of_project path project.Read = Read
+of_project path project.OutOfMemory = OutOfMemory
+of_project path fault = Project path fault
+
+abbrev pub of_store : StoreFault → PlanError
+of_store store.Failed = Read
+of_store store.OutOfMemory = OutOfMemory
 
 abbrev pub is_read_error : PlanError → Bool
 is_read_error Read = true

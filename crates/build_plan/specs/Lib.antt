@@ -9,4 +9,5 @@ pub mod Lines
 pub mod Needs
 pub mod Options
 pub mod Plan
+pub mod Scenes
 pub mod Sources

@@ -1,5 +1,5 @@
 -- What the apps that are reached need directly.
-use Rattle.std.specs.Prelude.{ℕ, Bool, false, ◌==◌, List, map, filter, filter_map, position, Option, Some, None, option_map, option_and_then, slice_get, nat_eq, bytes_eq}
+use Rattle.std.specs.Prelude.{◌≡◌, ℕ, Bool, false, ◌==◌, List, map, filter, filter_map, position, Option, Some, None, option_map, option_and_then, slice_get, nat_eq, bytes_eq}
 use Rattle.dep_rows.specs.declared.row.Row.{Row}
 
 -- the row is a child of the winner at this place
@@ -22,6 +22,14 @@ is_app_at rows app place = is_app app (app_of rows place)
 -- which of these winners is the app's, from 0
 abbrev pub node_of : List Row → List ℕ → List ℕ → Option ℕ
 node_of rows places app = position (is_app_at rows app) places
+
+-- the nodes of the apps of these rows that are children of the winner at a place, and have a winner among these
+abbrev pub needs_from : List Row → List ℕ → List Row → ℕ → List ℕ
+needs_from rows places part place = filter_map (λ row. node_of rows places row.app) (filter (λ row. is_child_at place row.by) part)
+
+-- each app's node is known
+abbrev pub AreNodes : List Row → List ℕ → (List ℕ → Option ℕ) → Type 0
+AreNodes rows places known = (app : List ℕ) → known app ≡ node_of rows places app
 
 -- what the winner at a place needs directly: the apps among its children, optional or not, that have a winner among these
 abbrev pub direct_needs : List Row → List ℕ → ℕ → List ℕ

@@ -39,6 +39,23 @@ compiler_term (Program words) = Elements (map (λ word. Str word) words)
 abbrev pub variable_term : Variable → Term
 variable_term variable = Tuple (Str variable.name ∷ Str variable.value ∷ [])
 
+-- what the app is, and how it is compiled
+abbrev pub names_terms : List ℕ → Decl → Manager → List Term
+names_terms version decl manager =
+    keyword (codes "app") (Atom decl.app)
+    ∷ keyword (codes "version") (Str version)
+    ∷ keyword (codes "env") (Atom decl.env)
+    ∷ keyword (codes "manager") (Atom (manager_name manager))
+    ∷ []
+
+abbrev pub compiler_terms : Decl → How → List Term
+compiler_terms decl how =
+    keyword (codes "compile") (compile_term decl.compile)
+    ∷ keyword (codes "compiler") (compiler_term how)
+    ∷ keyword (codes "app_file") (truth decl.app_file)
+    ∷ keyword (codes "system_env") (Elements (map variable_term decl.system_env))
+    ∷ []
+
 abbrev pub options_term : List ℕ → Decl → Manager → How → Term
 options_term version decl manager how = Elements (
     keyword (codes "app") (Atom decl.app)

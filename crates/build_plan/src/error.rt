@@ -3,6 +3,8 @@
 use converger::Rule;
 use mx_base::{AppName, ListOf, Names, RelPath};
 use project_file::{ProjectError, SettingsError};
+use std::alloc::{AllocError, AllocFailed};
+use tree_store::StoreFault;
 
 /// Where the two declarations of a divergence stand.
 #[derive(Debug, Drop)]
@@ -48,4 +50,40 @@ pub enum PlanError {
     TooLarge(AppName),
     /// There was not enough memory. This says nothing of the files.
     OutOfMemory,
+}
+
+impl From<AllocError> for PlanError {
+    ghost use Rattle.std.specs.Prelude.{◌≡◌};
+    ghost use Rattle.build_plan.specs.declared.error.PlanError.TheVariants.{OutOfMemory};
+
+    ghost from_gives = { λ _ e. e ≡ OutOfMemory };
+
+    fn from(_: AllocError) -> PlanError {
+        PlanError::OutOfMemory
+    }
+}
+
+impl<T: Drop> From<AllocFailed<T>> for PlanError {
+    ghost use Rattle.std.specs.Prelude.{◌≡◌};
+    ghost use Rattle.build_plan.specs.declared.error.PlanError.TheVariants.{OutOfMemory};
+
+    ghost from_gives = { λ _ e. e ≡ OutOfMemory };
+
+    fn from(_: AllocFailed<T>) -> PlanError {
+        PlanError::OutOfMemory
+    }
+}
+
+impl From<StoreFault> for PlanError {
+    ghost use Rattle.std.specs.Prelude.{◌≡◌};
+    ghost use Rattle.build_plan.specs.Faults.{of_store};
+
+    ghost from_gives = { λ fault e. e ≡ of_store fault };
+
+    fn from(fault: StoreFault) -> PlanError {
+        match fault {
+            StoreFault::Failed => PlanError::Read,
+            StoreFault::OutOfMemory => PlanError::OutOfMemory,
+        }
+    }
 }

@@ -9,10 +9,19 @@ mod children;
 mod dependencies;
 mod error;
 mod found;
+mod jobs;
 mod laws;
+mod limits;
+mod lines;
 mod manifests;
+mod needs;
+mod options;
 mod planning;
+mod posts;
+mod root;
 mod sources;
+#[cfg(test)]
+mod tests;
 mod versions;
 
 pub use children::ChildFault;

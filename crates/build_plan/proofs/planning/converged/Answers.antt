@@ -1,0 +1,24 @@
+use Rattle.std.proofs.Common.{◌≡◌, ◌<◌, List, length, sym, ◌∙◌, subst, All}
+use Rattle.std.proofs.lemmas.Slice.Zip.{AllZip-long}
+use Rattle.converger.specs.declared.divergence.Divergence.{Divergence}
+use Rattle.build_plan.specs.Found.{IsFoundAt}
+use Rattle.build_plan.proofs.VersionsLemmas.{sounds, within_rows, none_missing}
+use Rattle.build_plan.proofs.planning.converged.Goals as goal
+
+pub versions-requires : goal.versions-requires
+versions-requires c = sounds c.args.rows.rows c.args.rows.winners c.args.found.now c.requires.founds
+
+pub converge-requires : goal.converge-requires
+converge-requires c = c.in_ok-versions.ensures.long ∙ AllZip-long (IsFoundAt c.args.rows.rows) c.args.rows.winners c.args.found.now c.requires.founds
+
+pub lines-requires : goal.lines-requires
+lines-requires c =
+    let cause = rw c.in-Err-Diverged.field-0-is at c.in-Err-Diverged.ensures.refused in
+    let same : c.deref.result.now ≡ c.args.rows.rows = c.deref.ensures.value ∙ c.in_ok-copies.ensures ∙ c.rows-2.ensures.rows in
+    subst (λ (list : List Divergence). All (λ d. (d.winner < length c.deref.result.now) × (d.other < length c.deref.result.now)) list) (sym c.as_slice.ensures)
+    (within_rows c.args.rows.rows c.deref.result.now c.args.rows.winners c.in_ok-versions.versions c.in-Err-Diverged.divergences same cause.0)
+
+pub unreachable-requires : goal.unreachable-requires
+unreachable-requires c =
+    let cause = rw c.in-Err-NoVersion.field-0-is at c.in-Err-NoVersion.ensures.refused in
+    none_missing c.args.rows.rows c.args.rows.winners c.in_ok-versions.versions c.in-Err-NoVersion.field-0-0 c.in_ok-versions.ensures.known cause.1

@@ -1,0 +1,163 @@
+// The options text of a job.
+ghost use Rattle.std.specs.Prelude.{◌≡◌, [], ◌∷◌, ◌++◌, map, IfOk, OnOk};
+ghost use Rattle.elixir_terms.specs.declared.term.Term.TheVariants as term;
+ghost use Rattle.build_plan.specs.Options.{names_terms, compiler_terms, keyword, truth, manager_name, compile_term, compiler_term, variable_term, options_term, options_text};
+
+use compile_model::How;
+use dep_options::{CompileBy, Decl, Manager};
+use elixir_terms::{Term, Terms, print};
+use mx_base::{Bytes, Text, Variable, Variables};
+use std::alloc::{AllocError, Global};
+
+/// All that a declaration says of how it is compiled, with the version, the manager and the compiler of its app.
+pub(crate) fn options_text(
+    alloc: Global,
+    version: &Text,
+    decl: &Decl,
+    manager: Manager,
+    how: &How,
+) -> Result<Bytes, AllocError>
+    ensures { IfOk result (λ text. text ≡ options_text version.now decl.now manager how.now) }
+{
+    let term = options_term(alloc, version, decl, manager, how)?;
+    print(alloc, &term)
+}
+
+fn options_term(
+    alloc: Global,
+    version: &Text,
+    decl: &Decl,
+    manager: Manager,
+    how: &How,
+) -> Result<Term, AllocError>
+    ensures { IfOk result (λ made. made ≡ options_term version.now decl.now manager how.now) }
+{
+    let mut parts = Terms::new(alloc);
+    add_names(alloc, &mut parts, version, decl, manager)?;
+    add_compiler(alloc, &mut parts, decl, how)?;
+    Ok(Term::List(parts))
+}
+
+/// Adds what the app is.
+fn add_names(
+    alloc: Global,
+    parts: &mut Terms,
+    version: &Text,
+    decl: &Decl,
+    manager: Manager,
+) -> Result<(), AllocError>
+    ensures { OnOk result (parts.new ≡ parts.old ++ names_terms version.now decl.now manager) }
+{
+    parts.push(keyword(alloc, "app", atom(alloc, decl.app.as_str())?)?)?;
+    let version = string(alloc, version.as_slice())?;
+    parts.push(keyword(alloc, "version", version)?)?;
+    parts.push(keyword(alloc, "env", atom(alloc, decl.env.as_str())?)?)?;
+    let manager = atom(alloc, manager_name(manager))?;
+    parts.push(keyword(alloc, "manager", manager)?)
+}
+
+/// Adds how it is compiled.
+fn add_compiler(alloc: Global, parts: &mut Terms, decl: &Decl, how: &How) -> Result<(), AllocError>
+    ensures { OnOk result (parts.new ≡ parts.old ++ compiler_terms decl.now how.now) }
+{
+    let compile = compile_term(alloc, &decl.compile)?;
+    parts.push(keyword(alloc, "compile", compile)?)?;
+    let compiler = compiler_term(alloc, how)?;
+    parts.push(keyword(alloc, "compiler", compiler)?)?;
+    let app_file = truth(alloc, decl.app_file)?;
+    parts.push(keyword(alloc, "app_file", app_file)?)?;
+    let variables = variables_term(alloc, &decl.system_env)?;
+    parts.push(keyword(alloc, "system_env", variables)?)?;
+    Ok(())
+}
+
+fn atom(alloc: Global, name: &str) -> Result<Term, AllocError>
+    ensures { IfOk result (λ made. made ≡ term.Atom name.now) }
+{
+    Ok(Term::Atom(Text::from_slice(alloc, name.as_bytes())?))
+}
+
+fn string(alloc: Global, bytes: &[u8]) -> Result<Term, AllocError>
+    ensures { IfOk result (λ made. made ≡ term.Str bytes.now) }
+{
+    Ok(Term::Str(Bytes::from_slice(alloc, bytes)?))
+}
+
+fn keyword(alloc: Global, name: &str, value: Term) -> Result<Term, AllocError>
+    ensures { IfOk result (λ made. made ≡ keyword name.now value) }
+{
+    pair(alloc, atom(alloc, name)?, value)
+}
+
+fn pair(alloc: Global, first: Term, second: Term) -> Result<Term, AllocError>
+    ensures { IfOk result (λ made. made ≡ term.Tuple (first ∷ second ∷ [])) }
+{
+    let mut parts = Terms::new(alloc);
+    parts.push(first)?;
+    parts.push(second)?;
+    Ok(Term::Tuple(parts))
+}
+
+fn truth(alloc: Global, holds: bool) -> Result<Term, AllocError>
+    ensures { IfOk result (λ made. made ≡ truth holds) }
+{
+    atom(alloc, if holds { "true" } else { "false" })
+}
+
+fn manager_name(manager: Manager) -> &'static str
+    ensures { result.now ≡ manager_name manager }
+{
+    match manager {
+        Manager::Mix => "mix",
+        Manager::Rebar3 => "rebar3",
+        Manager::Make => "make",
+    }
+}
+
+fn compile_term(alloc: Global, compile: &CompileBy) -> Result<Term, AllocError>
+    ensures { IfOk result (λ made. made ≡ compile_term compile.now) }
+{
+    match compile {
+        CompileBy::Manager => truth(alloc, true),
+        CompileBy::Command(text) => string(alloc, text.as_slice()),
+        CompileBy::Nothing => truth(alloc, false),
+    }
+}
+
+fn compiler_term(alloc: Global, how: &How) -> Result<Term, AllocError>
+    ensures { IfOk result (λ made. made ≡ compiler_term how.now) }
+{
+    match how {
+        How::Nothing => atom(alloc, "none"),
+        How::Unit => atom(alloc, "unit"),
+        How::Program(words) => words_term(alloc, words.as_slice()),
+    }
+}
+
+fn words_term(alloc: Global, words: &[Text]) -> Result<Term, AllocError>
+    ensures { IfOk result (λ made. made ≡ term.List (map (λ word. term.Str word) words.now)) }
+{
+    let mut parts = Terms::new(alloc);
+    for word in words {
+        parts.push(string(alloc, word.as_slice())?)?;
+    }
+    Ok(Term::List(parts))
+}
+
+fn variables_term(alloc: Global, variables: &Variables) -> Result<Term, AllocError>
+    ensures { IfOk result (λ made. made ≡ term.List (map variable_term variables.now)) }
+{
+    pairs_term(alloc, variables.as_slice())
+}
+
+fn pairs_term(alloc: Global, variables: &[Variable]) -> Result<Term, AllocError>
+    ensures { IfOk result (λ made. made ≡ term.List (map variable_term variables.now)) }
+{
+    let mut parts = Terms::new(alloc);
+    for variable in variables {
+        let name = string(alloc, variable.name.as_slice())?;
+        let value = string(alloc, variable.value.as_slice())?;
+        parts.push(pair(alloc, name, value)?)?;
+    }
+    Ok(Term::List(parts))
+}
