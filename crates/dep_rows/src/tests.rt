@@ -114,7 +114,9 @@ fn count<C: Children>(
     alloc: Global,
     root: &[Decl],
     children: &mut C,
-) -> Result<usize, RowsError<C::Fault>> {
+) -> Result<usize, RowsError<C::Fault>>
+    requires { C.stands children.old }
+{
     let found = rows(alloc, root, children)?;
     Ok(found.rows().len())
 }
