@@ -1,5 +1,5 @@
 -- One job after another.
-use Rattle.std.proofs.Common.{◌≡◌, ℕ, zero, suc, ◌+◌, ◌<◌, ◌≤◌, ◌⊎◌, inl, inr, min, Bool, true, false, ◌||◌, List, [], ◌∷◌, ◌++◌, length, take, map, sum, refl, sym, ◌∙◌, ap, ap₂, subst, arith, IsTrue, IsFalse, IfSome, MatchOption, Option, Some, None, Result, Ok, Err, All, Contains}
+use Rattle.std.proofs.Common.{◌≡◌, ℕ, zero, suc, ◌+◌, ◌<◌, ◌≤◌, inl, inr, min, Bool, false, ◌||◌, List, [], ◌∷◌, ◌++◌, length, take, map, sum, refl, sym, ◌∙◌, ap, subst, arith, IsTrue, IsFalse, IfSome, Option, Some, None, All}
 use Rattle.std.specs.Prelude.{nat_lt, nat_le}
 use Rattle.std.specs.List.{slice_get}
 use Rattle.std.proofs.lemmas.Bool.{false≢true, cases_lt, or_left, or_right, le-leb, lt-leb, le-ltb, lt-ltb}
@@ -19,10 +19,10 @@ use Rattle.build_plan.specs.declared.error.PlanError.TheVariants.{TooLarge}
 use Rattle.build_plan.specs.declared.found.Found.{Found}
 use Rattle.build_plan.specs.Dependencies.{is_apart, version_by}
 use Rattle.build_plan.specs.Faults.{is_memory_error, is_read_error, of_store}
-use Rattle.build_plan.specs.Found.{AreSources, IsFound, IsSound}
+use Rattle.build_plan.specs.Found.{AreSources, IsFound}
 use Rattle.build_plan.specs.Jobs.{AllFit, AreFirstJobs, IsJobAt, is_too_large, job_with, places_in, most_bytes, most_files, most_plan_bytes, source_bytes}
 use Rattle.build_plan.specs.Needs.{apps_of}
-use Rattle.build_plan.specs.Scenes.{Fits, HasRoom, IsKnownAt, IsPost, IsPostWith, Misses, Passes, RefusesJob, RefusesJobs, job_from}
+use Rattle.build_plan.specs.Scenes.{Fits, IsKnownAt, IsPostWith, Misses, Passes, RefusesJob, RefusesJobs, job_from}
 use Rattle.build_plan.specs.Sources.{bytes_in, sources_of}
 use Rattle.build_plan.proofs.ManagerLemmas.{job_from_sources}
 

@@ -176,13 +176,7 @@ fn plans_and_refusals_of_small_projects(rt: HostRuntime) -> Result<(), Fail> {
     let alloc = rt.alloc();
     let cases = [
         // The root, p, a, b, and what is told.
-        (
-            "{:p, path: \"p\"}, {:a, path: \"a\"}",
-            "",
-            "",
-            "",
-            "p; a; ",
-        ),
+        ("{:p, path: \"p\"}, {:a, path: \"a\"}", "", "", "", "p; a; "),
         (
             "{:a, path: \"a\", only: :test}, {:p, path: \"p\"}",
             "{:a, path: \"../a\"}",

@@ -1,4 +1,4 @@
-use Rattle.std.proofs.Common.{◌≡◌, ◌≤◌}
+use Rattle.std.proofs.Common.{◌≤◌}
 use Rattle.std.proofs.lemmas.Result.{err_from_is_err_and}
 use Rattle.compile_model.specs.Planned.{most_jobs}
 use Rattle.build_plan.proofs.JobLemmas.{if_many, if_store_failed}

@@ -1,7 +1,8 @@
-use Rattle.std.proofs.Common.{◌≡◌, ℕ, ◌+◌, ◌-◌, ◌<◌, ◌≤◌, List, [], ◌∷◌, ◌++◌, length, Option, IfSome, refl, sym, ◌∙◌, ap, subst, arith}
+use Rattle.std.proofs.Common.{◌≡◌, ℕ, ◌+◌, ◌-◌, ◌<◌, ◌≤◌, false, List, [], ◌∷◌, ◌++◌, length, Option, IfSome, refl, ◌∙◌, ap, subst, arith}
 use Rattle.std.proofs.lemmas.List.{length-append}
 use Rattle.std.proofs.lemmas.Result.{err_from_is_err_and}
 use Rattle.mx_base.specs.declared.file.File.{File}
+use Rattle.compile_model.specs.Planned.{most_jobs}
 use Rattle.dep_order.specs.Listing.{IsOrderOf}
 use Rattle.build_plan.specs.Jobs.{IsJobAt}
 use Rattle.build_plan.specs.Scenes.{RefusesJob}
@@ -18,8 +19,8 @@ returns-in_err-job-clause-refused g c =
     let within : l.at < length s.order.now = omega (arith, c.loop-at-test.true) in
     let p = err_from_is_err_and c.from_residual.result c.from_residual.ensures.1 in
     rw (p.1, p.2) (λ no_read no_memory.
-        if_refuses_jobs (g.S.Store.sources c.args.store.now) s.settings.now s.rows.now s.places.now s.order.now l.jobs.items l.at l.room error within l.invariant.long l.invariant.meant l.invariant.fit l.invariant.room
-        (subst (λ (told : Option (List File)). IfSome told (λ files. RefusesJob files s.settings.now s.rows.now s.places.now s.order.now l.at l.room error)) l.invariant.sources (c.in_err-job.ensures.refused no_read no_memory)))
+    if_refuses_jobs (g.S.Store.sources c.args.store.now) s.settings.now s.rows.now s.places.now s.order.now l.jobs.items l.at l.room error within l.invariant.long l.invariant.meant l.invariant.fit l.invariant.room
+    (subst (λ (told : Option (List File)). IfSome told (λ files. RefusesJob files s.settings.now s.rows.now s.places.now s.order.now l.at l.room error)) l.invariant.sources (c.in_err-job.ensures.refused no_read no_memory)))
 
 pub loop-at-preserved : goal.loop-at-preserved
 loop-at-preserved g c =
@@ -46,7 +47,7 @@ loop-at-preserved g c =
       sources = c.in_ok-job.ensures.sources ∙ l.invariant.sources;
       same = c.in_ok-job.ensures.same ∙ l.invariant.same;
       returned = c.in_ok-job.ensures.returned ∙ l.invariant.returned;
-      faults = c.in_ok-job.ensures.cause.kept refl ∙ l.invariant.faults;
+      faults = c.in_ok-job.ensures.cause.kept (refl {a = false}) ∙ l.invariant.faults;
     }
 
 pub returns-clause-planned : goal.returns-clause-planned
@@ -56,5 +57,5 @@ returns-clause-planned g c =
     let scene = c.requires.scene in
     let is_order : IsOrderOf _ s.order.now = subst (λ (graph : List (List ℕ)). IsOrderOf graph s.order.now) scene.is_graph scene.is_order in
     let all : length l.jobs.items ≡ length s.order.now = omega (arith, l.invariant.long, c.loop-at-test.false, l.auto.at-end) in
-    let few : length l.jobs.items ≤ 4096 = omega (arith, l.invariant.long, l.invariant.few) in
+    let few : length l.jobs.items ≤ most_jobs = omega (arith, l.invariant.long, l.invariant.few) in
     are_planned s.rows.now s.places.now s.order.now is_order scene.in_order scene.only l.jobs.items all few l.invariant.known l.invariant.sent
