@@ -1,5 +1,5 @@
 -- What is found in a folder.
-use Rattle.std.proofs.Common.{◌≡◌, ℕ, eqb, filter, ◌∷◌, length, Bool, true, false, not, cond, List, Option, Some, None, option_and_then, Result, Ok, Err, IfSome, IsTrue, IsFalse, refl, sym, ◌∙◌, ap, subst, codes, bytes_eq, ◌&&◌, []}
+use Rattle.std.proofs.Common.{◌≡◌, ℕ, eqb, filter, ◌∷◌, length, Bool, true, false, not, cond, List, Option, Some, None, option_and_then, Ok, Err, IfSome, IsTrue, IsFalse, refl, sym, ◌∙◌, ap, subst, codes, bytes_eq, ◌&&◌, []}
 use Rattle.std.proofs.lemmas.Bool.{eqb-true, eqb-false}
 use Rattle.std.proofs.lemmas.List.{nil_from_length}
 use Rattle.std.specs.Str.{is_utf8, chars}
@@ -18,7 +18,7 @@ use Rattle.project_file.specs.declared.project.Project.{Project}
 use Rattle.project_file.specs.declared.error.ProjectError.{ProjectError}
 use Rattle.project_file.specs.declared.error.ProjectError.TheVariants as project
 use Rattle.project_file.specs.Files.{IsLoaded, is_outside, manifest_at}
-use Rattle.project_file.specs.Manifest.{Stated, entries_of, stated, stated_by, stated_of, if_version, is_version, version_of, IsProject}
+use Rattle.project_file.specs.Manifest.{Stated, entries_of, stated, stated_by, if_version, is_version, version_of, IsProject}
 use Rattle.project_file.specs.Manifest.IsProject.{bare, whole}
 use Rattle.build_plan.specs.declared.found.Found.{Found}
 use Rattle.build_plan.specs.declared.children.ChildFault.{ChildFault}

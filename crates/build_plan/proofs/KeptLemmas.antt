@@ -1,6 +1,6 @@
 -- What is kept, as folders are looked into.
 use Rattle.std.proofs.Common.{◌≡◌, ℕ, Bool, true, false, cond, List, Option, Some, None, IfSome, refl, sym, ◌∙◌, subst}
-use Rattle.std.specs.BTreeMap.{BTreeMap, Updates, UpdatesBy, get, get_by}
+use Rattle.std.specs.BTreeMap.{BTreeMap, Updates, UpdatesBy, get}
 use Rattle.std.specs.Ordering.{is_eq}
 use Rattle.mx_base.specs.declared.file.File.{File}
 use Rattle.mx_base.specs.Order.{text_cmp}

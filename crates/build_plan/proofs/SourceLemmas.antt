@@ -9,8 +9,6 @@ use Rattle.mx_base.specs.Order.{ArePathsInOrder, AreInOrder, paths_of, bytes_at}
 use Rattle.mx_base.specs.Path.{child_of, folder_text, path_from}
 use Rattle.mx_base.proofs.FolderLemmas.{after_is}
 use Rattle.mx_base.proofs.OrderLemmas.{in_order_without, in_order_behind}
-use Rattle.tree_store.specs.Files.{paths_below}
-use Rattle.project_file.specs.Files.{manifest_at}
 use Rattle.build_plan.specs.declared.found.Found.{Found}
 use Rattle.build_plan.specs.Found.{IsFound}
 use Rattle.build_plan.specs.Jobs.{most_files}

@@ -1,6 +1,6 @@
 -- The versions of what was found.
-use Rattle.std.proofs.Common.{◌≡◌, ℕ, List, [], ◌∷◌, Option, Some, None, Ok, refl, sym, ◌∙◌, subst, Bool, true, false, ◌&&◌, is_ok, IsTrue, length, take, get_or, suc, ap, ◌≤◌, ◌<◌, ◌+◌, ◌++◌}
-use Rattle.std.specs.Prelude.{IsSome, ⊤}
+use Rattle.std.proofs.Common.{◌≡◌, ℕ, List, [], ◌∷◌, Option, Some, Ok, refl, sym, ◌∙◌, subst, Bool, true, false, ◌&&◌, is_ok, IsTrue, length, take, get_or, suc, ap, ◌≤◌, ◌<◌, ◌+◌, ◌++◌}
+use Rattle.std.specs.Prelude.{IsSome}
 use Rattle.std.specs.List.{All, AllZip}
 use Rattle.std.specs.Str.{is_utf8, IsUtf8}
 use Rattle.std.proofs.lemmas.List.{take_all, take_more}
@@ -13,7 +13,7 @@ use Rattle.semver.specs.declared.Version.{Version}
 use Rattle.mx_base.specs.declared.file.File.{File}
 use Rattle.dep_rows.specs.declared.row.Row.{Row}
 use Rattle.build_plan.specs.declared.found.Found.{Found}
-use Rattle.build_plan.specs.Dependencies.{AreVersions, HasVersion, version_by}
+use Rattle.build_plan.specs.Dependencies.{AreVersions, version_by}
 use Rattle.build_plan.specs.Found.{IsFound, IsFoundAt}
 
 -- the version that the manifest says

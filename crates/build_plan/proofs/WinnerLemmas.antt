@@ -1,5 +1,5 @@
 -- What was found for winners.
-use Rattle.std.proofs.Common.{◌≡◌, ℕ, ◌<◌, ◌++◌, get_or, Bool, true, false, List, [], ◌∷◌, length, slice_get, Option, Some, None, Result, Ok, Err, IfErr, IfSome, IsTrue, IsFalse, ◌⊎◌, inl, inr, refl, sym, ◌∙◌, ap, subst}
+use Rattle.std.proofs.Common.{◌≡◌, ℕ, ◌<◌, ◌++◌, get_or, true, false, List, [], ◌∷◌, length, slice_get, Option, Some, None, Result, Ok, Err, IfErr, IfSome, IsTrue, IsFalse, inl, inr, refl, sym, ◌∙◌, subst}
 use Rattle.std.specs.List.{All, Contains}
 use Rattle.std.specs.Result.{IsErrAnd}
 use Rattle.std.proofs.lemmas.List.Elements.{All-nil, All-cons, All-contains, All-push}
@@ -17,7 +17,6 @@ use Rattle.dep_rows.specs.Rows.{ChildrenOf, Blocks, AreRows, AreWinners, IsWinne
 use Rattle.dep_rows.specs.Rows.Blocks.{none, next}
 use Rattle.build_plan.specs.declared.children.ChildFault.{ChildFault}
 use Rattle.build_plan.specs.declared.children.ChildFault.TheVariants as child
-use Rattle.build_plan.specs.declared.error.PlanError.{PlanError}
 use Rattle.build_plan.specs.ChildFaults.{of_rows, RefusesWinner}
 use Rattle.build_plan.specs.Dependencies.{AreChildren, has_files}
 use Rattle.build_plan.specs.Faults.{is_failed, is_memory, of_child, is_read_error, is_memory_error}

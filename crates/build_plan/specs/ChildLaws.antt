@@ -1,5 +1,5 @@
 -- What an app declares in turn is one thing.
-use Rattle.std.proofs.Common.{◌≡◌, ℕ, Bool, true, false, List, filter, Option, Some, None, Result, Ok, Err, IfSome, IsTrue, IsFalse, refl, sym, ◌∙◌, ap, subst}
+use Rattle.std.proofs.Common.{◌≡◌, ℕ, true, false, List, filter, Option, Some, None, Result, Ok, Err, IfSome, IsTrue, IsFalse, refl, sym, ◌∙◌, ap, subst}
 use Rattle.mx_base.specs.declared.file.File.{File}
 use Rattle.elixir_terms.proofs.RefusalLaws.{refusal_one}
 use Rattle.elixir_terms.proofs.SpelledLemmas.{spelled_not_refused}
@@ -12,12 +12,11 @@ use Rattle.dep_options.proofs.OneLemmas.{one_of}
 use Rattle.dep_rows.specs.Rows.{AnswersOnce}
 use Rattle.converger.specs.Reach.{admits}
 use Rattle.project_file.specs.declared.error.ProjectError.{ProjectError}
-use Rattle.project_file.specs.declared.error.ProjectError.TheVariants as project
 use Rattle.project_file.specs.declared.project.Project.{Project}
 use Rattle.project_file.specs.Files.{IsLoaded, manifest_at}
 use Rattle.project_file.proofs.OneLemmas.{project_law}
 use Rattle.build_plan.specs.declared.children.ChildFault.{ChildFault}
-use Rattle.build_plan.specs.declared.children.ChildFault.TheVariants.{PathMissing, Project as Refused, NotLocked}
+use Rattle.build_plan.specs.declared.children.ChildFault.TheVariants.{PathMissing, Project as Refused}
 use Rattle.build_plan.specs.Dependencies.{AreChildren, declared_by, has_files}
 use Rattle.build_plan.specs.Dependencies.AreChildren.{unlocked, missing, refused, declared}
 use Rattle.build_plan.specs.Faults.{is_failed, is_memory}

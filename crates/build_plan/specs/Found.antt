@@ -1,6 +1,6 @@
 -- What was found in the folder of a dependency.
 use Rattle.std.specs.Prelude.{◌≡◌, ◌⊎◌, ℕ, ◌<◌, List, length, Option, Some, Ok, IsTrue, IsFalse, slice_get, MatchOption}
-use Rattle.std.specs.List.{All, AllZip}
+use Rattle.std.specs.List.{All}
 use Rattle.mx_base.specs.declared.file.File.{File}
 use Rattle.mx_base.specs.Order.{ArePathsInOrder, bytes_at}
 use Rattle.tree_store.specs.Files.{paths_below, is_in_build}

@@ -1,4 +1,4 @@
-use Rattle.std.proofs.Common.{◌≡◌, ℕ, List, Option, IfSome, true, codes, sym, ◌∙◌, subst, rules}
+use Rattle.std.proofs.Common.{◌≡◌, ℕ, List, Option, IfSome, codes, sym, subst}
 use Rattle.mx_base.specs.Order.{bytes_at}
 use Rattle.dep_options.proofs.Copies.{same_option}
 use Rattle.build_plan.specs.Found.{IsFound}

@@ -1,4 +1,4 @@
-use Rattle.std.proofs.Common.{ℕ, ◌+◌, ◌<◌, List, Option, Some, length, take, refl, sym, subst, arith}
+use Rattle.std.proofs.Common.{◌+◌, ◌<◌, List, Option, Some, length, take, refl, sym, subst, arith}
 use Rattle.std.specs.List.{AllZip}
 use Rattle.semver.specs.declared.Version.{Version}
 use Rattle.build_plan.specs.declared.found.Found.{Found}

@@ -1,4 +1,4 @@
-use Rattle.std.proofs.Common.{◌≡◌, ℕ, List, Some, sym, ◌∙◌, ap, subst, rules}
+use Rattle.std.proofs.Common.{◌≡◌, ℕ, List, sym, ◌∙◌, ap, subst, rules}
 use Rattle.dep_options.specs.declared.decl.DepSource.TheVariants.{Path}
 use Rattle.build_plan.specs.Kept.{IsFoundIn}
 use Rattle.build_plan.proofs.FolderLemmas.{unlocked_here}
