@@ -1,4 +1,4 @@
-use Rattle.std.proofs.Common.{◌≡◌, ℕ, ◌≤◌, List, [], length, All, IfSome, Option, Some, None, Ok, Err, sym, ◌∙◌, subst, rules}
+use Rattle.std.proofs.Common.{◌≤◌, List, [], length, All, IfSome, Option, Some, Ok, sym, ◌∙◌, subst}
 use Rattle.std.proofs.lemmas.Result.{err_from_is_err_and}
 use Rattle.mx_base.specs.declared.file.File.{File}
 use Rattle.compile_model.specs.declared.job.Job.{Job}
@@ -9,7 +9,7 @@ use Rattle.project_file.specs.Files.{IsLoaded}
 use Rattle.build_plan.specs.Dependencies.{AreChildren}
 use Rattle.build_plan.specs.Found.{IsFound}
 use Rattle.build_plan.specs.Plan.{IsPlan, RefusesRows}
-use Rattle.build_plan.specs.Scenes.{Diverge, HasJobs, HasNoJobs, Match, RefusesRoot}
+use Rattle.build_plan.specs.Scenes.{HasJobs, HasNoJobs, Match, RefusesRoot}
 use Rattle.build_plan.proofs.PlanLemmas.{if_settings_refused, if_root_refused, if_rows_refused, if_diverged, if_diverge, if_match, if_no_jobs, if_planned}
 use Rattle.build_plan.proofs.planning.plan.Goals as goal
 
