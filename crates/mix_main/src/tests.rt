@@ -1,4 +1,5 @@
 // What a command builds and prints.
+ghost use Rattle.tree_store.specs.Slot.{AllHere};
 
 use crate::run;
 use compile_model::EchoCompiler;
@@ -6,7 +7,7 @@ use mx_base::{AppName, Bytes, FaultPlan, File, MemSink, NoFaults, RelPath};
 use std::alloc::{AllocError, Global};
 use std::process::Abort;
 use std::test::Fail;
-use tree_store::{ConstStore, Contents, Folder, MemStore, Store};
+use tree_store::{Contents, Folder, MemStore, Store};
 
 const ROOT: &str =
     "[app: :demo, version: \"0.1.0\", deps: [{:a, path: \"a\"}, {:b, path: \"b\"}, {:c, path: \"c\"}]]";
@@ -87,27 +88,22 @@ pub(crate) fn failing(alloc: Global, call: u64) -> Result<FaultPlan, Fail> {
     Ok(FaultPlan::new(vec![in alloc; call]?))
 }
 
-fn store_of(alloc: Global, files: &[(&str, &str)]) -> Result<ConstStore, Fail> {
-    let contents = project(alloc, files)?;
-    Ok(MemStore::new(alloc, contents, NoFaults, NoFaults, NoFaults))
+// What a command answers and prints.
+fn outcome<S: Store>(alloc: Global, store: &mut S, given: &[&str]) -> Result<(u8, Vec<u8>), Fail>
+    requires { AllHere (S.slot store.old) }
+    ensures { AllHere (S.slot store.new) }
+{
+    let words = words(alloc, given)?;
+    let mut out = MemSink::new(alloc, Vec::new(alloc));
+    let status = run(alloc, &words, store, &mut EchoCompiler, &mut out);
+    Ok((status.code(), out.as_slice().to_vec(alloc)?))
 }
 
 // What a command answers and prints, over a store that doesn't fail.
 fn told(alloc: Global, files: &[(&str, &str)], given: &[&str]) -> Result<(u8, Vec<u8>), Fail> {
-    let mut store = store_of(alloc, files)?;
-    let mut out = MemSink::new(alloc, Vec::new(alloc));
-    let words = words(alloc, given)?;
-    let status = run(alloc, &words, &mut store, &mut EchoCompiler, &mut out);
-    Ok((status.code(), out.as_slice().to_vec(alloc)?))
-}
-
-// The store after `deps.compile`.
-fn compiled(alloc: Global, files: &[(&str, &str)]) -> Result<ConstStore, Fail> {
-    let mut store = store_of(alloc, files)?;
-    let mut out = MemSink::new(alloc, Vec::new(alloc));
-    let words = words(alloc, &["deps.compile"])?;
-    let _status = run(alloc, &words, &mut store, &mut EchoCompiler, &mut out);
-    Ok(store)
+    let contents = project(alloc, files)?;
+    let mut store = MemStore::new(alloc, contents, NoFaults, NoFaults, NoFaults);
+    outcome(alloc, &mut store, given)
 }
 
 fn bytes_of(alloc: Global, files: &[File]) -> Result<Vec<u8>, AllocError> {
@@ -118,14 +114,25 @@ fn bytes_of(alloc: Global, files: &[File]) -> Result<Vec<u8>, AllocError> {
     Ok(bytes)
 }
 
-// The bytes of an app's output files after `deps.compile`.
-fn output(alloc: Global, files: &[(&str, &str)], app: &str) -> Result<Vec<u8>, Fail> {
-    let mut store = compiled(alloc, files)?;
+// The bytes of an app's files in the build tree.
+fn built<S: Store>(alloc: Global, store: &mut S, app: &str) -> Result<Vec<u8>, Fail>
+where
+    S::F: Drop,
+    requires { AllHere (S.slot store.old) }
+{
     let env = AppName::of(alloc, b"dev")?;
     let app = AppName::of(alloc, app.as_bytes())?;
     let mut folder = store.folder(alloc, &env, &app)?;
     let files = folder.files(alloc)?;
     Ok(bytes_of(alloc, files.as_slice())?)
+}
+
+// The bytes of an app's output files after `deps.compile`.
+fn output(alloc: Global, files: &[(&str, &str)], app: &str) -> Result<Vec<u8>, Fail> {
+    let contents = project(alloc, files)?;
+    let mut store = MemStore::new(alloc, contents, NoFaults, NoFaults, NoFaults);
+    outcome(alloc, &mut store, &["deps.compile"])?;
+    built(alloc, &mut store, app)
 }
 
 /// What `deps.compile` answers and prints over these files.

@@ -5,24 +5,36 @@ use std::fs;
 use std::test::Fail;
 use tree_host::HostStore;
 
-const PROJECT: [(&str, &str); 5] = [
+// The project of `examples/nested`.
+const NESTED: [(&str, &str); 7] = [
     (
         "project.exs",
-        "[app: :demo, version: \"0.1.0\", deps: [{:a, path: \"a\"}, {:b, path: \"b\"}, {:c, path: \"c\"}]]",
+        r#"[app: :shop, version: "0.1.0", deps: [{:web, path: "web"}, {:core, "~> 1.2", path: "core"}]]"#,
     ),
-    ("a/project.exs", "[app: :a, version: \"1.0.0\"]"),
-    ("a/x", "A"),
-    ("b/x", "B"),
-    ("c/x", "C"),
+    (
+        "web/project.exs",
+        r#"[app: :web, version: "1.0.0", deps: [{:core, path: "../core"}, {:log, path: "../log", only: [:dev, :prod]}, {:mock, path: "../mock", only: :test}]]"#,
+    ),
+    ("web/x", "W\n"),
+    (
+        "core/project.exs",
+        r#"[app: :core, version: "1.2.3", deps: [{:log, "~> 0.3", path: "../log"}]]"#,
+    ),
+    ("core/x", "C\n"),
+    ("log/project.exs", r#"[app: :log, version: "0.3.1"]"#),
+    ("log/x", "L\n"),
 ];
+
+const NESTED_BUILT: &str =
+    "==> log 0.3.1 built\n==> core 1.2.3 built\n==> web 1.0.0 built\n3 dependencies: 3 built, 0 failed, 0 skipped\n";
 
 #[test]
 fn the_built_files_are_read_back(rt: HostRuntime) -> Result<(), Fail> {
     let alloc = rt.alloc();
-    for folder in &["a", "b", "c"] {
+    for folder in &["web", "core", "log"] {
         fs::create_dir(&rt, *folder)?;
     }
-    for (path, text) in &PROJECT {
+    for (path, text) in &NESTED {
         fs::write(&rt, *path, *text)?;
     }
     let mut words = Vec::new(alloc);
@@ -30,15 +42,12 @@ fn the_built_files_are_read_back(rt: HostRuntime) -> Result<(), Fail> {
     let mut store = HostStore::new(rt.clone()?, alloc, ".")?;
     let mut out = MemSink::new(alloc, Vec::new(alloc));
     let status = run(alloc, &words, &mut store, &mut EchoCompiler, &mut out);
+    assert_eq!(rt; out.as_slice(), NESTED_BUILT.as_bytes());
     assert_eq!(rt; status.code(), 0);
-    assert_eq!(rt;
-        out.as_slice(),
-        b"==> a 1.0.0 built\n==> b 0.0.0 built\n==> c 0.0.0 built\n3 dependencies: 3 built, 0 failed, 0 skipped\n".as_slice()
-    );
     for (path, text) in &[
-        ("_build/dev/lib/a/a.out", "A"),
-        ("_build/dev/lib/b/b.out", "B"),
-        ("_build/dev/lib/c/c.out", "C"),
+        ("_build/dev/lib/log/log.out", "L\n"),
+        ("_build/dev/lib/core/core.out", "C\nL\n"),
+        ("_build/dev/lib/web/web.out", "W\nL\nC\nL\n"),
     ] {
         assert_eq!(rt; fs::read_to_string(&rt, *path)?.as_str(), *text);
     }
