@@ -12,7 +12,7 @@ use Rattle.tree_store.specs.Files.{paths_below, is_in_build}
 use Rattle.dep_options.specs.declared.decl.Decl.{Decl}
 use Rattle.dep_options.specs.declared.decl.DepSource.TheVariants.{Hex, Path}
 use Rattle.converger.specs.Reach.{admits}
-use Rattle.dep_options.specs.Views.{string_of, Named}
+use Rattle.elixir_terms.specs.Views.{string_of, Named}
 use Rattle.dep_options.specs.Options.{first_of}
 use Rattle.project_file.specs.declared.project.Project.{Project}
 use Rattle.project_file.specs.declared.error.ProjectError.{ProjectError}

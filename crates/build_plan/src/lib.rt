@@ -20,8 +20,6 @@ mod planning;
 mod posts;
 mod root;
 mod sources;
-#[cfg(test)]
-mod tests;
 mod versions;
 
 pub use children::ChildFault;

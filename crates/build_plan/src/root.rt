@@ -6,12 +6,11 @@ ghost use Rattle.build_plan.specs.Faults.{is_read, is_read_error, is_memory_erro
 ghost use Rattle.build_plan.specs.Scenes.{RefusesRoot, RefusesSettings};
 
 use crate::error::PlanError;
+use crate::found::MANIFEST;
 use mx_base::RelPath;
 use project_file::{Project, ProjectError, Settings, SettingsError, load_project, load_settings};
 use std::alloc::Global;
 use tree_store::Store;
-
-const MANIFEST: &str = "project.exs";
 
 /// Reads the settings of a project.
 pub(crate) fn settings<S: Store>(alloc: Global, store: &mut S) -> Result<Settings, PlanError>

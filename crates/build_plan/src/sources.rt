@@ -2,15 +2,15 @@
 ghost use Rattle.std.specs.Prelude.{◌≡◌, ◌≤◌, length, codes, IfOk, IfSome, IsFalse};
 ghost use Rattle.mx_base.specs.Causes.{Counted};
 ghost use Rattle.mx_base.specs.Order.{bytes_at};
-ghost use Rattle.mx_base.specs.Path.{child_of, first_segment};
+ghost use Rattle.mx_base.specs.Path.{child_of};
 ghost use Rattle.tree_store.specs.Faults.{is_failed};
 ghost use Rattle.tree_store.specs.Files.{is_in_build};
-ghost use Rattle.dep_options.specs.Options.{is_kept_apart};
 ghost use Rattle.build_plan.specs.Found.{AreSources, IsFound, IsSound};
 ghost use Rattle.build_plan.specs.Jobs.{most_files};
 ghost use Rattle.build_plan.specs.Sources.{bytes_in, is_source, source_at};
 
 use crate::found::{Found, MANIFEST};
+use dep_options::is_kept_apart;
 use mx_base::{Bytes, File, Files, RelPath};
 use std::alloc::Global;
 use tree_store::{Store, StoreFault};
@@ -104,16 +104,4 @@ fn is_source(path: &RelPath) -> bool
     ensures { result ≡ is_source path.now }
 {
     !is_kept_apart(path) && path.as_str() != "mix.lock"
-}
-
-/// Whether a path leads into a folder whose files are no sources.
-fn is_kept_apart(path: &RelPath) -> bool
-    ensures { result ≡ is_kept_apart (first_segment path.now) }
-{
-    let text = path.as_str();
-    let first = match text.split_once('/') {
-        Some((first, _)) => first,
-        None => text,
-    };
-    first == "_build" || first == "deps" || first == "hex"
 }

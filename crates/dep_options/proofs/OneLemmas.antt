@@ -7,7 +7,7 @@ use Rattle.dep_options.specs.declared.decl.Decl.{Decl}
 use Rattle.dep_options.specs.declared.error.OptionCause.{OptionCause}
 use Rattle.dep_options.specs.declared.error.OptionError.{OptionError}
 use Rattle.dep_options.specs.Options.{first_fault}
-use Rattle.dep_options.specs.Views.{list_of}
+use Rattle.elixir_terms.specs.Views.{list_of}
 use Rattle.dep_options.specs.Decls.{Written, written_of, IsRequirement, IsBadRequirement, has_source, decl_of, IsDecl, shape, requirement, option, source, good, AreDeclsFrom, end, refused, later, more, AreDecls, no_list, items}
 
 -- no text spells two requirements

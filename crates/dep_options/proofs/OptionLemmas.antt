@@ -14,7 +14,8 @@ use Rattle.dep_options.specs.declared.error.OptionCause.TheVariants.{BadValue}
 use Rattle.dep_options.specs.declared.option_values.OptionValues.{OptionValues}
 use Rattle.dep_options.specs.Options.{first_of, has_name, fault_of, first_fault, or_else, truth_of, environments_of, compile_of, folder_of, package_of, manager_of, variables_of}
 use Rattle.dep_options.specs.Values.{values_of, with_option}
-use Rattle.dep_options.specs.Views.{app_of, Named}
+use Rattle.elixir_terms.specs.Views.{Named}
+use Rattle.dep_options.specs.Views.{app_of}
 
 same_names : (n m : List ℕ) → bytes_eq n m ≡ true → n ≡ m
 same_names n m e = (bytes_eq-Decides n m).0 e

@@ -11,7 +11,8 @@ use Rattle.dep_options.specs.declared.error.OptionCause.{OptionCause}
 use Rattle.dep_options.specs.declared.error.OptionCause.TheVariants.{Shape, BadRequirement, NoSource}
 use Rattle.dep_options.specs.declared.error.OptionError.{OptionError}
 use Rattle.dep_options.specs.Options.{first_of, first_fault, given, truth_of, environments_of, compile_of, folder_of, package_of, manager_of, variables_of}
-use Rattle.dep_options.specs.Views.{string_of, list_of, tuple_of, keywords_of, app_of, Named}
+use Rattle.elixir_terms.specs.Views.{string_of, list_of, tuple_of, keywords_of, Named}
+use Rattle.dep_options.specs.Views.{app_of}
 
 -- what stands in a declaration
 pub record Written : Type 0 where

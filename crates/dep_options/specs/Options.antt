@@ -13,7 +13,8 @@ use Rattle.dep_options.specs.declared.decl.Manager.TheVariants as manager
 use Rattle.mx_base.specs.declared.variable.Variable.{Variable}
 use Rattle.dep_options.specs.declared.error.OptionCause.{OptionCause}
 use Rattle.dep_options.specs.declared.error.OptionCause.TheVariants.{UnknownOption, UnsupportedSource, BadValue}
-use Rattle.dep_options.specs.Views.{atom_of, string_of, list_of, map_of, pair_of, all_of, if_app, app_of, Named}
+use Rattle.elixir_terms.specs.Views.{atom_of, string_of, list_of, map_of, pair_of, all_of, Named}
+use Rattle.dep_options.specs.Views.{if_app, app_of}
 
 -- what an option takes: `Environments` one or a list of them, `Registry` the name of the one that there is, and
 -- `Unsupported` asks for a source that isn't supported

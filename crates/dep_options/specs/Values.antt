@@ -13,7 +13,8 @@ use Rattle.dep_options.specs.declared.option_name.OptionName.{OptionName}
 use Rattle.dep_options.specs.declared.option_name.OptionName.TheVariants as name
 use Rattle.dep_options.specs.declared.option_values.OptionValues.{OptionValues}
 use Rattle.dep_options.specs.Options.{Registry, Unsupported, kind_of, first_of, fault_by, truth_of, environments_of, compile_of, folder_of, package_of, manager_of, variable_of, variables_of}
-use Rattle.dep_options.specs.Views.{pair_of, app_of, named_of, Named}
+use Rattle.elixir_terms.specs.Views.{pair_of, Named}
+use Rattle.dep_options.specs.Views.{app_of}
 
 -- want of memory, which says nothing of the declarations
 abbrev pub is_memory : OptionCause → Bool
@@ -24,10 +25,6 @@ is_memory (cause.UnsupportedSource name) = false
 is_memory (cause.BadValue name) = false
 is_memory cause.NoSource = false
 is_memory cause.OutOfMemory = true
-
--- a tuple of an atom and a value
-abbrev pub keyword_of : Term → Option Named
-keyword_of t = option_and_then named_of (pair_of t)
 
 -- a tuple of two strings
 abbrev pub tuple_variable_of : Term → Option Variable

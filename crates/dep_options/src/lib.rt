@@ -6,6 +6,7 @@
 
 mod decl;
 mod error;
+mod kept_apart;
 mod option_name;
 mod option_values;
 mod reading;
@@ -13,8 +14,8 @@ mod stated;
 #[cfg(test)]
 mod tests;
 mod values;
-mod views;
 
 pub use decl::{CompileBy, Decl, DepSource, Manager};
 pub use error::{OptionCause, OptionError};
+pub use kept_apart::is_kept_apart;
 pub use reading::{decls, one_answer};

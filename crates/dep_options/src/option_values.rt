@@ -9,7 +9,6 @@ use crate::option_name::{OptionName, option_named};
 use crate::values::{
     app_of, compile_of, environments_of, folder_of, manager_of, package_of, truth_of, variables_of,
 };
-use crate::views::{is_word, string};
 use elixir_terms::Term;
 use mx_base::{AppName, ListOf, Names, RelPath, Text, Variables, copy_text};
 use std::alloc::{AllocError, Global};
@@ -168,8 +167,8 @@ fn check_registry(name: &Text, value: &Term) -> Result<(), OptionCause>
     ensures err { IfErr result (λ cause. IsFalse (is_memory cause)
         → registry_fault name.now value.now ≡ Some cause) }
 {
-    match string(value) {
-        Some(text) if is_word(text.as_slice(), b"hexpm") => Ok(()),
+    match value.as_string() {
+        Some(text) if text.as_slice() == b"hexpm" => Ok(()),
         Some(_) => Err(OptionCause::UnsupportedSource(copy_text(name)?)),
         None => Err(OptionCause::BadValue(copy_text(name)?)),
     }

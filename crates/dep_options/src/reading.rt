@@ -12,7 +12,6 @@ use crate::decl::Decl;
 use crate::error::{OptionCause, OptionError};
 use crate::option_values::{OptionValues, option_values};
 use crate::stated::read_stated;
-use crate::views::list;
 use elixir_terms::Term;
 use mx_base::{Bytes, RelPath};
 use std::alloc::Global;
@@ -28,7 +27,7 @@ pub fn decls(alloc: Global, base: &RelPath, term: &Term) -> Result<Vec<Decl>, Op
     // What is refused is the first declaration that is refused, unless memory ran out.
     ensures err { IfErr result (IsRefusedAs base.now term.now) }
 {
-    match list(term) {
+    match term.as_list() {
         Some(terms) => decls_in(alloc, base, terms),
         None => Err(OptionError {
             index: 0,

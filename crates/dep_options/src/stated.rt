@@ -1,12 +1,12 @@
 // What stands in a declaration.
 ghost use Rattle.std.specs.Prelude.{◌≡◌, IfOk, option_map, option_and_then, map};
 ghost use Rattle.std.specs.Option.{option_copied};
-ghost use Rattle.dep_options.specs.Views.{app_of, keywords_of};
+ghost use Rattle.elixir_terms.specs.Views.{keywords_of};
+ghost use Rattle.dep_options.specs.Views.{app_of};
 ghost use Rattle.dep_options.specs.Decls.{written_of};
 ghost use Rattle.dep_options.specs.Stated.{written_by, written_as};
 
 use crate::values::app_of;
-use crate::views::{keywords, string, tuple};
 use elixir_terms::Term;
 use mx_base::{AppName, Bytes, Text};
 use std::alloc::{AllocError, Global};
@@ -23,12 +23,12 @@ pub(crate) struct Stated<'a> {
 pub(crate) fn read_stated(alloc: Global, term: &Term) -> Result<Option<Stated<'_>>, AllocError>
     ensures { IfOk result (λ found. option_map written_by found ≡ written_of term.now) }
 {
-    match tuple(term) {
-        Some([app, second]) => match string(second) {
+    match term.as_tuple() {
+        Some([app, second]) => match second.as_string() {
             Some(text) => with_app(alloc, app, Some(text), Vec::new(alloc)),
             None => with_options(alloc, app, None, second),
         },
-        Some([app, requirement, options]) => match string(requirement) {
+        Some([app, requirement, options]) => match requirement.as_string() {
             Some(text) => with_options(alloc, app, Some(text), options),
             None => Ok(None),
         },
@@ -45,7 +45,7 @@ fn with_options<'a>(
     ensures { IfOk result (λ found. option_map written_by found
         ≡ option_and_then (λ os. written_as (app_of app.now) (option_copied requirement.entry) os) (keywords_of options.entry.now)) }
 {
-    match keywords(alloc, options)? {
+    match options.keywords(alloc)? {
         Some(options) => with_app(alloc, app, requirement, options),
         None => Ok(None),
     }

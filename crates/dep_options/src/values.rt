@@ -2,13 +2,13 @@
 ghost use Rattle.std.specs.Prelude.{◌≡◌, not, ◌==◌, IfOk, if◌then◌else◌};
 ghost use Rattle.std.specs.List.{list_any};
 ghost use Rattle.mx_base.specs.AppName.{is_app_name};
-ghost use Rattle.mx_base.specs.Path.{first_segment};
-ghost use Rattle.dep_options.specs.Views.{app_of, all_of};
-ghost use Rattle.dep_options.specs.Options.{truth_of, environments_of, compile_of, is_kept_apart, folder_of, package_of, manager_of, variable_of, variables_of};
+ghost use Rattle.elixir_terms.specs.Views.{all_of};
+ghost use Rattle.dep_options.specs.Views.{app_of};
+ghost use Rattle.dep_options.specs.Options.{truth_of, environments_of, compile_of, folder_of, package_of, manager_of, variable_of, variables_of};
 ghost use Rattle.dep_options.specs.Values.{tuple_variable_of};
 
 use crate::decl::{CompileBy, Manager};
-use crate::views::{atom, is_word, list, pair, string};
+use crate::kept_apart::is_kept_apart;
 use elixir_terms::Term;
 use mx_base::{AppName, ListOf, NameError, Names, PathError, RelPath, Text, Variable, Variables};
 use std::alloc::{AllocError, Global};
@@ -28,7 +28,7 @@ fn name_of(alloc: Global, text: &[u8]) -> Result<Option<AppName>, AllocError>
 pub(crate) fn app_of(alloc: Global, term: &Term) -> Result<Option<AppName>, AllocError>
     ensures { IfOk result (λ found. found ≡ app_of term.now) }
 {
-    match atom(term) {
+    match term.as_atom() {
         Some(name) => name_of(alloc, name.as_slice()),
         None => Ok(None),
     }
@@ -41,7 +41,7 @@ pub(crate) fn package_of(alloc: Global, term: &Term) -> Result<Option<AppName>, 
     if let Some(name) = app_of(alloc, term)? {
         return Ok(Some(name));
     }
-    match string(term) {
+    match term.as_string() {
         Some(text) => name_of(alloc, text.as_slice()),
         None => Ok(None),
     }
@@ -56,7 +56,7 @@ pub(crate) fn environments_of(alloc: Global, term: &Term) -> Result<Option<Names
         names.push(name)?;
         return Ok(Some(names));
     }
-    match list(term) {
+    match term.as_list() {
         Some(terms) => apps_of(alloc, terms),
         None => Ok(None),
     }
@@ -80,10 +80,10 @@ fn apps_of(alloc: Global, terms: &[Term]) -> Result<Option<Names>, AllocError>
 pub(crate) fn truth_of(term: &Term) -> Option<bool>
     ensures { result ≡ truth_of term.now }
 {
-    let name = atom(term)?.as_slice();
-    if is_word(name, b"true") {
+    let name = term.as_atom()?.as_slice();
+    if name == b"true" {
         Some(true)
-    } else if is_word(name, b"false") {
+    } else if name == b"false" {
         Some(false)
     } else {
         None
@@ -97,7 +97,7 @@ pub(crate) fn compile_of(alloc: Global, term: &Term) -> Result<Option<CompileBy>
     if let Some(false) = truth_of(term) {
         return Ok(Some(CompileBy::Nothing));
     }
-    match string(term) {
+    match term.as_string() {
         Some(text) if has_word(text.as_slice()) => {
             let command = Text::from_slice(alloc, text.as_slice())?;
             Ok(Some(CompileBy::Command(command)))
@@ -121,7 +121,7 @@ pub(crate) fn folder_of(
 ) -> Result<Option<RelPath>, AllocError>
     ensures { IfOk result (λ found. found ≡ folder_of base.now term.now) }
 {
-    let Some(text) = string(term) else {
+    let Some(text) = term.as_string() else {
         return Ok(None);
     };
     match RelPath::join(alloc, base, text.as_slice()) {
@@ -132,28 +132,16 @@ pub(crate) fn folder_of(
     }
 }
 
-// Whether a path leads into a folder that no dependency lies in.
-fn is_kept_apart(path: &RelPath) -> bool
-    ensures { result ≡ is_kept_apart (first_segment path.now) }
-{
-    let text = path.as_str();
-    let first = match text.split_once('/') {
-        Some((first, _)) => first,
-        None => text,
-    };
-    first == "_build" || first == "deps" || first == "hex"
-}
-
 // The atom of a manager.
 pub(crate) fn manager_of(term: &Term) -> Option<Manager>
     ensures { result ≡ manager_of term.now }
 {
-    let name = atom(term)?.as_slice();
-    if is_word(name, b"mix") {
+    let name = term.as_atom()?.as_slice();
+    if name == b"mix" {
         Some(Manager::Mix)
-    } else if is_word(name, b"rebar3") {
+    } else if name == b"rebar3" {
         Some(Manager::Rebar3)
-    } else if is_word(name, b"make") {
+    } else if name == b"make" {
         Some(Manager::Make)
     } else {
         None
@@ -201,7 +189,7 @@ fn pair_variables(alloc: Global, pairs: &[(Term, Term)]) -> Result<Option<Variab
 fn tuple_variable(alloc: Global, item: &Term) -> Result<Option<Variable>, AllocError>
     ensures { IfOk result (λ found. found ≡ tuple_variable_of item.now) }
 {
-    match pair(item) {
+    match item.as_pair() {
         Some((name, value)) => variable_of(alloc, name, value),
         None => Ok(None),
     }
@@ -211,7 +199,7 @@ fn tuple_variable(alloc: Global, item: &Term) -> Result<Option<Variable>, AllocE
 fn variable_of(alloc: Global, name: &Term, value: &Term) -> Result<Option<Variable>, AllocError>
     ensures { IfOk result (λ found. found ≡ variable_of (name.now, value.now)) }
 {
-    let (Some(name), Some(value)) = (string(name), string(value)) else {
+    let (Some(name), Some(value)) = (name.as_string(), value.as_string()) else {
         return Ok(None);
     };
     Ok(Some(Variable {

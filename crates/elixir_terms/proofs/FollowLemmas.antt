@@ -16,10 +16,6 @@ pub data Like : List ℕ → List ℕ → Type 0 where
   broken : {rest : List ℕ} (more : List ℕ) → Like rest (10 ∷ more)
   same : (byte : ℕ) {one other : List ℕ} → Like (byte ∷ one) (byte ∷ other)
 
-pub like_self : (rest : List ℕ) → Like rest rest
-like_self [] = ended
-like_self (byte ∷ rest) = same byte
-
 -- with the same bytes before both
 pub like_after : (front rest other : List ℕ) → Like rest other → Like (front ++ rest) (front ++ other)
 like_after [] rest other h = h

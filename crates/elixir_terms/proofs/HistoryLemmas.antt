@@ -187,9 +187,6 @@ placed_history At t (hole ∷ holes) tokens word h reads = in_slot hole.slot hol
 empty_opens : (kind : Bracket) → Opens Inside [] (empty kind)
 empty_opens kind part items entries keywords t reads order encloses = brackets reads encloses
 
-empty_pairs : (kind : Bracket) → Pairs [] (keys_in (empty kind))
-empty_pairs kind = no_pair
-
 opened_history : (Outer : List Token → Type 0) (kind : Bracket) (tokens : List Token) → Outer tokens → BeforePart Outer (empty kind) (tokens ++ Open kind ∷ [])
 opened_history Outer kind tokens h = record { outer = tokens; inside = []; split = refl; opens = empty_opens kind; pairs = λ m. no_pair; before = h }
 

@@ -203,17 +203,6 @@ pub record Reads (text : List ℕ) (s : State) (rest : List ℕ) : Type 0 where
   pub tokens : List Token
   pub trail : Trail tokens start s text rest
 
-pub reads_first : (text rest : List ℕ) → Blanks text rest → past_blank rest ≡ None → Reads text start rest
-reads_first text rest blanks solid = record { tokens = []; trail = rests blanks solid }
-
-pub reads_next : (text : List ℕ) (s next : State) (rest after end : List ℕ) → Reads text s rest → Moves s rest next after → NewEntry next → Blanks after end → past_blank end ≡ None → Reads text next end
-reads_next text s next rest after end r m new blanks solid =
-    let read = read_of s rest m.token after m.stands in
-    record {
-      tokens = r.tokens ++ m.token ∷ [];
-      trail = trail_push m.token after end r.trail (record { begins = read.begins; free = read.free; narrow = read.narrow; calm = read.calm; well = levels_need s m.token m.levels; stepped = m.stepped; new = new_next s next m.token m.stepped m.new new }) blanks solid;
-    }
-
 -- what is expected in a state, it takes
 pub reads_steps : (text : List ℕ) (s : State) (rest : List ℕ) → Reads text s rest → (tok : Token) → IsTrue (takes (expected s) tok) → step s tok ≡ None → ⊥
 reads_steps text s rest r tok t e = let k = takes_steps (deepest + 0) s tok (trail_sound r.trail start_sound 0) t in none_some (sym e ∙ k.1)

@@ -35,6 +35,7 @@ mod strings;
 mod stuck;
 mod term;
 mod token;
+mod views;
 mod words;
 
 pub use error::{Feature, TermCause, TermError};
@@ -42,12 +43,3 @@ pub use laws::{no_refusal, one_refusal};
 pub use printer::print;
 pub use reading::{one_reading, read};
 pub use term::{Pairs, Term, Terms};
-
-#[cfg(test)]
-mod lexer_tests;
-#[cfg(test)]
-mod print_tests;
-#[cfg(test)]
-mod refusal_tests;
-#[cfg(test)]
-mod tests;

@@ -21,6 +21,3 @@ pub use message::Message;
 pub use package::{Dependencies, Dependency, Package, Reason, Release, Releases, Retired};
 pub use reader::read_package;
 pub use writer::write_package;
-
-#[cfg(test)]
-mod tests;

@@ -20,12 +20,3 @@ mod words;
 pub use command::run;
 pub use plain::plain_compile;
 pub use status::Status;
-
-#[cfg(test)]
-mod fault_tests;
-#[cfg(test)]
-mod plan_tests;
-#[cfg(test)]
-mod refusal_tests;
-#[cfg(test)]
-mod tests;

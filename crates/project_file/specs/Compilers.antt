@@ -5,7 +5,7 @@ use Rattle.elixir_terms.specs.declared.term.Term.{Term}
 use Rattle.compile_model.specs.declared.how.How.{How}
 use Rattle.compile_model.specs.declared.how.How.TheVariants.{Unit as ByUnit, Program}
 use Rattle.dep_options.specs.Options.{first_of, or_else}
-use Rattle.dep_options.specs.Views.{atom_of, string_of, list_of, keywords_of, all_of, Named}
+use Rattle.elixir_terms.specs.Views.{atom_of, string_of, list_of, keywords_of, all_of, Named}
 use Rattle.project_file.specs.declared.settings.Settings.{Settings}
 use Rattle.project_file.specs.Manifest.{entries_of}
 

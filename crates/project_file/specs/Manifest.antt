@@ -7,7 +7,8 @@ use Rattle.dep_options.specs.declared.decl.Decl.{Decl}
 use Rattle.dep_options.specs.declared.error.OptionError.{OptionError}
 use Rattle.dep_options.specs.Decls.{AreDecls}
 use Rattle.dep_options.specs.Options.{first_of, or_else}
-use Rattle.dep_options.specs.Views.{string_of, list_of, map_of, keywords_of, all_of, named_of, app_of, Named}
+use Rattle.elixir_terms.specs.Views.{string_of, list_of, map_of, keywords_of, all_of, named_of, Named}
+use Rattle.dep_options.specs.Views.{app_of}
 use Rattle.project_file.specs.declared.project.Project.{Project}
 use Rattle.project_file.specs.declared.error.ProjectError.{ProjectError}
 use Rattle.project_file.specs.declared.error.ProjectError.TheVariants.{Options, Shape}

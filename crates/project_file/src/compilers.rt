@@ -1,13 +1,12 @@
 // What the term of the settings says.
 ghost use Rattle.std.specs.Prelude.{◌≡◌, IfOk, option_and_then, bytes_eq, is_some};
 ghost use Rattle.std.specs.List.{list_all};
-ghost use Rattle.dep_options.specs.Views.{atom_of, all_of};
+ghost use Rattle.elixir_terms.specs.Views.{atom_of, all_of, named};
 ghost use Rattle.project_file.specs.Compilers.{unit_in, program_in, how_of, is_manager, is_compiler, how_by, settings_in, compilers_of, is_setting, first_setting, settings_by, settings_of, no_settings};
-ghost use Rattle.project_file.specs.Entries.{named, word_of};
+ghost use Rattle.project_file.specs.Entries.{word_of};
 
-use crate::entries::{entries, first, keywords};
+use crate::entries::{entries, first};
 use crate::settings::Settings;
-use crate::views::{atom, is_word, list, string};
 use compile_model::{How, Texts};
 use elixir_terms::Term;
 use mx_base::Text;
@@ -60,7 +59,7 @@ fn are_settings(alloc: Global, entries: &[(&Text, &Term)]) -> Result<bool, Alloc
 fn is_setting(alloc: Global, name: &Text, value: &Term) -> Result<bool, AllocError>
     ensures { IfOk result (λ is. is ≡ is_setting (name.now, value.now)) }
 {
-    if is_word(name.as_slice(), b"compilers") {
+    if name.as_slice() == b"compilers" {
         Ok(compilers_of(alloc, value)?.is_some())
     } else {
         Ok(false)
@@ -80,7 +79,7 @@ fn first_setting(alloc: Global, entries: &[(&Text, &Term)]) -> Result<Option<Set
 fn compilers_of(alloc: Global, term: &Term) -> Result<Option<Settings>, AllocError>
     ensures { IfOk result (λ found. found ≡ compilers_of term.now) }
 {
-    match keywords(alloc, term)? {
+    match term.keywords(alloc)? {
         Some(entries) => settings_in(alloc, &entries),
         None => Ok(None),
     }
@@ -124,7 +123,7 @@ fn is_compiler(alloc: Global, name: &Text, value: &Term) -> Result<bool, AllocEr
 fn is_manager(name: &[u8]) -> bool
     ensures { result ≡ is_manager name.now }
 {
-    is_word(name, b"mix") || is_word(name, b"rebar3") || is_word(name, b"make")
+    name == b"mix" || name == b"rebar3" || name == b"make"
 }
 
 // How a manager compiles, as the first entry of its name says.
@@ -147,7 +146,7 @@ fn how_of(alloc: Global, term: &Term) -> Result<Option<How>, AllocError>
     if let Some(how) = unit(term) {
         return Ok(Some(how));
     }
-    match list(term) {
+    match term.as_list() {
         Some(items) => program(alloc, items),
         None => Ok(None),
     }
@@ -156,8 +155,8 @@ fn how_of(alloc: Global, term: &Term) -> Result<Option<How>, AllocError>
 fn unit(term: &Term) -> Option<How>
     ensures { result ≡ option_and_then unit_in (atom_of term.now) }
 {
-    let name = atom(term)?;
-    if is_word(name.as_slice(), b"unit") {
+    let name = term.as_atom()?;
+    if name.as_slice() == b"unit" {
         Some(How::Unit)
     } else {
         None
@@ -195,7 +194,7 @@ fn words(alloc: Global, items: &[Term]) -> Result<Option<Texts>, AllocError>
 fn word_of(alloc: Global, term: &Term) -> Result<Option<Text>, AllocError>
     ensures { IfOk result (λ found. found ≡ word_of term.now) }
 {
-    let Some(word) = string(term) else {
+    let Some(word) = term.as_string() else {
         return Ok(None);
     };
     if word.as_slice().is_empty() {

@@ -14,7 +14,6 @@ mod manager;
 mod manifest;
 mod project;
 mod settings;
-mod views;
 
 pub use error::{ProjectError, SettingsError};
 pub use laws::{one_project, one_settings};

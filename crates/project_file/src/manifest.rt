@@ -3,14 +3,14 @@ ghost use Rattle.std.specs.Prelude.{◌≡◌, Ok, Err, IfOk, IfErr, IsFalse, op
 ghost use Rattle.std.specs.Option.{option_copied};
 ghost use Rattle.dep_options.specs.Options.{first_of};
 ghost use Rattle.dep_options.specs.Views.{app_of};
-ghost use Rattle.project_file.specs.Entries.{named, stated_in};
+ghost use Rattle.elixir_terms.specs.Views.{named};
+ghost use Rattle.project_file.specs.Entries.{stated_in};
 ghost use Rattle.project_file.specs.Files.{is_outside, is_read};
 ghost use Rattle.project_file.specs.Manifest.{is_version, version_of, deps_in, stated_by, stated_of, IsProject};
 
 use crate::entries::{entries, first};
 use crate::error::ProjectError;
 use crate::project::{Decls, Project};
-use crate::views::{atom, list, string};
 use dep_options::decls;
 use elixir_terms::Term;
 use mx_base::{AppName, NameError, RelPath, Text};
@@ -103,7 +103,7 @@ fn deps_in<'a>(entries: &[(&'a Text, &'a Term)]) -> Option<Option<&'a Term>>
     ensures { option_map (λ deps. option_copied deps) result ≡ deps_in (first_of (codes "deps") (named entries.now)) }
 {
     match first(entries, b"deps") {
-        Some(term) => match list(term) {
+        Some(term) => match term.as_list() {
             Some(_) => Some(Some(term)),
             None => None,
         },
@@ -115,7 +115,7 @@ fn deps_in<'a>(entries: &[(&'a Text, &'a Term)]) -> Option<Option<&'a Term>>
 fn app_of(alloc: Global, term: &Term) -> Result<Option<AppName>, AllocError>
     ensures { IfOk result (λ found. found ≡ app_of term.now) }
 {
-    let Some(name) = atom(term) else {
+    let Some(name) = term.as_atom() else {
         return Ok(None);
     };
     match AppName::of(alloc, name.as_slice()) {
@@ -129,7 +129,7 @@ fn app_of(alloc: Global, term: &Term) -> Result<Option<AppName>, AllocError>
 fn version_of(alloc: Global, term: &Term) -> Result<Option<Text>, AllocError>
     ensures { IfOk result (λ found. found ≡ version_of term.now) }
 {
-    let Some(text) = string(term) else {
+    let Some(text) = term.as_string() else {
         return Ok(None);
     };
     if is_version(alloc, text.as_slice())? {

@@ -26,6 +26,3 @@ pub use error::{UnitCause, UnitError};
 pub use parse::{faults_stand_apart, one_unit, parse_unit};
 pub use token::Token;
 pub use unit::{Expression, Line, Lines, Statement, Unit};
-
-#[cfg(test)]
-mod tests;

@@ -1,9 +1,9 @@
 // Runs in which the outside fails.
 ghost use Rattle.compile_model.specs.Echo.{echo_of, echo_failed_is_bare, echo_files_in_order, echo_nothing_is_empty};
 
-use crate::run;
 use crate::tests::{THREE_BUILT, THREE_FLAT, failing, project, words};
 use compile_model::{CompileFault, Compiler, EchoCompiler, Input, Meaning, Outcome};
+use mix_main::run;
 use mx_base::{FaultPlan, Faults, MemSink};
 use std::alloc::Global;
 use std::test::Fail;

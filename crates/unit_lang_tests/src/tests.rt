@@ -1,10 +1,10 @@
 // Texts that are read, and texts that are refused.
 
-use crate::{
-    Expression, Line, Statement, Unit, UnitCause, faults_stand_apart, one_unit, parse_unit,
-};
 use std::alloc::{AllocError, Global};
 use std::test::Fail;
+use unit_lang::{
+    Expression, Line, Statement, Unit, UnitCause, faults_stand_apart, one_unit, parse_unit,
+};
 
 /// The expression on one line, each operation before its sides, a blank before each part.
 fn show(alloc: Global, out: &mut Vec<u8>, expression: Expression) -> Result<(), AllocError> {

@@ -1,6 +1,6 @@
 // Plans of small projects, worked by hand.
 
-use crate::{DivergedLine, PlanError, plan};
+use build_plan::{DivergedLine, PlanError, plan};
 use compile_model::{Job, Plan};
 use converger::Rule;
 use mx_base::{AppName, Bytes, NoFaults, RelPath};

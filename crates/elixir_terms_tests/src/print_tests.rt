@@ -1,6 +1,6 @@
 // Terms and their texts.
 
-use crate::{Pairs, Term, print};
+use elixir_terms::{Pairs, Term, print};
 use mx_base::{Bytes, Text};
 use sqlite_items::Items;
 use std::alloc::{AllocError, Global};

@@ -1,7 +1,7 @@
 ghost use Rattle.std.specs.Prelude.{◌<◌, length, IfOk};
 ghost use Rattle.hex_messages.specs.Canonical.{IsText, IsWritable};
 
-use crate::{
+use hex_messages::{
     Dependency, Package, Reason, Release, Retired, faults_stand_apart, one_fault, one_package,
     one_spelling, read_package, write_package, written_reads,
 };

@@ -1,6 +1,6 @@
 // Texts that are read.
 
-use crate::{Term, one_reading, print, read};
+use elixir_terms::{Term, one_reading, print, read};
 use mx_base::Bytes;
 use std::alloc::Global;
 use std::test::Fail;

@@ -1,6 +1,6 @@
 // Texts that are refused: where and why.
 
-use crate::{TermCause, TermError, no_refusal, one_refusal, read};
+use elixir_terms::{TermCause, TermError, no_refusal, one_refusal, read};
 use std::alloc::{AllocError, Global};
 use std::test::Fail;
 

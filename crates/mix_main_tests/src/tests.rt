@@ -1,8 +1,8 @@
 // What a command builds and prints.
 ghost use Rattle.tree_store.specs.Slot.{AllHere};
 
-use crate::run;
 use compile_model::EchoCompiler;
+use mix_main::run;
 use mx_base::{AppName, Bytes, FaultPlan, File, MemSink, NoFaults, RelPath};
 use std::alloc::{AllocError, Global};
 use std::process::Abort;

@@ -1,0 +1,5 @@
+//! Tests of `build_plan`.
+#![tactic(auto)]
+
+#[cfg(test)]
+mod tests;

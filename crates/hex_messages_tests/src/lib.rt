@@ -1,0 +1,5 @@
+//! Tests of `hex_messages`.
+#![tactic(auto)]
+
+#[cfg(test)]
+mod tests;

@@ -1,0 +1,5 @@
+//! Tests of `unit_lang`.
+#![tactic(auto)]
+
+#[cfg(test)]
+mod tests;
