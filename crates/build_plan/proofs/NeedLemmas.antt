@@ -1,19 +1,19 @@
 -- Rows, and the graph of what their winners need.
-use Rattle.std.proofs.Common.{◌≡◌, ◌≢◌, ℕ, zero, suc, ◌+◌, ◌<◌, ◌≤◌, Bool, true, false, cond, eqb, List, [], ◌∷◌, ◌++◌, length, get_or, take, map, filter, filter_map, All, AllPairs, refl, sym, ◌∙◌, ap, ap₂, subst, arith, bytes_eq, eq-eqb, eqb-true, Option, Some, None, append-nil, add-one}
+use Rattle.std.proofs.Common.{◌≡◌, ◌≢◌, ℕ, zero, suc, ◌+◌, ◌<◌, ◌≤◌, Bool, true, false, cond, eqb, List, [], ◌∷◌, ◌++◌, length, get_or, take, map, filter, filter_map, All, refl, sym, ◌∙◌, ap, ap₂, subst, arith, bytes_eq, Option, Some, None, append-nil}
 use Rattle.std.specs.List.{position, slice_get, cons_option}
 use Rattle.std.specs.Option.{is_some, option_map, option_and_then}
 use Rattle.std.specs.BTreeMap.{BTreeMap, UpdatesBy}
 use Rattle.std.specs.Ordering.{is_eq}
-use Rattle.std.proofs.lemmas.Bool.{both_ways, false≢true}
+use Rattle.std.proofs.lemmas.Bool.{false≢true}
 use Rattle.std.proofs.lemmas.List.{take_more, take_all, length-take, length-map, get_or_default}
 use Rattle.std.proofs.lemmas.List.Elements.{filter-append, filter_map-append}
 use Rattle.std.proofs.lemmas.List.Quantifiers.{position-Some}
-use Rattle.std.proofs.lemmas.Option.{slice_get-map, slice_get_within, slice_get_read, slice_get-get_or, get_or_from_slice_get, none-some}
+use Rattle.std.proofs.lemmas.Option.{slice_get_read}
 use denote.Ref.{Bor}
 use Rattle.mx_base.specs.Order.{text_cmp}
 use Rattle.dep_order.specs.Graph.{needs_of, NeedsAreWithin}
 use Rattle.dep_rows.specs.declared.row.Row.{Row}
-use Rattle.converger.proofs.WebLemmas.{at_app, same_bytes, bytes_same, ties_bytes}
+use Rattle.converger.proofs.WebLemmas.{at_app, same_bytes, ties_bytes}
 use Rattle.build_plan.specs.Needs.{app_of, is_app_at, is_child_at, node_of, needs_from, direct_needs, graph_of, apps_of}
 use Rattle.build_plan.proofs.Positions.{or_else, or_else_none, position_push}
 

@@ -1,28 +1,23 @@
 -- What holds of the jobs of a plan.
-use Rattle.std.proofs.Common.{◌≡◌, ◌≢◌, ℕ, zero, suc, ◌+◌, ◌-◌, ◌<◌, ◌≤◌, ◌⊎◌, ◌↔◌, inl, inr, Bool, true, false, not, cond, ◌||◌, ◌&&◌, eqb, List, [], ◌∷◌, ◌++◌, length, get_or, take, map, filter, filter_map, sum, All, AllPairs, Contains, IsTrue, IsFalse, refl, sym, ◌∙◌, ap, ap₂, subst, arith, bytes_eq, codes, eq-eqb, eqb-true, add-one, Option, Some, None}
-use Rattle.std.specs.Prelude.{nat_lt, nat_le, nat_eq}
+use Rattle.std.proofs.Common.{◌≡◌, ◌≢◌, ℕ, zero, suc, ◌+◌, ◌-◌, ◌<◌, ◌≤◌, ◌⊎◌, ◌↔◌, inl, inr, Bool, true, false, cond, List, [], ◌∷◌, length, get_or, filter, filter_map, All, AllPairs, Contains, IsTrue, refl, sym, ◌∙◌, ap, ap₂, subst, arith, bytes_eq, eq-eqb, eqb-true, Option, Some}
+use Rattle.std.specs.Prelude.{nat_eq}
 use Rattle.std.specs.List.{position, slice_get, cons_option}
 use Rattle.std.specs.Option.{option_map, option_and_then}
-use Rattle.std.proofs.lemmas.Bool.{both_ways, cases_order, and_parts, not-true, not-false}
-use Rattle.std.proofs.lemmas.List.{get_or_default, length-take-le}
-use Rattle.std.proofs.lemmas.List.Elements.{All-contains, Contains-get_or}
-use Rattle.std.proofs.lemmas.Option.{slice_get_within, slice_get-get_or, get_or_from_slice_get, slice_get_read}
+use Rattle.std.proofs.lemmas.Bool.{both_ways, cases_order, and_parts, not-true}
+use Rattle.std.proofs.lemmas.List.Elements.{Contains-get_or}
+use Rattle.std.proofs.lemmas.Option.{slice_get_within, slice_get-get_or, get_or_from_slice_get}
 use Rattle.compile_model.specs.declared.job.Job.{Job}
-use Rattle.compile_model.specs.Planned.{ArePlanned, IsSound, NeedsStand, app_at, most_jobs, most_needs, most_sent, sent_size}
-use Rattle.converger.proofs.WebLemmas.{same_bytes, bytes_same}
-use Rattle.dep_order.specs.Graph.{needs_of}
+use Rattle.compile_model.specs.Planned.{ArePlanned, IsSound, NeedsStand, app_at, most_jobs, most_sent, sent_size}
+use Rattle.converger.proofs.WebLemmas.{bytes_same}
 use Rattle.dep_order.specs.Listing.{IsOrderOf}
-use Rattle.dep_order.specs.Reach.{Reaches, Direct, Further, IsClosureOf}
-use Rattle.dep_order.proofs.Listed.{StandsAt}
-use Rattle.dep_order.proofs.Listings.{order_apart, order_has_places}
+use Rattle.dep_order.specs.Reach.{Reaches, Direct, Further}
+use Rattle.dep_order.proofs.Listings.{order_apart}
 use Rattle.dep_order.proofs.Reaching.{reached_before}
 use Rattle.dep_rows.specs.declared.row.Row.{Row}
 use Rattle.dep_rows.specs.Rows.{IsWinner}
-use Rattle.build_plan.specs.Dependencies.{is_apart}
-use Rattle.build_plan.specs.Jobs.{places_in, AllFit, is_too_large, most_bytes, most_files, most_plan_bytes, source_bytes}
+use Rattle.build_plan.specs.Jobs.{places_in}
 use Rattle.build_plan.specs.Needs.{app_of, apps_of, graph_of}
-use Rattle.build_plan.specs.Scenes.{IsKnownAt, IsPost}
-use Rattle.build_plan.specs.Sources.{bytes_in}
+use Rattle.build_plan.specs.Scenes.{IsKnownAt}
 use Rattle.build_plan.proofs.Positions.{position_first}
 
 -- ---- places at which a test passes

@@ -1,22 +1,21 @@
 -- What stands at a place of the order.
-use Rattle.std.proofs.Common.{◌≡◌, ◌≢◌, ◌↔◌, ℕ, ◌+◌, ◌<◌, ◌≤◌, List, [], ◌∷◌, ◌++◌, length, get_or, take, map, filter_map, AllPairs, All, Contains, refl, sym, ◌∙◌, ap, ap₂, subst, arith, eqb-true, Option, Some, None}
+use Rattle.std.proofs.Common.{◌≡◌, ◌↔◌, ℕ, ◌+◌, ◌<◌, List, [], ◌∷◌, ◌++◌, length, get_or, take, filter_map, All, Contains, refl, sym, ◌∙◌, ap, ap₂, subst, arith, eqb-true, Option, Some}
 use Rattle.std.specs.List.{AllZip, slice_get, position, cons_option}
 use Rattle.std.specs.Prelude.{nat_eq}
-use Rattle.std.proofs.lemmas.List.{length-map, take_more, get_or_default}
+use Rattle.std.proofs.lemmas.List.{length-map, take_more}
 use Rattle.std.proofs.lemmas.List.Elements.{Contains-get_or, filter_map-append}
 use Rattle.std.proofs.lemmas.List.Quantifiers.{position-Some}
-use Rattle.std.proofs.lemmas.Option.{slice_get_within, slice_get-get_or, slice_get_read, get_or_from_slice_get}
+use Rattle.std.proofs.lemmas.Option.{slice_get_within, slice_get-get_or, slice_get_read}
 use Rattle.compile_model.specs.Planned.{most_jobs}
-use Rattle.dep_order.specs.Listing.{IsOrderOf}
 use Rattle.dep_order.specs.Reach.{Reaches, IsClosureOf}
 use Rattle.dep_order.proofs.Listings.{order_apart, order_has_places}
 use Rattle.dep_order.proofs.Reaching.{reached_before}
 use Rattle.dep_rows.specs.declared.row.Row.{Row}
-use Rattle.dep_rows.specs.Rows.{AreWinners, IsWinner}
+use Rattle.dep_rows.specs.Rows.{IsWinner}
 use Rattle.build_plan.specs.declared.found.Found.{Found}
 use Rattle.build_plan.specs.Found.{IsFoundAt}
 use Rattle.build_plan.specs.Jobs.{places_in}
-use Rattle.build_plan.specs.Needs.{direct_needs, graph_of}
+use Rattle.build_plan.specs.Needs.{direct_needs}
 use Rattle.build_plan.specs.Scenes.{AreStands, IsPostWith, IsScene, StandsBefore}
 use Rattle.build_plan.proofs.PlannedLemmas.{position_of_node}
 use Rattle.build_plan.proofs.SearchLemmas.{zip_get}

@@ -1,5 +1,5 @@
 -- The jobs of a plan, and their limits.
-use Rattle.std.specs.Prelude.{◌≡◌, ℕ, ◌+◌, ◌≤◌, ◌||◌, Bool, false, nat_le, nat_lt, nat_eq, List, length, take, filter_map, position, sum, map, Option, Some, None, Ok, IsFalse, slice_get}
+use Rattle.std.specs.Prelude.{◌≡◌, ℕ, ◌+◌, ◌≤◌, ◌||◌, Bool, nat_le, nat_lt, nat_eq, List, length, take, filter_map, position, sum, map, Option, Some, None, Ok, IsFalse, slice_get}
 use Rattle.mx_base.specs.declared.file.File.{File}
 use Rattle.compile_model.specs.declared.how.How.{How}
 use Rattle.compile_model.specs.declared.job.Job.{Job}

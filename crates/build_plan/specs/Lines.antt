@@ -1,5 +1,5 @@
 -- What is said of divergences.
-use Rattle.std.specs.Prelude.{◌≡◌, ℕ, List, Option, Some, None, option_map, option_and_then, slice_get}
+use Rattle.std.specs.Prelude.{◌≡◌, ℕ, List, Option, Some, option_and_then, slice_get}
 use Rattle.std.specs.List.{AllZip}
 use Rattle.dep_rows.specs.declared.row.Row.{Row}
 use Rattle.converger.specs.declared.divergence.Divergence.{Divergence}

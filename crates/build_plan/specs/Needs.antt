@@ -1,5 +1,5 @@
 -- What the apps that are reached need directly.
-use Rattle.std.specs.Prelude.{◌≡◌, ℕ, Bool, false, ◌==◌, List, map, filter, filter_map, position, Option, Some, None, option_map, option_and_then, slice_get, nat_eq, bytes_eq}
+use Rattle.std.specs.Prelude.{◌≡◌, ℕ, Bool, false, List, map, filter, filter_map, position, Option, Some, None, option_map, option_and_then, slice_get, nat_eq, bytes_eq}
 use Rattle.dep_rows.specs.declared.row.Row.{Row}
 
 -- the row is a child of the winner at this place

@@ -15,7 +15,7 @@ use Rattle.hex_messages.specs.Schema.{Kind, Text, Reason, Inner, Known, field_at
 use Rattle.hex_messages.specs.Good.{AllGood, IsOf, IsWhole, Merged, Misses, has, absent_in}
 use Rattle.hex_messages.specs.Good as good
 use Rattle.hex_messages.specs.Stands.{bytes_in, Stands}
-use Rattle.hex_messages.specs.Faults.{VarintFault, ValueFault, IsWire, IsKey, IsOwnWire, FieldFault, Fault}
+use Rattle.hex_messages.specs.Faults.{VarintFault, ValueFault, IsWire, IsKey, FieldFault, Fault}
 use Rattle.hex_messages.specs.Faults as fault
 use Rattle.hex_messages.proofs.VarintLemmas.{whole_split, whole_stops, one_varint}
 use Rattle.hex_messages.proofs.OneReading.{one_field, one_fields, not_empty, key_apart, type_small}

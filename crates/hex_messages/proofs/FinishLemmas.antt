@@ -19,7 +19,7 @@ use Rattle.hex_messages.specs.declared.release.ReleaseParts.{ReleaseParts}
 use Rattle.hex_messages.specs.declared.reader.PackageParts.{PackageParts}
 use Rattle.hex_messages.specs.Fields.{Payload, Field, Fields}
 use Rattle.hex_messages.specs.Schema.{Text, Bytes, Reason, Known, field_at, retired_number}
-use Rattle.hex_messages.specs.Good.{AllGood, IsOf, IsWhole, Merged, Misses, has, absent_in}
+use Rattle.hex_messages.specs.Good.{AllGood, IsOf, IsWhole, Misses, has}
 use Rattle.hex_messages.specs.Good as good
 use Rattle.hex_messages.specs.Stands.{later, last_of, all_bytes, bytes_in, number_in, reason_number, Each, StandsRetirement, StandsDependency, StandsRelease, Stands}
 use Rattle.hex_messages.specs.Faults.{Fault, missing, IsFirstFault}

@@ -1,22 +1,21 @@
 -- A message has one first fault.
-use Rattle.std.proofs.Common.{◌≡◌, ◌≢◌, ℕ, ◌+◌, ◌*◌, ◌<◌, ◌≤◌, true, Option, Some, None, List, [], ◌∷◌, ◌++◌, length, take, refl, sym, ap, ◌∙◌, subst, inl, inr, ⊎_elim, ◌⊎◌, arith}
+use Rattle.std.proofs.Common.{◌≡◌, ℕ, ◌+◌, ◌*◌, ◌<◌, ◌≤◌, true, Option, Some, List, [], ◌++◌, length, take, refl, sym, ap, ◌∙◌, subst, inl, inr, ⊎_elim, ◌⊎◌, arith}
 use Rattle.std.specs.List.{list_all}
-use Rattle.std.specs.Str.{IsUtf8}
-use Rattle.std.proofs.lemmas.List.{length-append, append_assoc, append-nil, take_all, append_cancel_right}
+use Rattle.std.proofs.lemmas.List.{append_assoc, take_all, append_cancel_right}
 use Rattle.hex_messages.specs.declared.error.FieldName.{FieldName}
 use Rattle.hex_messages.specs.declared.error.WireCause.{WireCause}
 use Rattle.hex_messages.specs.declared.error.WireCause.TheVariants.{BadKey, BadUtf8, BadEnum, WrongWire, Missing}
 use Rattle.hex_messages.specs.declared.message.Message.{Message}
 use Rattle.hex_messages.specs.declared.message.Message.TheVariants as message
 use Rattle.hex_messages.specs.Varint.{goes_on, is_whole, IsVarint}
-use Rattle.hex_messages.specs.Fields.{Payload, Varint, Length, Field, Fields, SpellsField, SpellsPayload, wire_type, greatest_number}
+use Rattle.hex_messages.specs.Fields.{Payload, Varint, Length, Field, Fields, SpellsField, wire_type}
 use Rattle.hex_messages.specs.Fields as fields
 use Rattle.hex_messages.specs.Schema.{Kind, Text, Reason, Inner, Known, field_at, wire_of}
 use Rattle.hex_messages.specs.Good.{AllGood, Misses}
 use Rattle.hex_messages.specs.Faults.{VarintFault, ValueFault, IsWire, IsKey, IsOwnWire, FieldFault, Fault}
 use Rattle.hex_messages.specs.Faults as fault
 use Rattle.hex_messages.proofs.VarintLemmas.{whole_stops, one_varint}
-use Rattle.hex_messages.proofs.OneReading.{one_field, one_fields, not_empty, key_apart, type_small}
+use Rattle.hex_messages.proofs.OneReading.{one_field, one_fields, key_apart, type_small}
 use Rattle.hex_messages.proofs.Apart.{varint_apart, value_apart, length_split, wire_is, wire_small, Stood, field_apart, faulty_some, next_field, one_miss, good_first, good_rest}
 
 great_not_cut : {text : List ℕ} (f r : List ℕ) → is_whole f ≡ true → length f ≤ 10 → text ≡ f ++ r → length text < 10 → list_all goes_on text ≡ true → ⊥

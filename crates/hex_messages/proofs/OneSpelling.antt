@@ -1,14 +1,14 @@
 -- A package has one canonical spelling.
-use Rattle.std.proofs.Common.{◌≡◌, ℕ, ◌+◌, ◌*◌, ◌^◌, ◌<◌, ◌≤◌, Bool, true, false, Option, Some, None, List, [], ◌∷◌, ◌++◌, length, map, refl, sym, ap, ◌∙◌, subst, arith}
+use Rattle.std.proofs.Common.{◌≡◌, ℕ, ◌+◌, ◌*◌, ◌<◌, ◌≤◌, true, Option, Some, None, List, [], ◌∷◌, ◌++◌, length, map, refl, sym, ap, ◌∙◌, subst, arith}
 use Rattle.std.proofs.lemmas.Bool.Decides.{nat_tests}
 use Rattle.hex_messages.specs.declared.package.Package.{Package}
 use Rattle.hex_messages.specs.declared.package.Release.{Release}
 use Rattle.hex_messages.specs.declared.package.Dependency.{Dependency}
 use Rattle.hex_messages.specs.declared.package.Retired.{Retired}
-use Rattle.hex_messages.specs.Varint.{goes_on, is_whole, digit, number_of, IsVarint}
+use Rattle.hex_messages.specs.Varint.{is_whole, digit, number_of}
 use Rattle.hex_messages.specs.Fields.{Payload, Varint, Fixed64, Length, Fixed32, Field, wire_type}
 use Rattle.hex_messages.specs.Stands.{Each}
-use Rattle.hex_messages.specs.Canonical.{AreBytes, IsShortest, WritesPayload, WritesField, WritesFields, none, more, bytes_field, WritesDependency, dependency_fields, WritesRetirement, retired_fields, WritesRelease, release_fields, Writes}
+use Rattle.hex_messages.specs.Canonical.{AreBytes, IsShortest, WritesPayload, WritesField, WritesFields, none, more, bytes_field, WritesDependency, WritesRetirement, WritesRelease, release_fields, Writes}
 
 digit_small : (x : ℕ) → x < 256 → digit x < 128
 digit_small x h = grind (arith, nat_tests)

@@ -17,7 +17,7 @@ use Rattle.hex_messages.specs.Schema.{Text, Bytes, Truth, Reason, Inner, Known, 
 use Rattle.hex_messages.specs.Good.{AllGood, IsOf, IsWhole, Merged, has}
 use Rattle.hex_messages.specs.Good as good
 use Rattle.hex_messages.specs.Stands.{later, last_bytes, last_number, all_bytes, is_set, reason_number, Each, StandsRetirement, StandsDependency, StandsRelease, Stands}
-use Rattle.hex_messages.specs.Canonical.{WritesPayload, WritesField, WritesFields, bytes_field, perhaps, truth_field, WritesDependency, dependency_fields, WritesRetirement, retired_fields, WritesRelease, release_fields, Writes, IsShort, IsText, IfThere, IsWritableDependency, IsWritableRetirement, IsWritableRelease, IsWritable}
+use Rattle.hex_messages.specs.Canonical.{WritesPayload, WritesField, WritesFields, bytes_field, perhaps, truth_field, WritesDependency, dependency_fields, WritesRetirement, retired_fields, WritesRelease, release_fields, Writes, IsText, IfThere, IsWritableDependency, IsWritableRetirement, IsWritableRelease, IsWritable}
 use Rattle.hex_messages.specs.Canonical as written
 use Rattle.hex_messages.proofs.FieldsLemmas.{good_append}
 use Rattle.hex_messages.proofs.PartLemmas.{later_none, whole_retired}

@@ -1,10 +1,10 @@
 -- The jobs of a plan, one by one.
-use Rattle.std.proofs.Common.{◌≡◌, ◌≢◌, ℕ, zero, suc, Bool, true, false, not, ◌&&◌, ◌||◌, List, [], ◌∷◌, map, bytes_eq, All, AllPairs, refl, ◌∙◌, ap, arith}
+use Rattle.std.proofs.Common.{◌≡◌, ◌≢◌, ℕ, suc, Bool, true, false, not, ◌&&◌, ◌||◌, List, [], ◌∷◌, map, bytes_eq, All, AllPairs, refl, ◌∙◌, ap, arith}
 use Rattle.std.specs.List.{list_any}
 use Rattle.std.proofs.lemmas.Slice.Eq.{bytes_eq-Decides}
 use Rattle.compile_model.specs.declared.job.Job.{Job}
 use Rattle.compile_model.specs.Planned.{ArePlanned, IsNamed}
-use Rattle.mix_main.specs.Filling.{differ, jobs_differ}
+use Rattle.mix_main.specs.Filling.{jobs_differ}
 
 -- an app that no job has
 not_named : (app : List ℕ) (jobs : List Job) → All (λ job. app ≢ job.app) jobs → list_any (bytes_eq app) (map (λ job. job.app) jobs) ≡ false

@@ -1,8 +1,8 @@
 -- An expression as a first factor and what follows it at its level.
-use Rattle.std.proofs.Common.{◌≡◌, ℕ, List, [], ◌∷◌, ◌++◌, Option, Some, None, refl, sym, ap, ◌∙◌, subst, append_assoc}
+use Rattle.std.proofs.Common.{◌≡◌, ℕ, List, [], ◌∷◌, ◌++◌, refl, sym, ap, ◌∙◌, subst, append_assoc}
 use Rattle.std.proofs.lemmas.List.{append-nil}
 use Rattle.unit_lang.specs.declared.token.Token.{Token}
-use Rattle.unit_lang.specs.declared.token.Token.TheVariants.{Word, Equals, Plus, Minus, Star, Open, Close}
+use Rattle.unit_lang.specs.declared.token.Token.TheVariants.{Plus, Minus, Star}
 use Rattle.unit_lang.specs.declared.unit.Expression.{Expression}
 use Rattle.unit_lang.specs.declared.unit.Expression.TheVariants.{Add, Subtract, Multiply}
 use Rattle.unit_lang.specs.declared.level.Sum.{Sum}

@@ -1,8 +1,7 @@
 -- Where a state wants nothing more, and how the line of each state can be completed.
 use Rattle.std.proofs.Common.{◌≡◌, ℕ, suc, ◌+◌, ◌<◌, ◌≤◌, Bool, true, false, List, [], ◌∷◌, ◌++◌, Option, Some, None, length, codes, refl, sym, ap, ◌∙◌, subst, arith}
 use Rattle.std.specs.Prelude.{option_map}
-use Rattle.std.proofs.lemmas.Bool.{true≢false, false≢true}
-use Rattle.std.proofs.lemmas.List.{append-nil}
+use Rattle.std.proofs.lemmas.Bool.{false≢true}
 use Rattle.unit_lang.specs.declared.token.Token.{Token}
 use Rattle.unit_lang.specs.declared.token.Token.TheVariants.{Word, Equals, Close}
 use Rattle.unit_lang.specs.declared.unit.Expression.{Expression}
@@ -15,10 +14,10 @@ use Rattle.unit_lang.specs.declared.level.Hole.{Hole}
 use Rattle.unit_lang.specs.declared.level.Hole.TheVariants as hole
 use Rattle.unit_lang.specs.declared.state.State.{State}
 use Rattle.unit_lang.specs.declared.state.State.TheVariants as state
-use Rattle.unit_lang.specs.Grammar.{IsExpression, term, factor, IsFactor, number, name, reference, parentheses, negate, IsStatement, uses, lets, exports}
-use Rattle.unit_lang.specs.Machine.{joined, times, whole, closed, whole_settled, settled, finished, depth}
+use Rattle.unit_lang.specs.Grammar.{term, factor, IsFactor, number, name, reference, parentheses, negate, IsStatement, uses, lets, exports}
+use Rattle.unit_lang.specs.Machine.{joined, times, whole, finished, depth}
 use Rattle.unit_lang.proofs.Chain.{Chain, end, star, plus, minus}
-use Rattle.unit_lang.proofs.Meaning.{Closes, After, Factors, Valued, Wants, WantsNext, is_let}
+use Rattle.unit_lang.proofs.Meaning.{After, Wants, is_let}
 
 not_end : (part rest : List Token) (tok : Token) → [] ≡ part ++ tok ∷ rest → ⊥
 not_end [] rest tok e = cc

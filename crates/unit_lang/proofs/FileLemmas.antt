@@ -1,19 +1,19 @@
 -- The lines of a text, and what the reader of a file knows at each.
-use Rattle.std.proofs.Common.{◌≡◌, ℕ, zero, suc, ◌+◌, ◌<◌, ◌≤◌, ◌==◌, Bool, true, false, List, [], ◌∷◌, ◌++◌, Option, Some, None, cond, take, drop, length, refl, sym, ap, ◌∙◌, subst, arith, append_assoc, inl, inr}
+use Rattle.std.proofs.Common.{◌≡◌, ℕ, suc, ◌+◌, ◌<◌, ◌≤◌, ◌==◌, Bool, true, false, List, [], ◌∷◌, ◌++◌, cond, take, drop, length, refl, sym, ap, ◌∙◌, subst, arith, append_assoc, inl, inr}
 use Rattle.std.specs.Prelude.{◌⊎◌}
 use Rattle.std.proofs.lemmas.Bool.{cases_order}
 use Rattle.std.proofs.lemmas.List.{append-nil}
 use Rattle.unit_lang.specs.declared.error.UnitCause.{UnitCause}
-use Rattle.unit_lang.specs.declared.error.UnitCause.TheVariants.{TooLong, NoUnit, OutOfMemory}
+use Rattle.unit_lang.specs.declared.error.UnitCause.TheVariants.{TooLong, NoUnit}
 use Rattle.unit_lang.specs.declared.error.UnitError.{UnitError}
 use Rattle.unit_lang.specs.declared.unit.Line.{Line}
 use Rattle.unit_lang.specs.declared.unit.Statement.{Statement}
 use Rattle.unit_lang.specs.declared.unit.Unit.{Unit as UnitFile}
 use Rattle.unit_lang.specs.Faults.{HeadingFault, BodyFault, FileFault, FirstFault, AllBlank, IsFirstShort, IsFirstFault, LineFault}
 use Rattle.unit_lang.specs.Lexing.{line_len, rest_of, lines_after}
-use Rattle.unit_lang.specs.Lines.{IsBlankLine, Names, Says}
+use Rattle.unit_lang.specs.Lines.{IsBlankLine, Says}
 use Rattle.unit_lang.specs.Reading.{LongFault, FileFaultAs}
-use Rattle.unit_lang.specs.Spells.{Spells, Makes, Body, lines_of, with_byte, longest_line, longest_file}
+use Rattle.unit_lang.specs.Spells.{Makes, Body, lines_of, with_byte, longest_line, longest_file}
 
 line_at : (byte : ℕ) (text : List ℕ) (t : Bool) → lines_of text ≡ take (line_len text) text ∷ lines_after (rest_of (drop (line_len text) text)) → cond t ([] ∷ lines_of text) (with_byte byte (lines_of text)) ≡ take (cond t 0 (suc (line_len text))) (byte ∷ text) ∷ lines_after (rest_of (drop (cond t 0 (suc (line_len text))) (byte ∷ text)))
 line_at byte text true h = refl

@@ -1,8 +1,8 @@
 -- What the reader of a file answers.
-use Rattle.std.proofs.Common.{◌≡◌, ℕ, suc, ◌+◌, ◌<◌, ◌≤◌, Bool, true, false, List, [], ◌∷◌, ◌++◌, Option, Some, None, Result, Ok, Err, length, take, drop, IsTrue, refl, sym, ap, ◌∙◌, subst, arith, inl, inr}
-use Rattle.std.specs.Prelude.{◌⊎◌, ◌↔◌, MatchOption}
+use Rattle.std.proofs.Common.{◌≡◌, ℕ, suc, ◌+◌, ◌<◌, ◌≤◌, true, false, List, [], ◌∷◌, ◌++◌, Option, Some, None, Result, Ok, Err, length, take, drop, refl, sym, ap, ◌∙◌, subst, inl, inr}
+use Rattle.std.specs.Prelude.{◌⊎◌}
 use Rattle.std.specs.Result.{MatchResult, IfErr}
-use Rattle.std.proofs.lemmas.Bool.{false≢true, true≢false}
+use Rattle.std.proofs.lemmas.Bool.{true≢false}
 use Rattle.unit_lang.specs.declared.error.UnitCause.{UnitCause}
 use Rattle.unit_lang.specs.declared.error.UnitCause.TheVariants.{TooLong, NoUnit, TooDeep, NumberTooBig, BadLine, OutOfMemory}
 use Rattle.unit_lang.specs.declared.error.UnitError.{UnitError}
@@ -11,11 +11,11 @@ use Rattle.unit_lang.specs.declared.unit.Statement.{Statement}
 use Rattle.unit_lang.specs.declared.unit.Unit.{Unit as UnitFile}
 use Rattle.unit_lang.specs.Faults.{HeadingFault, BodyFault, FileFault, AllBlank, LineFault, IsFirstFault, FirstFault}
 use Rattle.unit_lang.specs.Gives.{is_memory, FaultsAs, Heads}
-use Rattle.unit_lang.specs.Lexing.{line_len, rest_of, lines_after, rest_size}
-use Rattle.unit_lang.specs.Lines.{IsBlankLine, Names, Says}
+use Rattle.unit_lang.specs.Lexing.{line_len, rest_of, lines_after}
+use Rattle.unit_lang.specs.Lines.{IsBlankLine, Says}
 use Rattle.unit_lang.specs.Reading.{LongFault, heading_fault, BodyFaultAs, FileFaultAs, Hears, HearsFault}
 use Rattle.unit_lang.specs.Spells.{Spells, Makes, Body, lines_of, longest_line, longest_file}
-use Rattle.unit_lang.proofs.FileLemmas.{first_line_is, Heard, heard_blank, heard_says, heard_fault, Sought, sought_next, found_fault, long_fault}
+use Rattle.unit_lang.proofs.FileLemmas.{first_line_is, Heard, heard_blank, heard_says, heard_fault, Sought, found_fault, long_fault}
 use Rattle.unit_lang.proofs.Outcomes.{memory_or}
 
 -- a text cut at the end of its first line

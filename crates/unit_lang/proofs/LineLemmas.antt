@@ -1,15 +1,13 @@
 -- What the reader of a line knows at each token, and the fault of a line that it refuses.
-use Rattle.std.proofs.Common.{◌≡◌, ℕ, zero, suc, ◌+◌, ◌<◌, ◌≤◌, ◌&&◌, ◌||◌, Bool, true, false, List, [], ◌∷◌, ◌++◌, Option, Some, None, cond, eqb, length, is_none, codes, bytes_eq, IsTrue, refl, sym, ap, ◌∙◌, subst, arith, append_assoc}
+use Rattle.std.proofs.Common.{◌≡◌, ℕ, ◌+◌, ◌<◌, ◌≤◌, ◌&&◌, ◌||◌, Bool, true, false, List, [], ◌∷◌, ◌++◌, Option, Some, None, cond, eqb, length, is_none, codes, bytes_eq, refl, sym, ap, ◌∙◌, subst, arith}
 use Rattle.std.specs.Prelude.{option_map}
 use Rattle.std.specs.Char.{is_ascii_digit}
 use Rattle.std.specs.List.{list_any, list_all}
 use Rattle.std.specs.Str.Parse.{digits_value}
-use Rattle.std.proofs.lemmas.Bool.{and_parts, and_left, and_right, or_left, or_right, eqb-true, eqb-false, true≢false, false≢true}
-use Rattle.std.proofs.lemmas.List.{append-nil, nil_from_length}
-use Rattle.std.proofs.lemmas.List.Folds.{list_any-append}
+use Rattle.std.proofs.lemmas.Bool.{and_parts, and_right, or_left, or_right, eqb-true, eqb-false, true≢false, false≢true}
+use Rattle.std.proofs.lemmas.List.{nil_from_length}
 use Rattle.std.proofs.lemmas.Slice.Eq.{bytes_eq-Decides}
-use Rattle.mx_base.specs.AppName.{is_app_name}
-use Rattle.unit_lang.specs.declared.error.UnitCause.TheVariants.{TooDeep, NumberTooBig, BadLine}
+use Rattle.unit_lang.specs.declared.error.UnitCause.TheVariants.{NumberTooBig, BadLine}
 use Rattle.unit_lang.specs.declared.token.Token.{Token}
 use Rattle.unit_lang.specs.declared.token.Token.TheVariants.{Word, Equals, Plus, Minus, Star, Open, Close}
 use Rattle.unit_lang.specs.declared.unit.Expression.{Expression}
@@ -19,19 +17,19 @@ use Rattle.unit_lang.specs.declared.level.Level.{Level}
 use Rattle.unit_lang.specs.declared.level.Hole.{Hole}
 use Rattle.unit_lang.specs.declared.state.State.{State}
 use Rattle.unit_lang.specs.declared.state.State.TheVariants as state
-use Rattle.unit_lang.specs.Faults.{BeginsLet, LetFront, IsTooDeep, IsTooBig, LineFault, deep, great, bad}
+use Rattle.unit_lang.specs.Faults.{BeginsLet, IsTooDeep, IsTooBig, LineFault, deep, great, bad}
 use Rattle.unit_lang.specs.Grammar.{IsStatement}
 use Rattle.unit_lang.specs.Lexing.{too_great, number_of, dotted, operand, first_token}
-use Rattle.unit_lang.specs.Lines.{IsWarnLine, IsBlankLine, LineTokens, Says, warn, tokens, greatest}
-use Rattle.unit_lang.specs.Machine.{step, at_let, at_export, at_use, used, at_start, at_factor, finished, depth}
+use Rattle.unit_lang.specs.Lines.{IsWarnLine, IsBlankLine, Says, warn, tokens, greatest}
+use Rattle.unit_lang.specs.Machine.{step, used, finished, depth}
 use Rattle.unit_lang.specs.Names.{are_digits, is_name}
 use Rattle.unit_lang.specs.Spells.{longest_line}
-use Rattle.unit_lang.specs.Tokens.{Leads, end, AreTokens, without_blanks, without_comment}
-use Rattle.unit_lang.proofs.Meaning.{Wants, WantsNext}
+use Rattle.unit_lang.specs.Tokens.{Leads, end, without_blanks, without_comment}
+use Rattle.unit_lang.proofs.Meaning.{WantsNext}
 use Rattle.unit_lang.proofs.StepForth.{step_forth}
 use Rattle.unit_lang.proofs.Ends.{can_let, deep_can, wants_end, wants_depth}
-use Rattle.unit_lang.proofs.Steps.{Steps, steps_push, steps_take, steps_more, steps_depth, steps_forth, most_of, steps_whole, steps_begins, begins_wants, begins_can, steps_say, steps_said, statement_one}
-use Rattle.unit_lang.proofs.TokenLemmas.{leads_push, leads_solid, leads_none, leads_next, next_leads, leads_meet, Meets, within, beyond, tokens_go_on, tokens_one, some_pair}
+use Rattle.unit_lang.proofs.Steps.{Steps, steps_push, steps_take, steps_more, steps_forth, most_of, steps_whole, steps_begins, begins_wants, begins_can, steps_say, steps_said}
+use Rattle.unit_lang.proofs.TokenLemmas.{leads_push, leads_solid, leads_none, leads_next, next_leads, leads_meet, Meets, within, beyond, tokens_go_on}
 use Rattle.unit_lang.proofs.WordLemmas.{NumberIs, number_of_is, dotted_back, name_no_digits}
 
 pub empty_is : (rest : List ℕ) (empty : Bool) → empty ≡ eqb (length rest) 0 → empty ≡ true → rest ≡ []

@@ -1,5 +1,5 @@
 -- A text spells one unit.
-use Rattle.std.proofs.Common.{◌≡◌, ℕ, suc, ◌≤◌, List, [], ◌∷◌, ◌++◌, Option, Some, None, length, codes, refl, sym, ap, ◌∙◌, subst}
+use Rattle.std.proofs.Common.{◌≡◌, ℕ, List, [], ◌∷◌, codes, refl, sym, ap, ◌∙◌, subst}
 use Rattle.unit_lang.specs.declared.token.Token.{Token}
 use Rattle.unit_lang.specs.declared.token.Token.TheVariants.{Word}
 use Rattle.unit_lang.specs.declared.unit.Line.{Line}
@@ -7,10 +7,10 @@ use Rattle.unit_lang.specs.declared.unit.Statement.{Statement}
 use Rattle.unit_lang.specs.declared.unit.Statement.TheVariants as statement
 use Rattle.unit_lang.specs.declared.unit.Unit.{Unit as UnitFile}
 use Rattle.unit_lang.specs.declared.state.State.TheVariants as state
-use Rattle.unit_lang.specs.Grammar.{IsStatement, IsHeading}
+use Rattle.unit_lang.specs.Grammar.{IsStatement}
 use Rattle.unit_lang.specs.Gives.{IsWarning}
-use Rattle.unit_lang.specs.Lines.{IsBlankLine, LineTokens, Names, Says, warn, tokens, Warns, greatest}
-use Rattle.unit_lang.specs.Spells.{Spells, Makes, Body, lines_of, longest_line}
+use Rattle.unit_lang.specs.Lines.{IsBlankLine, LineTokens, Names, Says, warn, tokens, greatest}
+use Rattle.unit_lang.specs.Spells.{Spells, Makes, Body}
 use Rattle.unit_lang.specs.Tokens.{without_comment}
 use Rattle.unit_lang.proofs.Ends.{wants_end}
 use Rattle.unit_lang.proofs.Steps.{statement_one}

@@ -1,5 +1,5 @@
 -- What the reader of a line answers.
-use Rattle.std.proofs.Common.{◌≡◌, ℕ, ◌<◌, ◌≤◌, ◌||◌, Bool, true, false, eqb, List, [], ◌∷◌, ◌++◌, Option, Some, None, Result, Ok, Err, length, IsFalse, refl, sym, ap, ◌∙◌, subst, inl, inr}
+use Rattle.std.proofs.Common.{◌≡◌, ℕ, ◌≤◌, Bool, true, false, eqb, List, [], ◌++◌, Some, None, Result, Ok, Err, length, refl, sym, ap, ◌∙◌, subst, inl, inr}
 use Rattle.std.specs.Prelude.{◌⊎◌, ◌↔◌}
 use Rattle.std.specs.Result.{MatchResult}
 use Rattle.unit_lang.specs.declared.error.UnitCause.{UnitCause}
@@ -11,16 +11,16 @@ use Rattle.unit_lang.specs.declared.unit.Statement.{Statement}
 use Rattle.unit_lang.specs.declared.unit.Statement.TheVariants as statement
 use Rattle.unit_lang.specs.Faults.{LineFault}
 use Rattle.unit_lang.specs.Gives.{is_memory, Gives, FaultsAs, IsWarning, fault, title_of, Heads}
-use Rattle.unit_lang.specs.Lexing.{after_warn, first_token, too_great}
-use Rattle.unit_lang.specs.Lines.{IsBlankLine, IsWarnLine, StartsWarn, Names, Says, warn, tokens, are_blanks}
-use Rattle.unit_lang.specs.Machine.{step, finished, depth}
+use Rattle.unit_lang.specs.Lexing.{after_warn, first_token}
+use Rattle.unit_lang.specs.Lines.{IsBlankLine, IsWarnLine, StartsWarn, Says, warn, tokens, are_blanks}
+use Rattle.unit_lang.specs.Machine.{step, finished}
 use Rattle.unit_lang.specs.Progress.{Advances, Stops, memory, stuck, deep, FinishesAs}
 use Rattle.unit_lang.specs.Spells.{longest_line}
 use Rattle.unit_lang.specs.Tokens.{without_blanks, without_comment}
 use Rattle.unit_lang.proofs.HeadLemmas.{title_names, no_title}
 use Rattle.unit_lang.proofs.LineLemmas.{Reached, reached_next, NoMore, deep_line, bad_fault, great_fault, line_says, empty_is}
 use Rattle.unit_lang.proofs.TokenLemmas.{some_pair}
-use Rattle.unit_lang.proofs.WarnLemmas.{starts_warn, no_warn, warns, warning_of, warn_rest_one, is_blank_line, blank_line_is, is_warning, no_warning}
+use Rattle.unit_lang.proofs.WarnLemmas.{starts_warn, no_warn, warns, warning_of, warn_rest_one, is_blank_line, blank_line_is, no_warning}
 
 pub blank_test : (line rest : List ℕ) (empty : Bool) → rest ≡ without_blanks (without_comment line) → empty ≡ eqb (length rest) 0 → (empty ≡ true) ↔ IsBlankLine line
 blank_test line rest empty e is =

@@ -1,18 +1,17 @@
 -- What a state's next state wants, the state wants before the token.
-use Rattle.std.proofs.Common.{◌≡◌, ℕ, zero, suc, ◌+◌, ◌<◌, ◌≤◌, ◌&&◌, Bool, true, false, List, [], ◌∷◌, ◌++◌, Option, Some, None, cond, length, IsTrue, codes, bytes_eq, refl, sym, ap, ◌∙◌, subst, append_assoc, arith, unwrap_or, is_none, pos}
+use Rattle.std.proofs.Common.{◌≡◌, ℕ, zero, suc, ◌+◌, ◌≤◌, ◌&&◌, Bool, true, false, List, [], ◌∷◌, ◌++◌, Option, Some, None, cond, length, codes, bytes_eq, refl, sym, ap, ◌∙◌, subst, append_assoc, arith, unwrap_or, is_none, pos}
 use Rattle.std.specs.Prelude.{option_map}
 use Rattle.std.specs.Str.Parse.{digits_value}
-use Rattle.std.proofs.lemmas.Bool.{and_parts, and_from, true≢false, false≢true}
+use Rattle.std.proofs.lemmas.Bool.{and_parts, true≢false}
 use Rattle.std.proofs.lemmas.Slice.Eq.{bytes_eq-Decides}
-use Rattle.mx_base.specs.AppName.{IsAppName, is_app_name}
+use Rattle.mx_base.specs.AppName.{is_app_name}
 use Rattle.unit_lang.specs.declared.token.Token.{Token}
 use Rattle.unit_lang.specs.declared.token.Token.TheVariants.{Word, Equals, Plus, Minus, Star, Open, Close}
 use Rattle.unit_lang.specs.declared.unit.Expression.{Expression}
-use Rattle.unit_lang.specs.declared.unit.Expression.TheVariants.{Number, Name, Reference, Multiply, Negate}
+use Rattle.unit_lang.specs.declared.unit.Expression.TheVariants.{Number, Name, Reference, Negate}
 use Rattle.unit_lang.specs.declared.unit.Statement.{Statement}
 use Rattle.unit_lang.specs.declared.unit.Statement.TheVariants as statement
 use Rattle.unit_lang.specs.declared.level.Sum.{Sum}
-use Rattle.unit_lang.specs.declared.level.Sum.TheVariants as sum
 use Rattle.unit_lang.specs.declared.level.Level.{Level}
 use Rattle.unit_lang.specs.declared.level.Hole.{Hole}
 use Rattle.unit_lang.specs.declared.level.Hole.TheVariants as hole
@@ -21,8 +20,7 @@ use Rattle.unit_lang.specs.declared.state.State.TheVariants as state
 use Rattle.unit_lang.specs.Grammar.{IsExpression, IsFactor, IsStatement, uses, lets, exports}
 use Rattle.unit_lang.specs.Grammar as grammar
 use Rattle.unit_lang.specs.Lexing.{dotted, operand, number_of, too_great}
-use Rattle.unit_lang.specs.Lines.{greatest}
-use Rattle.unit_lang.specs.Machine.{joined, times, fresh, used, at_start, at_use, at_let, at_named, at_export, at_factor, settled, at_settled, at_operator, after_factor, step, depth}
+use Rattle.unit_lang.specs.Machine.{joined, times, fresh, used, at_start, at_use, at_let, at_named, at_export, at_factor, at_operator, after_factor, step, depth}
 use Rattle.unit_lang.specs.Names.{is_name, are_digits}
 use Rattle.unit_lang.proofs.Chain.{Chain, end, star, plus, minus, head_expression}
 use Rattle.unit_lang.proofs.Meaning.{Closes, After, Factors, Valued, UsesRest, LetRest, NamedRest, ExportRest, Wants, WantsNext, is_let}

@@ -1,9 +1,7 @@
 -- What a state wants, its next state wants after the token.
-use Rattle.std.proofs.Common.{◌≡◌, ℕ, suc, ◌+◌, ◌<◌, ◌≤◌, ◌&&◌, Bool, true, false, List, [], ◌∷◌, ◌++◌, Option, Some, None, cond, length, IsTrue, codes, bytes_eq, refl, sym, ap, ◌∙◌, subst, append_assoc, arith, unwrap_or, pos, nat_le}
-use Rattle.std.specs.Prelude.{option_map}
+use Rattle.std.proofs.Common.{◌≡◌, ℕ, suc, ◌+◌, ◌<◌, ◌≤◌, Bool, true, false, List, [], ◌∷◌, ◌++◌, Option, Some, None, cond, length, codes, refl, sym, ap, ◌∙◌, append_assoc, arith, unwrap_or, pos, nat_le}
 use Rattle.std.specs.Str.Parse.{digits_value}
 use Rattle.std.proofs.lemmas.Bool.{and_from, leb-true, leb-false}
-use Rattle.std.proofs.lemmas.List.{append-nil}
 use Rattle.mx_base.specs.AppName.{IsAppName, is_app_name}
 use Rattle.unit_lang.specs.declared.token.Token.{Token}
 use Rattle.unit_lang.specs.declared.token.Token.TheVariants.{Word, Equals, Plus, Minus, Star, Open, Close}
@@ -19,12 +17,12 @@ use Rattle.unit_lang.specs.declared.level.Hole.TheVariants as hole
 use Rattle.unit_lang.specs.declared.state.State.{State}
 use Rattle.unit_lang.specs.declared.state.State.TheVariants as state
 use Rattle.unit_lang.specs.Grammar.{IsExpression, IsFactor, number, name, reference, parentheses, negate, IsStatement, uses, lets, exports}
-use Rattle.unit_lang.specs.Lexing.{dotted, operand, number_of}
+use Rattle.unit_lang.specs.Lexing.{operand, number_of}
 use Rattle.unit_lang.specs.Lines.{greatest}
-use Rattle.unit_lang.specs.Machine.{joined, times, fresh, used, at_start, at_use, at_let, at_named, at_export, at_factor, settled, at_settled, at_operator, after_factor, step}
+use Rattle.unit_lang.specs.Machine.{joined, times, fresh, used, at_start, at_use, at_let, at_named, at_export, at_factor, at_operator, after_factor, step}
 use Rattle.unit_lang.specs.Names.{is_name, are_digits}
 use Rattle.unit_lang.proofs.Chain.{Chain, end, star, plus, minus, Head, expression_head}
-use Rattle.unit_lang.proofs.Meaning.{Closes, After, Factors, Valued, UsesRest, LetRest, NamedRest, ExportRest, Wants, WantsNext, is_let}
+use Rattle.unit_lang.proofs.Meaning.{After, Factors, UsesRest, LetRest, NamedRest, ExportRest, Wants, WantsNext, is_let}
 use Rattle.unit_lang.proofs.WordLemmas.{operand_number, operand_name, operand_reference, app_dotted, app_test, number_kept}
 
 -- another expression for the same tokens, after any term

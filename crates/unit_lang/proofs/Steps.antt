@@ -1,5 +1,5 @@
 -- Tokens that lead from state to state, and what the grammar says of them.
-use Rattle.std.proofs.Common.{◌≡◌, ℕ, zero, suc, ◌+◌, ◌-◌, ◌<◌, ◌≤◌, ◌&&◌, ◌||◌, Bool, true, false, List, [], ◌∷◌, ◌++◌, Option, Some, None, length, is_none, refl, sym, ap, ◌∙◌, subst, arith, append_assoc}
+use Rattle.std.proofs.Common.{◌≡◌, ℕ, ◌+◌, ◌-◌, ◌≤◌, ◌&&◌, true, false, List, [], ◌∷◌, ◌++◌, Option, Some, None, is_none, refl, sym, ap, ◌∙◌, subst, arith, append_assoc}
 use Rattle.std.specs.List.{list_any}
 use Rattle.std.specs.Str.Parse.{digits_value}
 use Rattle.std.proofs.lemmas.Bool.{or_parts, true≢false, false≢true}
@@ -15,7 +15,6 @@ use Rattle.unit_lang.specs.Grammar.{IsStatement}
 use Rattle.unit_lang.specs.Lexing.{too_great, number_of}
 use Rattle.unit_lang.specs.Lines.{greatest}
 use Rattle.unit_lang.specs.Machine.{step, finished, depth}
-use Rattle.unit_lang.specs.Names.{are_digits}
 use Rattle.unit_lang.proofs.Meaning.{Wants, WantsNext, is_let}
 use Rattle.unit_lang.proofs.StepForth.{Forth, step_forth}
 use Rattle.unit_lang.proofs.StepBack.{Fits, Back, step_back}

@@ -1,14 +1,13 @@
 -- The first token of a text is the one that the function finds, and tokens lead to one place.
-use Rattle.std.proofs.Common.{◌≡◌, ℕ, zero, suc, ◌+◌, ◌<◌, ◌≤◌, Bool, true, false, ◌&&◌, not, List, [], ◌∷◌, ◌++◌, Option, Some, None, length, take, drop, cond, eqb, IsTrue, refl, sym, ap, ◌∙◌, arith, subst, append_assoc}
+use Rattle.std.proofs.Common.{◌≡◌, ℕ, zero, suc, ◌+◌, ◌<◌, Bool, true, false, not, List, [], ◌∷◌, ◌++◌, Option, Some, None, length, take, drop, cond, eqb, refl, sym, ap, ◌∙◌, arith, subst}
 use Rattle.std.specs.List.{list_all}
 use Rattle.std.proofs.lemmas.Bool.{and_parts, and_from, eqb-true, ne_eqb, true≢false, false≢true, not-true}
-use Rattle.std.proofs.lemmas.Bool.Decides.{nat_tests}
 use Rattle.std.proofs.lemmas.List.{take_at, drop_at, take-append-drop, length-append, append-nil}
 use Rattle.unit_lang.specs.declared.token.Token.{Token}
 use Rattle.unit_lang.specs.declared.token.Token.TheVariants.{Word, Equals, Plus, Minus, Star, Open, Close}
 use Rattle.unit_lang.specs.Names.{is_blank, is_word_byte}
 use Rattle.unit_lang.specs.Tokens.{is_word, ends_word, Begins, word, equals, plus, minus, star, parenthesis, closing, without_blanks, Leads, end, token, AreTokens}
-use Rattle.unit_lang.specs.Lexing.{word_len, sign, word_of, word_at, sign_or_word, first_token}
+use Rattle.unit_lang.specs.Lexing.{word_len, sign, word_of, sign_or_word, first_token}
 
 not_zero : (len : ℕ) → eqb (suc len) 0 ≡ false
 not_zero len = ne_eqb (suc len) 0 (λ e. omega arith)

@@ -1,13 +1,10 @@
 -- Blanks at the ends of a text, comments, and lines that begin with `warn`.
-use Rattle.std.proofs.Common.{◌≡◌, ℕ, zero, suc, ◌<◌, ◌≤◌, ◌&&◌, ◌==◌, not, Bool, true, false, List, [], ◌∷◌, ◌++◌, Option, Some, None, cond, eqb, take, drop, length, codes, IsTrue, refl, sym, ap, ◌∙◌, subst, arith, append_assoc, ⊎_elim}
+use Rattle.std.proofs.Common.{◌≡◌, ℕ, suc, ◌&&◌, ◌==◌, not, Bool, true, false, List, [], ◌∷◌, ◌++◌, Some, None, cond, eqb, take, codes, refl, sym, ap, ◌∙◌, subst, append_assoc, ⊎_elim}
 use Rattle.std.specs.Prelude.{◌⊎◌}
-use Rattle.std.specs.List.{list_all}
 use Rattle.std.proofs.lemmas.Bool.{and_parts, and_from, eqb-true, ne_eqb, true≢false, false≢true, not-true, not_from_false}
-use Rattle.std.proofs.lemmas.List.{append-nil}
-use Rattle.std.proofs.lemmas.List.Folds.{list_all-append}
 use Rattle.unit_lang.specs.Gives.{IsWarning}
 use Rattle.unit_lang.specs.Lexing.{after_warn, plain_len}
-use Rattle.unit_lang.specs.Lines.{are_blanks, ends_solid, is_solid, StartsWarn, IsWarnLine, IsBlankLine, LineTokens, Warns}
+use Rattle.unit_lang.specs.Lines.{are_blanks, ends_solid, is_solid, StartsWarn, IsWarnLine, IsBlankLine, Warns}
 use Rattle.unit_lang.specs.Names.{is_blank}
 use Rattle.unit_lang.specs.Tokens.{without_blanks, without_comment, end}
 use Rattle.unit_lang.proofs.TokenLemmas.{leads_none}

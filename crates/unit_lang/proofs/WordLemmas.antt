@@ -1,13 +1,10 @@
 -- Words: their parts around a dot, and what they are in an expression.
-use Rattle.std.proofs.Common.{◌≡◌, ℕ, zero, suc, ◌+◌, ◌*◌, ◌-◌, ◌<◌, ◌≤◌, ◌&&◌, ◌==◌, not, nat_le, Bool, true, false, List, [], ◌∷◌, ◌++◌, Option, Some, None, length, take, drop, cond, eqb, IsTrue, refl, sym, ap, ◌∙◌, arith, subst, append_assoc, slice_index, is_none, unwrap_or, pos, ℤ}
-use Rattle.std.specs.Prelude.{MatchOption}
+use Rattle.std.proofs.Common.{◌≡◌, ℕ, zero, suc, ◌+◌, ◌*◌, ◌-◌, ◌<◌, ◌≤◌, ◌&&◌, ◌==◌, not, nat_le, Bool, true, false, List, [], ◌∷◌, ◌++◌, Option, Some, None, length, cond, eqb, refl, sym, ap, ◌∙◌, arith, subst, slice_index, unwrap_or, pos, ℤ}
 use Rattle.std.specs.Char.{is_ascii_digit, digit_value}
 use Rattle.std.specs.List.{list_all}
 use Rattle.std.specs.Str.Parse.{digits_value, digits_value_after}
-use Rattle.std.proofs.lemmas.Bool.{and_parts, and_left, and_right, and_from, eqb-true, ne_eqb, true≢false, false≢true, leb-true, leb-false, le-leb, lt-leb, not-true}
+use Rattle.std.proofs.lemmas.Bool.{and_parts, and_left, and_right, and_from, eqb-true, false≢true, leb-true, leb-false, le-leb, not-true}
 use Rattle.std.proofs.lemmas.Bool.Decides.{nat_tests}
-use Rattle.std.proofs.lemmas.List.Folds.{list_all-append}
-use Rattle.std.proofs.lemmas.Str.{digit_value_digit}
 use Rattle.mx_base.specs.AppName.{IsAppName, is_app_name, fits_at}
 use Rattle.unit_lang.specs.declared.unit.Expression.{Expression}
 use Rattle.unit_lang.specs.declared.unit.Expression.TheVariants.{Number, Name, Reference}

@@ -1,9 +1,9 @@
 -- What a refusal says inside of the reader.
 use Rattle.std.specs.Prelude.{◌≡◌, ◌⊎◌, ℕ, List, [], ◌∷◌, ◌++◌, Bool, true, false, IsTrue, IsFalse, Result, Ok, Err, Option, Some, None, codes, bytes_eq, if◌then◌else◌}
 use Rattle.unit_lang.specs.declared.error.UnitCause.{UnitCause}
-use Rattle.unit_lang.specs.declared.error.UnitCause.TheVariants.{TooLong, NoUnit, TooDeep, NumberTooBig, BadLine, OutOfMemory}
+use Rattle.unit_lang.specs.declared.error.UnitCause.TheVariants.{NumberTooBig, BadLine, OutOfMemory}
 use Rattle.unit_lang.specs.declared.token.Token.{Token}
-use Rattle.unit_lang.specs.declared.token.Token.TheVariants.{Word, Equals, Plus, Minus, Star, Open, Close}
+use Rattle.unit_lang.specs.declared.token.Token.TheVariants.{Word}
 use Rattle.unit_lang.specs.Faults.{LineFault}
 use Rattle.unit_lang.specs.Lexing.{first_token}
 use Rattle.unit_lang.specs.Lines.{are_blanks, is_solid, Names}

@@ -1,5 +1,5 @@
 -- What the tokens of a line say.
-use Rattle.std.specs.Prelude.{◌≡◌, ℕ, suc, ◌≤◌, List, [], ◌∷◌, ◌++◌, length, nat_le, IsTrue, codes, ℤ, pos}
+use Rattle.std.specs.Prelude.{◌≡◌, ℕ, suc, ◌≤◌, List, [], ◌∷◌, ◌++◌, IsTrue, codes, pos}
 use Rattle.std.specs.Str.Parse.{digits_value}
 use Rattle.mx_base.specs.AppName.{IsAppName}
 use Rattle.unit_lang.specs.declared.token.Token.{Token}
@@ -7,7 +7,7 @@ use Rattle.unit_lang.specs.declared.token.Token.TheVariants.{Word, Equals, Plus,
 use Rattle.unit_lang.specs.declared.unit.Expression.{Expression}
 use Rattle.unit_lang.specs.declared.unit.Expression.TheVariants.{Number, Name, Reference, Add, Subtract, Multiply, Negate}
 use Rattle.unit_lang.specs.declared.unit.Statement.{Statement}
-use Rattle.unit_lang.specs.declared.unit.Statement.TheVariants.{Use, Let, Export, Warn}
+use Rattle.unit_lang.specs.declared.unit.Statement.TheVariants.{Use, Let, Export}
 use Rattle.unit_lang.specs.Names.{is_name, are_digits}
 
 mutual

@@ -1,5 +1,5 @@
 -- The first token of a text and the parts of a word, as functions. What they are is said without these (Tokens.antt, Grammar.antt).
-use Rattle.std.specs.Prelude.{ℕ, suc, ◌+◌, ◌*◌, ◌-◌, ◌&&◌, ◌==◌, nat_le, Bool, true, false, is_none, unwrap_or, List, [], ◌∷◌, Option, Some, None, if◌then◌else◌, take, drop, length, pos}
+use Rattle.std.specs.Prelude.{ℕ, suc, ◌+◌, ◌*◌, ◌-◌, ◌&&◌, ◌==◌, nat_le, Bool, false, is_none, unwrap_or, List, [], ◌∷◌, Option, Some, None, if◌then◌else◌, take, drop, length, pos}
 use Rattle.std.specs.Char.{is_ascii_digit}
 use Rattle.unit_lang.specs.declared.token.Token.{Token}
 use Rattle.unit_lang.specs.declared.token.Token.TheVariants.{Word, Equals, Plus, Minus, Star, Open, Close}

@@ -1,5 +1,5 @@
 -- What one line says.
-use Rattle.std.specs.Prelude.{◌≡◌, ℕ, ◌≤◌, Bool, true, false, not, ◌&&◌, ◌==◌, List, [], ◌∷◌, ◌++◌, length, IsTrue, codes, if◌then◌else◌}
+use Rattle.std.specs.Prelude.{◌≡◌, ℕ, Bool, false, not, ◌&&◌, List, [], ◌∷◌, ◌++◌, IsTrue, codes}
 use Rattle.std.specs.List.{list_all}
 use Rattle.unit_lang.specs.declared.token.Token.{Token}
 use Rattle.unit_lang.specs.declared.unit.Statement.{Statement}

@@ -1,5 +1,5 @@
 -- The states of the reader of a line between two tokens. What tokens say is said without them (Grammar.antt).
-use Rattle.std.specs.Prelude.{ℕ, suc, Bool, true, false, ◌&&◌, List, [], ◌∷◌, Option, Some, None, option_map, length, codes, if◌then◌else◌}
+use Rattle.std.specs.Prelude.{ℕ, Bool, true, false, ◌&&◌, List, [], ◌∷◌, Option, Some, None, option_map, length, codes, if◌then◌else◌}
 use Rattle.std.specs.Prelude.{bytes_eq}
 use Rattle.mx_base.specs.AppName.{is_app_name}
 use Rattle.unit_lang.specs.declared.token.Token.{Token}

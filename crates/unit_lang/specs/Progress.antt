@@ -1,5 +1,5 @@
 -- What one more token does to the reader of a line, and what its end does.
-use Rattle.std.specs.Prelude.{◌≡◌, ◌<◌, ◌≤◌, ◌⊎◌, ◌||◌, Bool, true, false, Option, Some, None, Result, Ok, Err}
+use Rattle.std.specs.Prelude.{◌≡◌, ◌<◌, ◌≤◌, ◌⊎◌, ◌||◌, true, false, Some, None, Result, Ok, Err}
 use Rattle.unit_lang.specs.declared.error.UnitCause.{UnitCause}
 use Rattle.unit_lang.specs.declared.error.UnitCause.TheVariants.{TooDeep, NumberTooBig, BadLine, OutOfMemory}
 use Rattle.unit_lang.specs.declared.progress.Progress.{Progress}

@@ -1,5 +1,5 @@
 -- Which unit a text spells.
-use Rattle.std.specs.Prelude.{◌≡◌, ℕ, suc, ◌≤◌, ◌==◌, List, [], ◌∷◌, length, if◌then◌else◌}
+use Rattle.std.specs.Prelude.{ℕ, suc, ◌≤◌, ◌==◌, List, [], ◌∷◌, length, if◌then◌else◌}
 use Rattle.unit_lang.specs.declared.unit.Line.{Line}
 use Rattle.unit_lang.specs.declared.unit.Statement.{Statement}
 use Rattle.unit_lang.specs.declared.unit.Unit.{Unit as UnitFile}

@@ -1,5 +1,4 @@
-use Rattle.std.proofs.Common.{◌≡◌, length, refl, sym, rules, Some, None}
-use Rattle.std.specs.List.{slice_get}
+use Rattle.std.proofs.Common.{length, refl, sym, rules}
 use Rattle.std.proofs.lemmas.Option.{slice_get_past, slice_get_read}
 use Rattle.build_plan.proofs.NeedLemmas.{no_place, no_row, one_app}
 use Rattle.build_plan.proofs.needs.add_app.Goals as goal

@@ -1,4 +1,3 @@
-use Rattle.std.proofs.Common.{◌∙◌}
 use Rattle.build_plan.proofs.SearchLemmas.{child_found, child_missing}
 use Rattle.build_plan.proofs.needs.declarer.Goals as goal
 

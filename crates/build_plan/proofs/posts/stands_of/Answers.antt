@@ -1,4 +1,4 @@
-use Rattle.std.proofs.Common.{◌<◌, ◌≤◌, length, get_or, refl, arith, rules}
+use Rattle.std.proofs.Common.{◌<◌, length, get_or, refl, arith, rules}
 use Rattle.build_plan.proofs.SearchLemmas.{none_known, known_more, all_known}
 use Rattle.build_plan.proofs.posts.stands_of.Goals as goal
 

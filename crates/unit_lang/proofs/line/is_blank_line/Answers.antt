@@ -1,4 +1,4 @@
-use Rattle.std.proofs.Common.{◌≡◌, sym, ◌∙◌, ap}
+use Rattle.std.proofs.Common.{◌∙◌, ap}
 use Rattle.unit_lang.specs.Tokens.{without_blanks}
 use Rattle.unit_lang.proofs.Outcomes.{blank_test}
 use Rattle.unit_lang.proofs.line.is_blank_line.Goals as goal

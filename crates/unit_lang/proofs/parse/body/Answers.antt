@@ -1,6 +1,6 @@
 use Rattle.std.proofs.Common.{◌+◌, arith}
 use Rattle.std.proofs.lemmas.Result.{err_from_is_err_and}
-use Rattle.unit_lang.proofs.FileLemmas.{Heard, heard_first, heard_all}
+use Rattle.unit_lang.proofs.FileLemmas.{heard_first, heard_all}
 use Rattle.unit_lang.proofs.FileOutcomes.{heard_next, heard_stop, none_left}
 use Rattle.unit_lang.proofs.parse.body.Goals as goal
 

@@ -1,10 +1,9 @@
-use Rattle.std.proofs.Common.{◌≡◌, sym, ◌∙◌, ap, subst, rules, Some, pos, true, false}
+use Rattle.std.proofs.Common.{◌≡◌, sym, ◌∙◌, ap, subst, rules, pos, true, false}
 use Rattle.std.specs.Prelude.{unwrap_or}
 use Rattle.std.proofs.lemmas.Int.{to_z-of_z}
-use Rattle.unit_lang.specs.declared.unit.Expression.TheVariants.{Number}
 use Rattle.unit_lang.specs.Gives.{Gives}
 use Rattle.unit_lang.specs.Names.{is_name, are_digits}
-use Rattle.unit_lang.specs.Lexing.{operand, dotted, reference_of, number_of}
+use Rattle.unit_lang.specs.Lexing.{dotted, reference_of, number_of}
 use Rattle.unit_lang.proofs.WordLemmas.{operand_digits, operand_name, operand_else}
 use Rattle.unit_lang.proofs.words.operand.Goals as goal
 
