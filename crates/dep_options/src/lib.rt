@@ -14,6 +14,7 @@ mod stated;
 #[cfg(test)]
 mod tests;
 mod values;
+mod word;
 
 pub use decl::{CompileBy, Decl, DepSource, Manager};
 pub use error::{OptionCause, OptionError};

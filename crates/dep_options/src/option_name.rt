@@ -3,6 +3,8 @@ ghost use Rattle.std.specs.Prelude.{◌≡◌, ◌||◌, codes, bytes_eq, IfSome
 ghost use Rattle.dep_options.specs.Options.{kind_of};
 ghost use Rattle.dep_options.specs.Values.{IsNamed};
 
+use crate::word::is_word;
+
 /// An option of a declaration.
 #[derive(Clone, Copy, Drop)]
 pub(crate) enum OptionName {
@@ -27,29 +29,29 @@ pub(crate) fn option_named(name: &[u8]) -> Option<OptionName>
     ensures known { IfSome result (IsNamed name.now) }
     ensures unknown { IfNone result (kind_of name.now ≡ None) }
 {
-    if name == b"only" {
+    if is_word(name, b"only") {
         Some(OptionName::Only)
-    } else if name == b"env" {
+    } else if is_word(name, b"env") {
         Some(OptionName::Env)
-    } else if name == b"optional" {
+    } else if is_word(name, b"optional") {
         Some(OptionName::Optional)
-    } else if name == b"override" {
+    } else if is_word(name, b"override") {
         Some(OptionName::Override)
-    } else if name == b"runtime" {
+    } else if is_word(name, b"runtime") {
         Some(OptionName::Runtime)
-    } else if name == b"app" {
+    } else if is_word(name, b"app") {
         Some(OptionName::App)
-    } else if name == b"compile" {
+    } else if is_word(name, b"compile") {
         Some(OptionName::Compile)
-    } else if name == b"path" {
+    } else if is_word(name, b"path") {
         Some(OptionName::Path)
-    } else if name == b"hex" {
+    } else if is_word(name, b"hex") {
         Some(OptionName::Hex)
-    } else if name == b"repo" {
+    } else if is_word(name, b"repo") {
         Some(OptionName::Repo)
-    } else if name == b"manager" {
+    } else if is_word(name, b"manager") {
         Some(OptionName::Manager)
-    } else if name == b"system_env" {
+    } else if is_word(name, b"system_env") {
         Some(OptionName::SystemEnv)
     } else if is_unsupported(name) {
         Some(OptionName::Unsupported)
@@ -63,5 +65,8 @@ fn is_unsupported(name: &[u8]) -> bool
     ensures { result ≡ (bytes_eq name.now (codes "git") || (bytes_eq name.now (codes "github")
         || (bytes_eq name.now (codes "organization") || bytes_eq name.now (codes "in_umbrella")))) }
 {
-    name == b"git" || name == b"github" || name == b"organization" || name == b"in_umbrella"
+    is_word(name, b"git")
+        || is_word(name, b"github")
+        || is_word(name, b"organization")
+        || is_word(name, b"in_umbrella")
 }

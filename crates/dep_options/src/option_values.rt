@@ -9,6 +9,7 @@ use crate::option_name::{OptionName, option_named};
 use crate::values::{
     app_of, compile_of, environments_of, folder_of, manager_of, package_of, truth_of, variables_of,
 };
+use crate::word::is_word;
 use elixir_terms::Term;
 use mx_base::{AppName, ListOf, Names, RelPath, Text, Variables, copy_text};
 use std::alloc::{AllocError, Global};
@@ -168,7 +169,7 @@ fn check_registry(name: &Text, value: &Term) -> Result<(), OptionCause>
         → registry_fault name.now value.now ≡ Some cause) }
 {
     match value.as_string() {
-        Some(text) if text.as_slice() == b"hexpm" => Ok(()),
+        Some(text) if is_word(text.as_slice(), b"hexpm") => Ok(()),
         Some(_) => Err(OptionCause::UnsupportedSource(copy_text(name)?)),
         None => Err(OptionCause::BadValue(copy_text(name)?)),
     }

@@ -9,6 +9,7 @@ ghost use Rattle.dep_options.specs.Values.{tuple_variable_of};
 
 use crate::decl::{CompileBy, Manager};
 use crate::kept_apart::is_kept_apart;
+use crate::word::is_word;
 use elixir_terms::Term;
 use mx_base::{AppName, ListOf, NameError, Names, PathError, RelPath, Text, Variable, Variables};
 use std::alloc::{AllocError, Global};
@@ -81,9 +82,9 @@ pub(crate) fn truth_of(term: &Term) -> Option<bool>
     ensures { result ≡ truth_of term.now }
 {
     let name = term.as_atom()?.as_slice();
-    if name == b"true" {
+    if is_word(name, b"true") {
         Some(true)
-    } else if name == b"false" {
+    } else if is_word(name, b"false") {
         Some(false)
     } else {
         None
@@ -137,11 +138,11 @@ pub(crate) fn manager_of(term: &Term) -> Option<Manager>
     ensures { result ≡ manager_of term.now }
 {
     let name = term.as_atom()?.as_slice();
-    if name == b"mix" {
+    if is_word(name, b"mix") {
         Some(Manager::Mix)
-    } else if name == b"rebar3" {
+    } else if is_word(name, b"rebar3") {
         Some(Manager::Rebar3)
-    } else if name == b"make" {
+    } else if is_word(name, b"make") {
         Some(Manager::Make)
     } else {
         None

@@ -59,7 +59,7 @@ fn are_settings(alloc: Global, entries: &[(&Text, &Term)]) -> Result<bool, Alloc
 fn is_setting(alloc: Global, name: &Text, value: &Term) -> Result<bool, AllocError>
     ensures { IfOk result (λ is. is ≡ is_setting (name.now, value.now)) }
 {
-    if name.as_slice() == b"compilers" {
+    if name.as_slice() == b"compilers".as_slice() {
         Ok(compilers_of(alloc, value)?.is_some())
     } else {
         Ok(false)
@@ -123,7 +123,7 @@ fn is_compiler(alloc: Global, name: &Text, value: &Term) -> Result<bool, AllocEr
 fn is_manager(name: &[u8]) -> bool
     ensures { result ≡ is_manager name.now }
 {
-    name == b"mix" || name == b"rebar3" || name == b"make"
+    name == b"mix".as_slice() || name == b"rebar3".as_slice() || name == b"make".as_slice()
 }
 
 // How a manager compiles, as the first entry of its name says.
@@ -156,7 +156,7 @@ fn unit(term: &Term) -> Option<How>
     ensures { result ≡ option_and_then unit_in (atom_of term.now) }
 {
     let name = term.as_atom()?;
-    if name.as_slice() == b"unit" {
+    if name.as_slice() == b"unit".as_slice() {
         Some(How::Unit)
     } else {
         None

@@ -1,0 +1,9 @@
+// Words in texts.
+ghost use Rattle.std.specs.Prelude.{◌≡◌, bytes_eq};
+
+/// Whether a text is this word.
+pub(crate) fn is_word(text: &[u8], word: &[u8]) -> bool
+    ensures { result ≡ bytes_eq text.now word.now }
+{
+    text == word
+}
