@@ -51,6 +51,18 @@ fn texts_are_read(rt: HostRuntime) -> Result<(), Fail> {
             "{:a, \"~> 1.0\", [only: :test]}",
         ),
         ("%{\"k\": 1}", "%{k: 1}"),
+        (":nilx", ":nilx"),
+        (":a!", ":a!"),
+        (":Foo", ":Foo"),
+        (":\"a b\"", ":\"a b\""),
+        (":\"\"", ":\"\""),
+        ("\"\"", "\"\""),
+        ("[a_1@b?:\n1]", "[a_1@b?: 1]"),
+        ("[\"\\xc3\\xa9\": 1]", "[\"\u{E9}\": 1]"),
+        (":\"\\u{20aC}\"", ":\"\u{20AC}\""),
+        ("~w()", "[]"),
+        ("~w( dev\n test )s", "[\"dev\", \"test\"]"),
+        ("~w(a#)s", "[\"a#\"]"),
     ] {
         let out = printed(alloc, text.as_bytes())?;
         assert_eq!(rt; out.as_slice(), want.as_bytes(), "at {text:?}");

@@ -50,7 +50,7 @@ fn integers_are_read(rt: HostRuntime) -> Result<(), Fail> {
 }
 
 /// As a whole text.
-const OUTERMOST: &str = r#"trux|3|Unexpected
+const OUTERMOST: &str = r##"trux|3|Unexpected
 tru|3|Unclosed
 truex|4|Unexpected
 foo|1|Unexpected
@@ -60,7 +60,12 @@ true: 1|4|TrailingText
 "a":1|3|TrailingText
 :a!b|3|TrailingText
 :a: |2|TrailingText
-]|0|Unexpected"#;
+:""x|3|TrailingText
+"# #[ a" b|9|TrailingText
+~w(a#)sa|7|TrailingText
+~w("a)b|6|TrailingText
+1.|1|TrailingText
+]|0|Unexpected"##;
 
 /// After a comma in a list.
 const IN_A_LIST: &str = r#"|0|Unclosed
@@ -84,6 +89,9 @@ Foo:1|0|Unsupported(Alias)
 "k":1|4|Unexpected
 "\xff": 1|0|BadUtf8
 "\xff":|6|Unexpected"#;
+
+/// After a key in a map.
+const AFTER_A_KEY: &str = "=|1|Unclosed\n==|1|Unexpected";
 
 /// After `=>` in a map.
 const AFTER_AN_ARROW: &str = r##""a|2|Unclosed
@@ -151,6 +159,7 @@ fn what_may_stand_decides(rt: HostRuntime) -> Result<(), Fail> {
     for (before, rows) in [
         ("", OUTERMOST),
         ("[1,", IN_A_LIST),
+        ("%{1 ", AFTER_A_KEY),
         ("%{1 =>", AFTER_AN_ARROW),
         ("{1, a: 2,", AFTER_A_KEYWORD),
     ] {
