@@ -1,11 +1,12 @@
 // Compilers, by their meaning.
 ghost use Rattle.std.specs.Prelude.{◌≡◌, ◌≢◌, [], ℕ, length, IfOk};
+ghost use Rattle.mx_base.specs.Blame.{fails};
 ghost use Rattle.mx_base.specs.Causes.{Counted};
 ghost use Rattle.mx_base.specs.Order.{AreInOrder};
 ghost use Rattle.compile_model.specs.Content.{Content, content_of, empty_outcome};
 ghost use Rattle.compile_model.specs.Planned.{IsNamed};
 ghost use Rattle.compile_model.specs.declared.how.How.TheVariants.{Nothing};
-ghost use Rattle.compile_model.specs.Faults.{is_died};
+ghost use Rattle.compile_model.specs.Blame.{compile_blame};
 ghost use Rattle.compile_model.specs.declared.outcome.Outcome.{Outcome};
 
 use crate::job::Job;
@@ -78,5 +79,5 @@ pub trait Compiler: Meaning {
         requires needs { length input.now.needs.now ≡ length input.now.job.now.needs }
         requires named { IsNamed input.now.job.now }
         ensures meaning { IfOk result (λ outcome. outcome ≡ Self.compile_of (content_of input.now.job.now input.now.needs.now)) }
-        ensures cause { Counted (deaths self.old) (deaths self.new) (is_died result) };
+        ensures cause { Counted (deaths self.old) (deaths self.new) (fails compile_blame result) };
 }

@@ -1,8 +1,9 @@
 // Compiling one job after another.
-ghost use Rattle.std.specs.Prelude.{◌≡◌, ◌≤◌, None, IsTrue, IfOk, IfErr, length, vec_len};
+ghost use Rattle.std.specs.Prelude.{◌≡◌, None, IsTrue, IfOk, IfErr, length, vec_len};
+ghost use Rattle.mx_base.specs.Blame.{fails};
 ghost use Rattle.mx_base.specs.Causes.{Counted};
 ghost use Rattle.std.specs.List.{All};
-ghost use Rattle.compile_model.specs.Faults.{is_died};
+ghost use Rattle.compile_model.specs.Blame.{compile_blame, seq_blame};
 ghost use Rattle.compile_model.specs.Planned.{IsNamed};
 ghost use Rattle.compile_model.specs.Seq.{seq, first_unbuilt, outcome_at, outcomes_of, fate_of, DiedAt};
 ghost use Rattle.std.specs.Option.{option_copied};
@@ -54,8 +55,7 @@ pub fn seq_build<C: Compiler>(
     ensures fates { IfOk result (λ fates. fates.items ≡ seq C.compile_of plan.now.jobs) }
     ensures length { IfOk result (λ fates. vec_len fates ≡ length plan.now.jobs) }
     ensures died { IfErr result (DiedAt C.compile_of plan.now.jobs (C.deaths compiler.old) (C.deaths compiler.new)) }
-    ensures later { C.deaths compiler.old ≤ C.deaths compiler.new }
-    ensures kept { IfOk result (λ _. C.deaths compiler.new ≡ C.deaths compiler.old) }
+    ensures cause { Counted (C.deaths compiler.old) (C.deaths compiler.new) (fails seq_blame result) }
 {
     let mut fates = Vec::new(alloc);
     for (place, job) in plan.jobs.as_slice().iter().enumerate() {
@@ -78,8 +78,8 @@ fn fate<C: Compiler>(
 ) -> Result<Fate, CompileFault>
     requires { IsNamed job.now }
     ensures fate { IfOk result (λ fate. fate ≡ fate_of C.compile_of fates.now job.now) }
-    ensures started { IsTrue (is_died result) → first_unbuilt fates.now job.now.needs ≡ None }
-    ensures cause { Counted (C.deaths compiler.old) (C.deaths compiler.new) (is_died result) }
+    ensures started { IsTrue (fails compile_blame result) → first_unbuilt fates.now job.now.needs ≡ None }
+    ensures cause { Counted (C.deaths compiler.old) (C.deaths compiler.new) (fails compile_blame result) }
 {
     if let Some(need) = missing(fates, job.needs.as_slice()) {
         return Ok(Fate::Skipped { need });

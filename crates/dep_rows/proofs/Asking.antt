@@ -1,5 +1,5 @@
 -- The rows so far while the winners are asked one by one.
-use Rattle.std.proofs.Common.{◌≡◌, ℕ, ◌+◌, ◌<◌, ◌≤◌, inl, inr, Bool, List, [], ◌∷◌, ◌++◌, length, get_or, take, drop, slice_get, Option, Some, None, Result, Ok, Err, IfErr, IsErrAnd, IfSome, Contains, sym, ◌∙◌, ap, subst, arith}
+use Rattle.std.proofs.Common.{◌≡◌, ℕ, ◌+◌, ◌<◌, ◌≤◌, List, [], ◌∷◌, ◌++◌, length, get_or, take, drop, slice_get, Option, Some, None, Result, Ok, Err, IfErr, IsErrAnd, IfSome, Contains, sym, ◌∙◌, ap, subst, arith}
 use Rattle.std.proofs.lemmas.List.{length-append, drop_more, take_more, take-append-le, drop-append-le, drop_all, take_all}
 use Rattle.std.proofs.lemmas.List.Elements.{Contains-get_or}
 use Rattle.std.proofs.lemmas.Option.{slice_get_within}
@@ -7,8 +7,11 @@ use Rattle.dep_options.specs.declared.decl.Decl.{Decl}
 use Rattle.dep_rows.specs.declared.row.Row.{Row}
 use Rattle.dep_rows.specs.declared.error.RowsError.{RowsError}
 use Rattle.dep_rows.specs.declared.error.RowsError.TheVariants.{Children, TooManyRows, OutOfMemory}
+use Rattle.mx_base.specs.Blame.{Blame, Answers}
+use Rattle.mx_base.specs.Blame.Blame.{Input}
+use Rattle.dep_rows.specs.Children.{rows_blame}
 use Rattle.dep_rows.specs.Growing.{next_winners, BringsIn, Hinders}
-use Rattle.dep_rows.specs.Refusal.{HasCause}
+use Rattle.dep_rows.specs.Refusal.{IsListing}
 use Rattle.dep_rows.specs.Rows.{ChildrenOf, AreWellFormed, AreRows, AreRowsSoFar, rows_from, most_rows}
 use Rattle.dep_rows.proofs.Blocks.{length-rows_from}
 use Rattle.dep_rows.proofs.Standing.{well_formed_more, nothing_well_formed, so_far_root, so_far_more}
@@ -110,23 +113,20 @@ module _ {Known Fault : Type 0} (children_of : Known → ChildrenOf Fault) (mean
       (subst (λ (ws : List ℕ). Stands children_of meaning root (rows ++ block) ws (asked + 1)) (sym brings.winners) all)
 
   -- its children can't come
-  pub stands_hindered : (is_outside is_memory : Fault → Bool) (error : RowsError Fault) → IfSome meaning (λ known. Hinders is_outside is_memory (children_of known) rows winner error) → IfSome meaning (λ known. HasCause is_outside is_memory (children_of known) root error)
-  stands_hindered is_outside is_memory error hindered =
-      both_told meaning (λ known. Hinders is_outside is_memory (children_of known) rows winner error) (λ known. HasCause is_outside is_memory (children_of known) root error)
+  pub stands_hindered : (blame : Fault → Blame) (error : RowsError Fault) → IfSome meaning (λ known. Hinders blame (children_of known) rows winner error) → IfSome meaning (λ known. rows_blame blame error ≡ Input → IsListing (children_of known) root (Err error))
+  stands_hindered blame error hindered =
+      both_told meaning (λ known. Hinders blame (children_of known) rows winner error) (λ known. rows_blame blame error ≡ Input → IsListing (children_of known) root (Err error))
       (if_told meaning
       (λ known. AreRowsSoFar (children_of known) root rows (take asked winners) (drop asked winners))
-      (λ known. Hinders is_outside is_memory (children_of known) rows winner error → HasCause is_outside is_memory (children_of known) root error)
+      (λ known. Hinders blame (children_of known) rows winner error → rows_blame blame error ≡ Input → IsListing (children_of known) root (Err error))
       (λ known so_far. cause (children_of known) error (next_told (children_of known) so_far))
       stands.told)
       hindered
     where
-      cause : (children : ChildrenOf Fault) (error : RowsError Fault) → AreRowsSoFar children root rows (take asked winners) (winner ∷ drop (asked + 1) winners) → Hinders is_outside is_memory children rows winner error → HasCause is_outside is_memory children root error
-      cause children (Children fault) so_far (row, there, ends) =
-          elim ends [
-            | inl answer ↦ inl (record { rows = rows; asked = take asked winners; winner = winner; later = drop (asked + 1) winners; row = row; so_far = so_far; few = stands.few; stands = there; answer = answer })
-            | inr other ↦ inr other
-          ]
-      cause children TooManyRows so_far (row, decls, there, answer, many) =
+      cause : (children : ChildrenOf Fault) (error : RowsError Fault) → AreRowsSoFar children root rows (take asked winners) (winner ∷ drop (asked + 1) winners) → Hinders blame children rows winner error → rows_blame blame error ≡ Input → IsListing children root (Err error)
+      cause children (Children fault) so_far (row, there, ends) input =
+          record { rows = rows; asked = take asked winners; winner = winner; later = drop (asked + 1) winners; row = row; so_far = so_far; few = stands.few; stands = there; answer = ends input }
+      cause children TooManyRows so_far (row, decls, there, answer, many) input =
           let long = length-append rows (rows_from (Some winner) 0 decls) in
           let block_long = length-rows_from (Some winner) 0 decls in
           record {
@@ -136,7 +136,7 @@ module _ {Known Fault : Type 0} (children_of : Known → ChildrenOf Fault) (mean
             so_far = so_far_more children root rows (take asked winners) winner (drop (asked + 1) winners) row decls so_far there answer;
             many = omega (arith, many, long, block_long);
           }
-      cause children OutOfMemory so_far h = tt
+      cause children OutOfMemory so_far h input = cc
 
 -- all winners were asked
 pub stands_end : {Known Fault : Type 0} (children_of : Known → ChildrenOf Fault) (meaning : Option Known) (root : List Decl) (rows : List Row) (winners : List ℕ) (asked : ℕ) → Stands children_of meaning root rows winners asked → length winners ≤ asked → IfSome meaning (λ known. AreRows (children_of known) root rows winners)
@@ -150,11 +150,11 @@ stands_end children_of meaning root rows winners asked stands past =
     stands.told
 
 -- the root alone passes the limit
-pub root_many : {Known Fault : Type 0} (children_of : Known → ChildrenOf Fault) (meaning : Option Known) (is_outside is_memory : Fault → Bool) (root : List Decl) → most_rows < length root → IfSome meaning (λ known. HasCause is_outside is_memory (children_of known) root TooManyRows)
-root_many children_of meaning is_outside is_memory root many =
+pub root_many : {Known Fault : Type 0} (children_of : Known → ChildrenOf Fault) (meaning : Option Known) (blame : Fault → Blame) (root : List Decl) → most_rows < length root → IfSome meaning (λ known. rows_blame blame TooManyRows ≡ Input → IsListing (children_of known) root (Err TooManyRows))
+root_many children_of meaning blame root many =
     let long = length-rows_from None 0 root in
-    if_any meaning (λ known. HasCause is_outside is_memory (children_of known) root TooManyRows)
-    (λ known. record { rows = rows_from None 0 root; asked = []; later = next_winners [] (rows_from None 0 root); so_far = so_far_root (children_of known) root; many = omega (arith, many, long) })
+    if_any meaning (λ known. rows_blame blame TooManyRows ≡ Input → IsListing (children_of known) root (Err TooManyRows))
+    (λ known input. record { rows = rows_from None 0 root; asked = []; later = next_winners [] (rows_from None 0 root); so_far = so_far_root (children_of known) root; many = omega (arith, many, long) })
 
 pub brings_in : {Known Fault : Type 0} (children_of : Known → ChildrenOf Fault) (meaning : Option Known) (winner : ℕ) (row : Row) (decls : List Decl) (old_rows new_rows : List Row) (old_winners new_winners : List ℕ) → slice_get old_rows winner ≡ Some row → IfSome meaning (λ known. children_of known row.app row.decl (Ok decls)) → new_rows ≡ old_rows ++ rows_from (Some winner) 0 decls → new_winners ≡ old_winners ++ next_winners old_rows (rows_from (Some winner) 0 decls) → length old_rows + length decls ≤ most_rows → BringsIn children_of meaning winner old_rows new_rows old_winners new_winners
 brings_in children_of meaning winner row decls old_rows new_rows old_winners new_winners stands answer rows_are winners_are few =
@@ -169,7 +169,7 @@ brings_in children_of meaning winner row decls old_rows new_rows old_winners new
       few = omega (arith, few, long);
     }
 
--- what a question mark hands on
-pub handed_on : {X E : Type 0} (result : Result X E) (error : E) (Q : E → Type 0) → IsErrAnd result (λ e. e ≡ error) → Q error → IfErr result Q
-handed_on (Ok x) error Q h q = absurd h
-handed_on (Err e) error Q h q = subst Q (sym h) q
+-- an error that is handed on
+pub told_on : {Known X E : Type 0} (meaning : Option Known) (blame : E → Blame) (Is : Known → Result X E → Type 0) (result : Result X E) (error : E) → IsErrAnd result (λ e. e ≡ error) → IfSome meaning (λ known. blame error ≡ Input → Is known (Err error)) → IfSome meaning (λ known. Answers blame result (Is known))
+told_on meaning blame Is (Ok x) error is refused = absurd is
+told_on meaning blame Is (Err e) error is refused = subst (λ x. IfSome meaning (λ known. blame x ≡ Input → Is known (Err x))) (sym is) refused

@@ -1,5 +1,7 @@
 -- Rows that grow at their end, and the winners among the new ones.
-use Rattle.std.specs.Prelude.{◌≡◌, ℕ, ◌+◌, ◌<◌, ◌≤◌, Bool, not, ◌&&◌, List, [], ◌∷◌, ◌++◌, length, if◌then◌else◌, slice_get, Option, Some, Ok, IfSome, nat_eq}
+use Rattle.std.specs.Prelude.{◌≡◌, ℕ, ◌+◌, ◌<◌, ◌≤◌, Bool, not, ◌&&◌, List, [], ◌∷◌, ◌++◌, length, if◌then◌else◌, slice_get, Option, Some, Ok, Err, IfSome, nat_eq}
+use Rattle.mx_base.specs.Blame.{Blame}
+use Rattle.mx_base.specs.Blame.Blame.{Input}
 use Rattle.std.specs.List.{list_any}
 use Rattle.std.specs.Cmp.Lexicographic.{pointwise}
 use Rattle.std.specs.declared.hash.FoldHasher.{FoldHasher}
@@ -9,7 +11,6 @@ use Rattle.dep_options.specs.declared.decl.Decl.{Decl}
 use Rattle.dep_rows.specs.declared.row.Row.{Row}
 use Rattle.dep_rows.specs.declared.error.RowsError.{RowsError}
 use Rattle.dep_rows.specs.declared.error.RowsError.TheVariants.{Children, TooManyRows, OutOfMemory}
-use Rattle.dep_rows.specs.Children.{MayEndIn}
 use Rattle.dep_rows.specs.Rows.{ChildrenOf, rows_from, most_rows}
 
 -- the app has a required row among these
@@ -44,8 +45,8 @@ pub record BringsIn {Known Fault : Type 0} (children_of : Known → ChildrenOf F
   pub few : length new_rows ≤ most_rows
 
 -- why the children of the winner at a place can't come
-abbrev pub Hinders : {Fault : Type 0} → (Fault → Bool) → (Fault → Bool) → ChildrenOf Fault → List Row → ℕ → RowsError Fault → Type 0
-Hinders is_outside is_memory children rows winner (Children fault) = (row : Row) × (slice_get rows winner ≡ Some row) × MayEndIn is_outside is_memory (children row.app row.decl) fault
-Hinders is_outside is_memory children rows winner TooManyRows =
+abbrev pub Hinders : {Fault : Type 0} → (Fault → Blame) → ChildrenOf Fault → List Row → ℕ → RowsError Fault → Type 0
+Hinders blame children rows winner (Children fault) = (row : Row) × (slice_get rows winner ≡ Some row) × (blame fault ≡ Input → children row.app row.decl (Err fault))
+Hinders blame children rows winner TooManyRows =
     (row : Row) × (decls : List Decl) × (slice_get rows winner ≡ Some row) × children row.app row.decl (Ok decls) × (most_rows < length rows + length decls)
-Hinders is_outside is_memory children rows winner OutOfMemory = Unit {0}
+Hinders blame children rows winner OutOfMemory = Unit {0}

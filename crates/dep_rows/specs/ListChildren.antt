@@ -1,6 +1,8 @@
 -- What a list of answers stands for.
-use Rattle.std.specs.Prelude.{◌≡◌, ℕ, Bool, true, false, cond, nat_eq, List, [], ◌∷◌, Result, Ok, Err, if◌then◌else◌, IsFalse, refl}
+use Rattle.std.specs.Prelude.{◌≡◌, ℕ, Bool, true, false, cond, nat_eq, List, [], ◌∷◌, Result, Ok, Err, if◌then◌else◌, refl}
 use Rattle.std.specs.Cmp.Lexicographic.{pointwise}
+use Rattle.mx_base.specs.Blame.{Blame}
+use Rattle.mx_base.specs.Blame.Blame.{Input, Outside, Memory}
 use Rattle.dep_options.specs.declared.decl.Decl.{Decl}
 use Rattle.dep_rows.specs.declared.list_children.ListFault.{ListFault}
 use Rattle.dep_rows.specs.declared.list_children.ListFault.TheVariants.{Refused, Failed, OutOfMemory}
@@ -16,26 +18,18 @@ abbrev pub answer_for : List ListAnswer → List ℕ → Result (List Decl) List
 answer_for [] app = Ok []
 answer_for (answer ∷ answers) app = if pointwise nat_eq answer.app app then told_by answer.children else answer_for answers app
 
--- the plan let the call fail
-abbrev pub is_failed : ListFault → Bool
-is_failed (Refused reason) = false
-is_failed Failed = true
-is_failed OutOfMemory = false
+abbrev pub list_blame : ListFault → Blame
+list_blame (Refused reason) = Input
+list_blame Failed = Outside
+list_blame OutOfMemory = Memory
 
--- memory ran out
-abbrev pub is_memory : ListFault → Bool
-is_memory (Refused reason) = false
-is_memory Failed = false
-is_memory OutOfMemory = true
-
--- the fault is neither
 abbrev pub IsReason : ListFault → Type 0
-IsReason fault = IsFalse (is_failed fault) × IsFalse (is_memory fault)
+IsReason fault = list_blame fault ≡ Input
 
 -- a fault that an answer tells is a reason
 told_is_reason : (answer : Result (List Decl) ℕ) (fault : ListFault) → told_by answer ≡ Err fault → IsReason fault
 told_is_reason (Ok decls) fault is = cc
-told_is_reason (Err reason) (Refused other) is = (refl, refl)
+told_is_reason (Err reason) (Refused other) is = refl
 told_is_reason (Err reason) Failed is = cc
 told_is_reason (Err reason) OutOfMemory is = cc
 

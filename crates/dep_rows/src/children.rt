@@ -1,8 +1,9 @@
 // What the winner of an app declares in turn.
-ghost use Rattle.std.specs.Prelude.{◌≡◌, ℕ, List, Option, Bool, Ok, Err, IfSome, MatchResult, IsFalse};
+ghost use Rattle.std.specs.Prelude.{◌≡◌, ℕ, List, Option, Err, IfSome};
+ghost use Rattle.mx_base.specs.Blame.{Blame, AnswersBy, fails};
+ghost use Rattle.mx_base.specs.Blame.Blame.{Input};
 ghost use Rattle.mx_base.specs.Causes.{Counted};
 ghost use Rattle.dep_options.specs.declared.decl.Decl.{Decl};
-ghost use Rattle.dep_rows.specs.Children.{fails, MayEndIn};
 ghost use Rattle.dep_rows.specs.Rows.{ChildrenOf, AnswersOnce};
 
 use dep_options::Decl;
@@ -25,11 +26,8 @@ pub trait Children {
     /// How often the outside failed. The count never falls.
     ghost faults: { Self → ℕ };
 
-    /// Whether a fault comes from the outside.
-    ghost is_outside: { Self.Fault → Bool };
-
-    /// Whether a fault tells of want of memory.
-    ghost is_memory: { Self.Fault → Bool };
+    /// Whom a fault blames.
+    ghost blame: { Self.Fault → Blame };
 
     /// What it was made over.
     ghost Basis: { Type 0 };
@@ -47,15 +45,15 @@ pub trait Children {
         winner: &Decl,
     ) -> Result<Vec<Decl>, Self::Fault>
         requires { stands self.old }
-        ensures answer { IfSome (meaning self.old) (λ known. MatchResult result (λ decls. children_of known app.now winner.now (Ok decls.items)) (λ fault. MayEndIn is_outside is_memory (children_of known app.now winner.now) fault)) }
+        ensures answer { IfSome (meaning self.old) (λ known. AnswersBy (λ decls. decls.items) blame result (children_of known app.now winner.now)) }
         ensures meaning { meaning self.new ≡ meaning self.old }
         ensures made_over { made_over self.new ≡ made_over self.old }
         ensures stands { stands self.new }
-        ensures cause { Counted (faults self.old) (faults self.new) (fails is_outside result) };
+        ensures cause { Counted (faults self.old) (faults self.new) (fails blame result) };
 
     /// Each winner has one answer at most.
     ghost one: { (object : Self) → IfSome (meaning object) (λ known. AnswersOnce (children_of known)) };
 
-    /// A fault that is told is neither one of the outside nor want of memory.
-    ghost told: { (object : Self) (app : List ℕ) (winner : Decl) (fault : Self.Fault) → IfSome (meaning object) (λ known. children_of known app winner (Err fault) → IsFalse (is_outside fault) × IsFalse (is_memory fault)) };
+    /// A fault that is told is a refusal.
+    ghost told: { (object : Self) (app : List ℕ) (winner : Decl) (fault : Self.Fault) → IfSome (meaning object) (λ known. children_of known app winner (Err fault) → blame fault ≡ Input) };
 }

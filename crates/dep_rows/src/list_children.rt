@@ -1,10 +1,9 @@
 // Children by a list, for callers without a project.
-ghost use Rattle.std.specs.Prelude.{◌≡◌, ◌⊎◌, ℕ, List, Some, Ok, Err, MatchResult, false};
+ghost use Rattle.std.specs.Prelude.{◌≡◌, ℕ, List, Some, IsFalse};
 ghost use Rattle.std.proofs.Common.{sym, ◌∙◌};
-ghost use Rattle.mx_base.specs.Causes.{Counted};
+ghost use Rattle.mx_base.specs.Blame.{AnswersBy, fails};
 ghost use Rattle.dep_rows.specs.declared.list_children.ListAnswer.{ListAnswer};
-ghost use Rattle.dep_rows.specs.Children.{fails};
-ghost use Rattle.dep_rows.specs.ListChildren.{answer_for, told_by, is_failed, is_memory, listed_is_reason};
+ghost use Rattle.dep_rows.specs.ListChildren.{answer_for, told_by, list_blame, listed_is_reason};
 
 use crate::children::Children;
 use crate::decls::copied;
@@ -71,9 +70,7 @@ impl<P: Faults + Drop> Children for ListChildren<P> {
 
     ghost faults = { λ list. P.count list.plan };
 
-    ghost is_outside = { is_failed };
-
-    ghost is_memory = { is_memory };
+    ghost blame = { list_blame };
 
     ghost Basis = { List ListAnswer };
 
@@ -99,8 +96,8 @@ impl<P: Faults + Drop> Children for ListChildren<P> {
 }
 
 fn answer_for(alloc: Global, answers: &[ListAnswer], app: &AppName) -> Result<Vec<Decl>, ListFault>
-    ensures answer { MatchResult result (λ decls. answer_for answers.now app.now ≡ Ok decls.items) (λ fault. (answer_for answers.now app.now ≡ Err fault) ⊎ (fault ≡ ListFault.OutOfMemory)) }
-    ensures inside { fails is_failed result ≡ false }
+    ensures answer { AnswersBy (λ decls. decls.items) list_blame result (λ answer. answer ≡ answer_for answers.now app.now) }
+    ensures alone { IsFalse (fails list_blame result) }
 {
     for answer in answers {
         if answer.app == *app {
@@ -111,8 +108,8 @@ fn answer_for(alloc: Global, answers: &[ListAnswer], app: &AppName) -> Result<Ve
 }
 
 fn told_by(alloc: Global, answer: &ListAnswer) -> Result<Vec<Decl>, ListFault>
-    ensures answer { MatchResult result (λ decls. told_by answer.now.children ≡ Ok decls.items) (λ fault. (told_by answer.now.children ≡ Err fault) ⊎ (fault ≡ ListFault.OutOfMemory)) }
-    ensures inside { fails is_failed result ≡ false }
+    ensures answer { AnswersBy (λ decls. decls.items) list_blame result (λ told. told ≡ told_by answer.now.children) }
+    ensures alone { IsFalse (fails list_blame result) }
 {
     match &answer.children {
         Ok(decls) => Ok(copied(alloc, decls.as_slice())?),

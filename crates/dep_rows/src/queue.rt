@@ -1,11 +1,12 @@
 // Each winner, in the order of its place, is asked for its children, whose rows come at the end.
 ghost use Rattle.std.specs.Prelude.{◌≡◌, ◌≤◌, ◌<◌, IfOk, OnOk, IfErr, IfSome, vec_len};
+ghost use Rattle.mx_base.specs.Blame.{Answers, fails};
 ghost use Rattle.mx_base.specs.Causes.{Counted};
-ghost use Rattle.dep_rows.specs.Children.{fails};
+ghost use Rattle.dep_rows.specs.Children.{rows_blame};
 ghost use Rattle.dep_rows.specs.Growing.{BringsIn, Hinders, HasRequiredApps};
 ghost use Rattle.dep_rows.specs.Listed.{IsWithinLimit};
-ghost use Rattle.dep_rows.specs.Refusal.{HasCause, is_child_fault};
-ghost use Rattle.dep_rows.specs.Rows.{AreRows, most_rows};
+ghost use Rattle.dep_rows.specs.Refusal.{IsListing};
+ghost use Rattle.dep_rows.specs.Rows.{most_rows};
 
 use crate::children::Children;
 use crate::decls::copied;
@@ -22,13 +23,12 @@ pub fn rows<C: Children>(
     children: &mut C,
 ) -> Result<Rows, RowsError<C::Fault>>
     requires { C.stands children.old }
-    ensures read { IfOk result (λ answer. IfSome (C.meaning children.old) (λ known. AreRows (C.children_of known) root.now answer.rows answer.winners)) }
+    ensures answer { IfSome (C.meaning children.old) (λ known. Answers (rows_blame C.blame) result (IsListing (C.children_of known) root.now)) }
     ensures within { IfOk result (λ answer. IsWithinLimit answer) }
-    ensures refused { IfErr result (λ error. IfSome (C.meaning children.old) (λ known. HasCause C.is_outside C.is_memory (C.children_of known) root.now error)) }
     ensures meaning { C.meaning children.new ≡ C.meaning children.old }
     ensures made_over { C.made_over children.new ≡ C.made_over children.old }
     ensures stands { C.stands children.new }
-    ensures cause { Counted (C.faults children.old) (C.faults children.new) (fails (is_child_fault C.is_outside) result) }
+    ensures cause { Counted (C.faults children.old) (C.faults children.new) (fails (rows_blame C.blame) result) }
 {
     if root.len() > MOST_ROWS {
         return Err(RowsError::TooManyRows);
@@ -57,11 +57,11 @@ fn bring_in<C: Children>(
     requires stands { C.stands children.old }
     ensures ok { OnOk result (BringsIn C.children_of (C.meaning children.old) winner listing.old.rows.items listing.new.rows.items listing.old.winners.items listing.new.winners.items) }
     ensures apps { OnOk result (HasRequiredApps listing.new.apps listing.new.rows.items) }
-    ensures err { IfErr result (λ error. IfSome (C.meaning children.old) (λ known. Hinders C.is_outside C.is_memory (C.children_of known) listing.old.rows.items winner error)) }
+    ensures err { IfErr result (λ error. IfSome (C.meaning children.old) (λ known. Hinders C.blame (C.children_of known) listing.old.rows.items winner error)) }
     ensures meaning { C.meaning children.new ≡ C.meaning children.old }
     ensures made_over { C.made_over children.new ≡ C.made_over children.old }
     ensures stands { C.stands children.new }
-    ensures cause { Counted (C.faults children.old) (C.faults children.new) (fails (is_child_fault C.is_outside) result) }
+    ensures cause { Counted (C.faults children.old) (C.faults children.new) (fails (rows_blame C.blame) result) }
 {
     let row = &listing.rows[winner as usize];
     let decls = match children.children(alloc, &row.app, &row.decl) {

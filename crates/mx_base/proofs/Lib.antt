@@ -1,3 +1,4 @@
+pub mod BlameLemmas
 pub mod FolderLemmas
 pub mod NameLemmas
 pub mod OrderLemmas

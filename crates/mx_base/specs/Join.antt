@@ -2,15 +2,15 @@
 use Rattle.std.specs.Prelude.{ℕ, ◌-◌, Bool, true, false, ◌||◌, nat_lt, List, [], ◌∷◌, ◌++◌, length, take, position, Option, Some, None, Result, Ok, Err, if◌then◌else◌, codes, bytes_eq}
 use Rattle.std.specs.List.{slice_split}
 use Rattle.std.specs.Str.Lossy.{utf8_valid_len}
+use Rattle.mx_base.specs.Blame.{Blame}
+use Rattle.mx_base.specs.Blame.Blame.{Input, Memory}
 use Rattle.mx_base.specs.Path.{is_slash, is_refused, segments_of, path_of}
 use Rattle.mx_base.specs.declared.path_join.PathError.{PathError}
 use Rattle.mx_base.specs.declared.path_join.PathError.TheVariants.{BadByte, AboveRoot, Empty, OutOfMemory}
 
-abbrev pub is_memory : PathError → Bool
-is_memory (BadByte at) = false
-is_memory AboveRoot = false
-is_memory Empty = false
-is_memory OutOfMemory = true
+abbrev pub blame_of : PathError → Blame
+blame_of OutOfMemory = Memory
+blame_of error = Input
 
 abbrev pub or_past : Option ℕ → ℕ → ℕ → Option ℕ
 or_past (Some at) valid size = Some at

@@ -1,5 +1,5 @@
-pub mod Answers
 pub mod AppName
+pub mod Blame
 pub mod Causes
 pub mod Join
 pub mod MemSink

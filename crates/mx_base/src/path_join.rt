@@ -2,9 +2,10 @@
 ghost use Rattle.std.specs.Prelude.{◌≡◌, ◌≤◌, ◌∷◌, [], List, ℕ, length, map, position, Ok, Err, Some, None, OnOk, IfOk, IfErr, IsTrue, IsFalse, true, false};
 ghost use Rattle.std.specs.List.{slice_split, list_all, list_any};
 ghost use Rattle.std.specs.Str.Lossy.{utf8_valid_len};
-ghost use Rattle.mx_base.specs.Answers.{Answers};
+ghost use Rattle.mx_base.specs.Blame.{Answers};
+ghost use Rattle.mx_base.specs.Blame.Blame.{Input};
 ghost use Rattle.mx_base.specs.Path.{is_slash, is_refused, is_segment, segments_of, path_of};
-ghost use Rattle.mx_base.specs.Join.{is_memory, first_refused, step, walk, joined};
+ghost use Rattle.mx_base.specs.Join.{blame_of, first_refused, step, walk, joined};
 
 use crate::path::{RelPath, pieces};
 use std::alloc::{AllocError, AllocFailed, Global};
@@ -53,7 +54,7 @@ impl RelPath {
     /// The path that a text names from a base: the text is cut at `/`, empty segments and `.` are
     /// dropped, and `..` removes the last segment.
     pub fn join(alloc: Global, base: &RelPath, text: &[u8]) -> Result<RelPath, PathError>
-        ensures { Answers is_memory result (joined base.now text.now) }
+        ensures { Answers blame_of result (λ answer. joined base.now text.now ≡ answer) }
     {
         let text = match accepted(text) {
             Ok(text) => text,
@@ -104,7 +105,7 @@ fn walked<'a>(alloc: Global, base: &'a RelPath, text: &'a str) -> Result<Vec<&'a
     requires { list_any is_refused text.now ≡ false }
     ensures segments { IfOk result (λ segments. list_all is_segment (map (λ s. s.now) segments.items) ≡ true) }
     ensures ok { IfOk result (λ segments. walk (segments_of base.now) (slice_split is_slash text.now) ≡ Ok (map (λ s. s.now) segments.items)) }
-    ensures err { IfErr result (λ e. IsFalse (is_memory e) → walk (segments_of base.now) (slice_split is_slash text.now) ≡ Err e) }
+    ensures err { IfErr result (λ e. blame_of e ≡ Input → walk (segments_of base.now) (slice_split is_slash text.now) ≡ Err e) }
 {
     let mut segments = base.segments(alloc)?;
     let pieces = pieces(alloc, text)?;
@@ -117,7 +118,7 @@ fn walked<'a>(alloc: Global, base: &'a RelPath, text: &'a str) -> Result<Vec<&'a
 // What a piece between slashes does.
 fn take_step<'a>(segments: &mut Vec<&'a str>, piece: &'a str) -> Result<(), PathError>
     ensures ok { OnOk result (step (map (λ s. s.now) segments.old.items) piece.now ≡ Ok (map (λ s. s.now) segments.new.items)) }
-    ensures err { IfErr result (λ e. IsFalse (is_memory e) → step (map (λ s. s.now) segments.old.items) piece.now ≡ Err e) }
+    ensures err { IfErr result (λ e. blame_of e ≡ Input → step (map (λ s. s.now) segments.old.items) piece.now ≡ Err e) }
 {
     if piece.is_empty() || piece == "." {
         return Ok(());

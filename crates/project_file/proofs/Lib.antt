@@ -4,5 +4,4 @@ pub mod OneLemmas
 pub mod PathLemmas
 pub mod ProjectLemmas
 pub mod SettingsLemmas
-pub mod ToldLemmas
 pub mod VersionLemmas

@@ -2,7 +2,8 @@
 use Rattle.std.proofs.Common.{◌≡◌, ℕ, Bool, true, false, List, [], Option, Some, None, option_map, Result, Ok, Err, IfErr, IsFalse, if◌then◌else◌, refl, sym, ◌∙◌, ap, subst}
 use Rattle.std.specs.Borrow.{Bor}
 use Rattle.std.specs.Option.{option_copied}
-use Rattle.std.specs.Result.{IsErrAnd}
+use Rattle.std.specs.Result.{result_map_both}
+use Rattle.mx_base.specs.Blame.Blame.{Input}
 use Rattle.mx_base.specs.declared.file.File.{File}
 use Rattle.mx_base.specs.Order.{bytes_at}
 use Rattle.elixir_terms.specs.declared.error.TermError.{TermError}
@@ -19,17 +20,13 @@ use Rattle.project_file.specs.declared.error.ProjectError.TheVariants as project
 use Rattle.project_file.specs.declared.manifest.Header.{Header}
 use Rattle.project_file.specs.declared.project.Project.{Project}
 use Rattle.project_file.specs.Entries.{stated_in}
-use Rattle.project_file.specs.Files.{IsReadAs, IsLoaded, manifest_at, is_outside}
+use Rattle.project_file.specs.Blame.{project_blame}
+use Rattle.project_file.specs.Files.{IsReadAs, IsManifest, IsLoaded, manifest_at}
+use Rattle.project_file.specs.Files.IsManifest.{unread as unread_text, read as read_text}
 use Rattle.project_file.specs.Files.IsLoaded.{absent, unread, refused, loaded}
 use Rattle.project_file.specs.Manifest.{stated_of, IsProject}
 use Rattle.project_file.specs.Manifest.IsProject.{shape, bare, options, whole}
-use Rattle.project_file.specs.Refusals.{term_refused, options_refused, IsRefusedManifest}
-use Rattle.project_file.specs.Refusals.IsRefusedManifest.{unread as as_text, refused as as_term}
-
--- what a question mark hands on
-pub handed_on : {X E : Type 0} (P : E → Type 0) (result : Result X E) (error : E) → IsErrAnd result (λ e. e ≡ error) → P error → IfErr result P
-handed_on P (Ok x) error is holds = tt
-handed_on P (Err e) error is holds = subst P (sym is) holds
+use Rattle.project_file.specs.Refusals.{term_refused, options_refused}
 
 states : (t : Term) (found : Option Header) (h : Header) → option_map stated_in found ≡ stated_of t → found ≡ Some h → stated_of t ≡ Some (stated_in h)
 states t found h is some = sym is ∙ ap (option_map stated_in) some
@@ -47,40 +44,33 @@ whole_project dir t found h deps read decls is some written are same =
     let Says : List Decl → Type 0 = λ ds. IsProject dir t (Ok (record { app = h.app; version = h.version; decls = ds })) in
     subst Says (sym same) (whole (stated_in h) deps.now (states t found h is some) (ap option_copied written) are)
 
-pub options_of : (dir : List ℕ) (t : Term) (found : Option Header) (h : Header) (deps : Bor Term) (error : OptionError) → option_map stated_in found ≡ stated_of t → found ≡ Some h → h.deps ≡ Some deps → IsRefusedAs dir deps.now error → IsFalse (is_outside (options_refused error)) → IsProject dir t (Err (options_refused error))
+pub options_of : (dir : List ℕ) (t : Term) (found : Option Header) (h : Header) (deps : Bor Term) (error : OptionError) → option_map stated_in found ≡ stated_of t → found ≡ Some h → h.deps ≡ Some deps → IsRefusedAs dir deps.now error → project_blame (options_refused error) ≡ Input → IsProject dir t (Err (options_refused error))
 options_of dir t found h deps error is some written are = at (options_memory error.cause) refl
   where
-    at : (b : Bool) → options_memory error.cause ≡ b → IsFalse (is_outside (if b then project.OutOfMemory else project.Options error)) → IsProject dir t (Err (if b then project.OutOfMemory else project.Options error))
-    at true m inside = cc
-    at false m inside = options (stated_in h) deps.now (states t found h is some) (ap option_copied written) (are m)
+    at : (b : Bool) → options_memory error.cause ≡ b → project_blame (if b then project.OutOfMemory else project.Options error) ≡ Input → IsProject dir t (Err (if b then project.OutOfMemory else project.Options error))
+    at true m input = cc
+    at false m input = options (stated_in h) deps.now (states t found h is some) (ap option_copied written) (are m)
 
 -- a text that is refused
-pub text_refused : (dir text : List ℕ) (error : TermError) → (IsFalse (is_memory error.cause) → IsRefusal text error.at error.cause) → IsFalse (is_outside (term_refused error)) → IsRefusedManifest dir text (term_refused error)
+pub text_refused : (dir text : List ℕ) (error : TermError) → (IsFalse (is_memory error.cause) → IsRefusal text error.at error.cause) → project_blame (term_refused error) ≡ Input → IsManifest dir text (Err (term_refused error))
 text_refused dir text error why = at (is_memory error.cause) refl
   where
-    at : (b : Bool) → is_memory error.cause ≡ b → IsFalse (is_outside (if b then project.OutOfMemory else project.Term error)) → IsRefusedManifest dir text (if b then project.OutOfMemory else project.Term error)
-    at true m inside = cc
-    at false m inside = as_text (m, why m)
-
--- a term that is refused
-pub term_says : (dir text : List ℕ) (t : Term) (result : Result Project ProjectError) → IsReadAs text t → IfErr result (λ e. IsFalse (is_outside e) → IsProject dir t (Err e)) → IfErr result (λ e. IsFalse (is_outside e) → IsRefusedManifest dir text e)
-term_says dir text t (Ok p) read says = tt
-term_says dir text t (Err e) read says = λ inside. as_term t read (says inside)
+    at : (b : Bool) → is_memory error.cause ≡ b → project_blame (if b then project.OutOfMemory else project.Term error) ≡ Input → IsManifest dir text (Err (if b then project.OutOfMemory else project.Term error))
+    at true m input = cc
+    at false m input = unread_text (m, why m)
 
 there : (dir : List ℕ) (files : List File) (found : Option (List ℕ)) (text slice : List ℕ) → found ≡ Some text → slice ≡ text → found ≡ bytes_at (manifest_at dir) files → bytes_at (manifest_at dir) files ≡ Some slice
 there dir files found text slice is same at = sym at ∙ is ∙ ap (λ (bytes : List ℕ). Some bytes) (sym same)
 
-pub found_loaded : (dir : List ℕ) (found : Option (List ℕ)) (text slice : List ℕ) (p : Project) → found ≡ Some text → slice ≡ text → (t : Term) × IsReadAs slice t × IsProject dir t (Ok p) → (files : List File) → found ≡ bytes_at (manifest_at dir) files → IsLoaded files dir (Ok (Some p))
-found_loaded dir found text slice p is same said files at =
-    loaded slice said.0 (there dir files found text slice is same at) said.1 said.2
+loaded_by : (dir text : List ℕ) (files : List File) (answer : Result Project ProjectError) → bytes_at (manifest_at dir) files ≡ Some text → IsManifest dir text answer → IsLoaded files dir (result_map_both Some (λ e. e) answer)
+loaded_by dir text files _ here (unread_text why) = unread text here why
+loaded_by dir text files _ here (read_text t {answer = Ok p} spelled says) = loaded text t here spelled says
+loaded_by dir text files _ here (read_text t {answer = Err e} spelled says) = refused text t here spelled says
 
-loaded_refused : (dir text : List ℕ) (files : List File) (e : ProjectError) → bytes_at (manifest_at dir) files ≡ Some text → IsRefusedManifest dir text e → IsLoaded files dir (Err e)
-loaded_refused dir text files _ here (as_text why) = unread text here why
-loaded_refused dir text files _ here (as_term t read says) = refused text t here read says
-
-pub found_refused : (dir : List ℕ) (found : Option (List ℕ)) (text slice : List ℕ) (e : ProjectError) → found ≡ Some text → slice ≡ text → (IsFalse (is_outside e) → IsRefusedManifest dir slice e) → IsFalse (is_outside e) → (files : List File) → found ≡ bytes_at (manifest_at dir) files → IsLoaded files dir (Err e)
-found_refused dir found text slice e is same why inside files at =
-    loaded_refused dir slice files e (there dir files found text slice is same at) (why inside)
+-- a manifest that was found
+pub found_manifest : (dir : List ℕ) (found : Option (List ℕ)) (text slice : List ℕ) (answer : Result Project ProjectError) → found ≡ Some text → slice ≡ text → IsManifest dir slice answer → (files : List File) → found ≡ bytes_at (manifest_at dir) files → IsLoaded files dir (result_map_both Some (λ e. e) answer)
+found_manifest dir found text slice answer is same says files at =
+    loaded_by dir slice files answer (there dir files found text slice is same at) says
 
 pub found_absent : (dir : List ℕ) (found : Option (List ℕ)) → found ≡ None → (files : List File) → found ≡ bytes_at (manifest_at dir) files → IsLoaded files dir (Ok None)
 found_absent dir found none files at = absent (sym at ∙ none)

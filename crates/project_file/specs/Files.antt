@@ -1,5 +1,5 @@
 -- What a project's files say.
-use Rattle.std.specs.Prelude.{◌≡◌, ℕ, Bool, true, false, ◌||◌, List, Option, Some, None, is_some, Result, Ok, Err, IsFalse, if◌then◌else◌, codes}
+use Rattle.std.specs.Prelude.{◌≡◌, ℕ, Bool, ◌||◌, List, Option, Some, None, is_some, Result, Ok, Err, IsFalse, if◌then◌else◌, codes}
 use Rattle.mx_base.specs.declared.file.File.{File}
 use Rattle.mx_base.specs.Order.{bytes_at}
 use Rattle.mx_base.specs.Path.{child_of}
@@ -28,6 +28,11 @@ IsReadAs text t = Spells text t × Within text t
 abbrev pub IsRefusedText : List ℕ → TermError → Type 0
 IsRefusedText text error = IsFalse (is_memory error.cause) × IsRefusal text error.at error.cause
 
+-- what the text of a manifest in this folder says, or why it is refused
+pub data IsManifest (dir text : List ℕ) : Result Project ProjectError → Type 0 where
+  unread : {error : TermError} → IsRefusedText text error → IsManifest dir text (Err (project.Term error))
+  read : (t : Term) {answer : Result Project ProjectError} → IsReadAs text t → IsProject dir t answer → IsManifest dir text answer
+
 -- the path of a manifest
 abbrev pub manifest_at : List ℕ → List ℕ
 manifest_at dir = child_of dir (codes "project.exs")
@@ -49,25 +54,6 @@ pub data AreSettings (files : List File) : Result Settings SettingsError → Typ
   unread : (text : List ℕ) {error : TermError} → bytes_at settings_path files ≡ Some text → IsRefusedText text error → AreSettings files (Err (settings.Term error))
   shape : (text : List ℕ) (t : Term) → bytes_at settings_path files ≡ Some text → IsReadAs text t → settings_of t ≡ None → AreSettings files (Err settings.Shape)
   set : (text : List ℕ) (t : Term) {s : Settings} → bytes_at settings_path files ≡ Some text → IsReadAs text t → settings_of t ≡ Some s → AreSettings files (Ok s)
-
--- the store failed, or memory ran out: nothing is said of the files
-abbrev pub is_outside : ProjectError → Bool
-is_outside project.Read = true
-is_outside project.OutOfMemory = true
-is_outside error = false
-
-abbrev pub is_read : {X : Type 0} → Result X ProjectError → Bool
-is_read (Err project.Read) = true
-is_read answer = false
-
-abbrev pub settings_outside : SettingsError → Bool
-settings_outside settings.Read = true
-settings_outside settings.OutOfMemory = true
-settings_outside error = false
-
-abbrev pub settings_is_read : {X : Type 0} → Result X SettingsError → Bool
-settings_is_read (Err settings.Read) = true
-settings_is_read answer = false
 
 -- a file of this name stands in the folder
 abbrev pub has_file : List File → List ℕ → List ℕ → Bool

@@ -1,3 +1,4 @@
+pub mod Blame
 pub mod Manifest
 pub mod Compilers
 pub mod Files

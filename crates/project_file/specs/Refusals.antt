@@ -1,7 +1,6 @@
--- What the refusals of inner calls become, and what a refusal says.
-use Rattle.std.specs.Prelude.{ℕ, List, Err, if◌then◌else◌}
+-- What the refusals of inner calls become.
+use Rattle.std.specs.Prelude.{if◌then◌else◌}
 use Rattle.elixir_terms.specs.declared.error.TermError.{TermError}
-use Rattle.elixir_terms.specs.declared.term.Term.{Term}
 use Rattle.elixir_terms.specs.Refused.{is_memory}
 use Rattle.dep_options.specs.declared.error.OptionError.{OptionError}
 use Rattle.dep_options.specs.Values.{is_memory as options_memory}
@@ -11,8 +10,6 @@ use Rattle.project_file.specs.declared.error.ProjectError.{ProjectError}
 use Rattle.project_file.specs.declared.error.ProjectError.TheVariants as project
 use Rattle.project_file.specs.declared.error.SettingsError.{SettingsError}
 use Rattle.project_file.specs.declared.error.SettingsError.TheVariants as settings
-use Rattle.project_file.specs.Files.{IsReadAs, IsRefusedText}
-use Rattle.project_file.specs.Manifest.{IsProject}
 
 -- a manifest that is refused as a text
 abbrev pub term_refused : TermError → ProjectError
@@ -35,8 +32,3 @@ settings_term_refused error = if is_memory error.cause then settings.OutOfMemory
 abbrev pub settings_fault : StoreFault → SettingsError
 settings_fault store.Failed = settings.Read
 settings_fault store.OutOfMemory = settings.OutOfMemory
-
--- why the text of a manifest in this folder is refused
-pub data IsRefusedManifest (dir text : List ℕ) : ProjectError → Type 0 where
-  unread : {error : TermError} → IsRefusedText text error → IsRefusedManifest dir text (project.Term error)
-  refused : (t : Term) {error : ProjectError} → IsReadAs text t → IsProject dir t (Err error) → IsRefusedManifest dir text error

@@ -1,11 +1,12 @@
 // What the term of a manifest says.
-ghost use Rattle.std.specs.Prelude.{◌≡◌, Ok, Err, IfOk, IfErr, IsFalse, option_map, option_and_then, codes};
+ghost use Rattle.std.specs.Prelude.{◌≡◌, IfOk, option_map, option_and_then, codes};
 ghost use Rattle.std.specs.Option.{option_copied};
 ghost use Rattle.dep_options.specs.Options.{first_of};
 ghost use Rattle.dep_options.specs.Views.{app_of};
 ghost use Rattle.elixir_terms.specs.Views.{named};
+ghost use Rattle.mx_base.specs.Blame.{Computes};
 ghost use Rattle.project_file.specs.Entries.{stated_in};
-ghost use Rattle.project_file.specs.Files.{is_outside, is_read};
+ghost use Rattle.project_file.specs.Blame.{project_blame};
 ghost use Rattle.project_file.specs.Manifest.{is_version, version_of, deps_in, stated_by, stated_of, IsProject};
 
 use crate::entries::{entries, first};
@@ -28,9 +29,7 @@ pub(crate) struct Header<'a> {
 
 /// What the term of a manifest in a folder says.
 pub(crate) fn project_in(alloc: Global, dir: &RelPath, term: &Term) -> Result<Project, ProjectError>
-    ensures ok { IfOk result (λ p. IsProject dir.now term.now (Ok p)) }
-    ensures refused { IfErr result (λ e. IsFalse (is_outside e) → IsProject dir.now term.now (Err e)) }
-    ensures own { IsFalse (is_read result) }
+    ensures { Computes project_blame result (IsProject dir.now term.now) }
 {
     let Some(header) = stated(alloc, term)? else {
         return Err(ProjectError::Shape);

@@ -1,8 +1,9 @@
 // How often the system failed.
 ghost use Rattle.std.specs.Prelude.{◌≡◌, ◌↔◌, true, nat_lt, Ok, IfOk, IfErr, IsErrOf, IsOk};
 ghost use Rattle.std.specs.IoError.{error_kind};
+ghost use Rattle.mx_base.specs.Blame.{fails};
 ghost use Rattle.mx_base.specs.Causes.{Counted};
-ghost use Rattle.tree_store.specs.Faults.{is_failed};
+ghost use Rattle.tree_store.specs.Blame.{blame_of};
 
 use std::io;
 use std::io::ErrorKind;
@@ -58,7 +59,7 @@ impl FaultCount {
         ensures ok { IfOk result (λ value. answer ≡ Ok value) }
         ensures same { IsOk result ↔ IsOk answer }
         ensures memory { IfErr answer (λ e. IsErrOf result StoreFault.OutOfMemory ↔ (error_kind e ≡ ErrorKind.OutOfMemory)) }
-        ensures cause { Counted self.old self.new (is_failed result) }
+        ensures cause { Counted self.old self.new (fails blame_of result) }
     {
         match answer {
             Ok(value) => Ok(value),

@@ -40,9 +40,9 @@ impl<R: Files + AllocGlobal + Clone + Drop> HostStore<R> {
     /// The project in a folder, by the folder's path. The empty path is the current folder. The system
     /// isn't asked whether the folder is there.
     pub fn new(rt: R, alloc: Global, root: &str) -> Result<HostStore<R>, AllocError>
-        ensures here { IfOk result (λ store. (key : BuildKey) → ⟦<HostStore<R> as Store>⟧.slot store key ≡ Here None) }
-        ensures faults { IfOk result (λ store. ⟦<HostStore<R> as Store>⟧.faults store ≡ 0) }
-        ensures folder_faults { IfOk result (λ store. ⟦<HostStore<R> as Store>⟧.folder_faults store ≡ 0) }
+        ensures here { IfOk result (λ store. (key : BuildKey) → (⟦<HostStore<R> as Store>⟧.known store).slot key ≡ Here None) }
+        ensures faults { IfOk result (λ store. (⟦<HostStore<R> as Store>⟧.known store).faults ≡ 0) }
+        ensures folder_faults { IfOk result (λ store. (⟦<HostStore<R> as Store>⟧.known store).returned ≡ 0) }
     {
         let root = if root.is_empty() { "." } else { root };
         Ok(HostStore {
@@ -63,13 +63,12 @@ impl<R: Files + AllocGlobal + Clone + Drop> Store for HostStore<R> {
     ghost use Rattle.tree_store.specs.Key.{key_cmp};
     ghost use Rattle.tree_host.specs.HostStore.{slot_of};
 
-    ghost sources = { λ _. None };
-
-    ghost slot = { λ store key. slot_of (contains key_cmp store.out key) };
-
-    ghost faults = { λ store. store.faults };
-
-    ghost folder_faults = { λ store. store.returned };
+    ghost known = { λ store. record {
+      sources = None;
+      slot = λ key. slot_of (contains key_cmp store.out key);
+      faults = store.faults;
+      returned = store.returned;
+    } };
 
     fn get(&mut self, alloc: Global, path: &RelPath) -> Result<Option<Bytes>, StoreFault> {
         let path = host_path(alloc, self.root.as_path(), path)?;

@@ -1,4 +1,5 @@
 pub mod FilesLemmas
+pub mod KnownLemmas
 pub mod MemStoreLemmas
 pub mod OrderLemmas
 pub mod StoreLemmas

@@ -1,6 +1,7 @@
+pub mod Blame
 pub mod Contents
-pub mod Faults
 pub mod Files
 pub mod Key
+pub mod Known
 pub mod MemStore
 pub mod Slot

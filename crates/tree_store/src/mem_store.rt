@@ -1,10 +1,11 @@
 // A store in memory.
 ghost use Rattle.std.specs.Prelude.{◌≡◌, [], Some, false, All, IsTrue, IsFalse, IfOk, OnOk, OnErr};
 ghost use Rattle.std.specs.BTreeMap.{get, IsOrdered};
+ghost use Rattle.mx_base.specs.Blame.{fails};
 ghost use Rattle.mx_base.specs.Order.{ArePathsInOrder};
 ghost use Rattle.mx_base.specs.Path.{is_below};
 ghost use Rattle.tree_store.specs.declared.key.BuildKey.{BuildKey};
-ghost use Rattle.tree_store.specs.Faults.{is_failed};
+ghost use Rattle.tree_store.specs.Blame.{blame_of};
 ghost use Rattle.tree_store.specs.Files.{outside_build, paths_below, is_in_build};
 ghost use Rattle.tree_store.specs.Key.{key_cmp};
 ghost use Rattle.tree_store.specs.MemStore.{slot_of, apps_in, has_files};
@@ -47,10 +48,10 @@ impl<P: Faults + Drop> MemStore<P> {
         returned: P,
         folder_plan: P,
     ) -> MemStore<P>
-        ensures sources { ⟦<MemStore<P> as Store>⟧.sources result ≡ Some (outside_build sources) }
-        ensures builds { (key : BuildKey) → ⟦<MemStore<P> as Store>⟧.slot result key ≡ Here (Some []) }
-        ensures faults { ⟦<MemStore<P> as Store>⟧.faults result ≡ P.count plan }
-        ensures folder_faults { ⟦<MemStore<P> as Store>⟧.folder_faults result ≡ P.count returned }
+        ensures sources { (⟦<MemStore<P> as Store>⟧.known result).sources ≡ Some (outside_build sources) }
+        ensures builds { (key : BuildKey) → (⟦<MemStore<P> as Store>⟧.known result).slot key ≡ Here (Some []) }
+        ensures faults { (⟦<MemStore<P> as Store>⟧.known result).faults ≡ P.count plan }
+        ensures folder_faults { (⟦<MemStore<P> as Store>⟧.known result).returned ≡ P.count returned }
     {
         MemStore {
             sources,
@@ -65,13 +66,12 @@ impl<P: Faults + Drop> MemStore<P> {
 impl<P: Faults + Drop> Store for MemStore<P> {
     type F = MemFolder<P>;
 
-    ghost sources = { λ store. Some (outside_build store.sources) };
-
-    ghost slot = { λ store key. slot_of (get key_cmp store.builds key) };
-
-    ghost faults = { λ store. P.count store.plan };
-
-    ghost folder_faults = { λ store. P.count store.returned };
+    ghost known = { λ store. record {
+      sources = Some (outside_build store.sources);
+      slot = λ key. slot_of (get key_cmp store.builds key);
+      faults = P.count store.plan;
+      returned = P.count store.returned;
+    } };
 
     #[tactic(auto, using(crate::proofs::FilesLemmas::bytes_outside))]
     fn get(&mut self, _alloc: Global, path: &RelPath) -> Result<Option<Bytes>, StoreFault> {
@@ -157,7 +157,7 @@ fn lend(
     ensures contents { IfOk result (λ contents. Here (Some contents) ≡ slot_of (get key_cmp builds.old key.now)) }
     ensures out { OnOk result (SetsSlot key.now Out (λ q. slot_of (get key_cmp builds.old q)) (λ q. slot_of (get key_cmp builds.new q))) }
     ensures err { OnErr result (builds.new.entries ≡ builds.old.entries) }
-    ensures no_fault { is_failed result ≡ false }
+    ensures no_fault { fails blame_of result ≡ false }
 {
     match builds.insert(key.clone()?, None)? {
         Some(Some(contents)) => Ok(contents),

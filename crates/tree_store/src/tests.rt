@@ -1,5 +1,9 @@
 // One project, through each call of a store and of a folder.
-ghost use Rattle.std.specs.Prelude.{◌≡◌};
+ghost use Rattle.std.specs.Prelude.{◌≡◌, IsFalse};
+ghost use Rattle.mx_base.specs.Blame.{fails};
+ghost use Rattle.tree_store.specs.Blame.{blame_of};
+ghost use Rattle.tree_store.specs.Files.{is_in_build};
+ghost use Rattle.tree_store.specs.Known.{OnlyReads};
 ghost use Rattle.tree_store.specs.Slot.Slot.{Out};
 
 use crate::{ConstStore, Contents, Folder, MemFolder, MemStore, Store, StoreFault, is_in_build};
@@ -56,7 +60,7 @@ fn rebuilt<S: Store>(
     name: &AppName,
     path: &RelPath,
 ) -> Result<(usize, usize, usize), StoreFault>
-    requires { S.slot store.old (record { env = name.now; app = name.now }) ≡ Out → ⊥ }
+    requires { (S.known store.old).slot (record { env = name.now; app = name.now }) ≡ Out → ⊥ }
 {
     if is_in_build(path) {
         return Err(StoreFault::Failed);
@@ -71,6 +75,35 @@ fn rebuilt<S: Store>(
     store.give_back(folder);
     let apps = store.apps(alloc, name)?;
     Ok((listed.len(), files?, apps.len()))
+}
+
+// One file after another.
+fn both<S: Store>(
+    alloc: Global,
+    store: &mut S,
+    path: &RelPath,
+    other: &RelPath,
+) -> Result<bool, StoreFault>
+    requires path { IsFalse (is_in_build path.now) }
+    requires other { IsFalse (is_in_build other.now) }
+    ensures reads { OnlyReads (S.known store.old) (S.known store.new) (fails blame_of result) }
+{
+    let found = store.get(alloc, path)?;
+    let also = store.get(alloc, other)?;
+    Ok(found.is_some() && also.is_some())
+}
+
+// How many of these are files.
+fn count<S: Store>(alloc: Global, store: &mut S, paths: &[RelPath]) -> Result<usize, StoreFault>
+    ensures reads { OnlyReads (S.known store.old) (S.known store.new) (fails blame_of result) }
+{
+    let mut many = 0;
+    for path in paths {
+        if !is_in_build(path) && store.get(alloc, path)?.is_some() {
+            many += 1;
+        }
+    }
+    Ok(many)
 }
 
 fn may_cross_threads<T: Send>() {}

@@ -1,15 +1,16 @@
 use Rattle.std.proofs.Common.{ℕ, List, ◌<◌, ◌≤◌, length, false, refl, sym, ◌∙◌, subst, arith, IfSome, Option}
 use Rattle.dep_rows.specs.Growing.{BringsIn, Hinders}
-use Rattle.dep_rows.specs.Refusal.{HasCause}
+use Rattle.dep_rows.specs.Children.{rows_blame}
+use Rattle.dep_rows.specs.Refusal.{IsListing}
 use Rattle.dep_rows.specs.Rows.{AreRows}
 use Rattle.dep_rows.specs.declared.row.Row.{Row}
-use Rattle.dep_rows.proofs.Asking.{stands_root, winner_within, stands_more, stands_hindered, stands_end, root_many, handed_on}
+use Rattle.dep_rows.proofs.Asking.{stands_root, winner_within, stands_more, stands_hindered, stands_end, root_many, told_on}
 use Rattle.dep_rows.proofs.queue.rows.Goals as goal
 
-pub returns-then-root-gt-MOST_ROWS-clause-refused : goal.returns-then-root-gt-MOST_ROWS-clause-refused
-returns-then-root-gt-MOST_ROWS-clause-refused g c =
+pub returns-then-root-gt-MOST_ROWS-clause-answer : goal.returns-then-root-gt-MOST_ROWS-clause-answer
+returns-then-root-gt-MOST_ROWS-clause-answer g c =
     let many = c.if-root-gt-MOST_ROWS.true in
-    root_many g.C.Children.children_of (g.C.Children.meaning c.args.children.now) g.C.Children.is_outside g.C.Children.is_memory c.args.root.now (omega (arith, many))
+    root_many g.C.Children.children_of (g.C.Children.meaning c.args.children.now) g.C.Children.blame c.args.root.now (omega (arith, many))
 
 pub loop-asked-init : goal.loop-asked-init
 loop-asked-init g c =
@@ -34,8 +35,8 @@ bring_in-requires-clause-within g c =
     let within = winner_within g.C.Children.children_of (g.C.Children.meaning c.args.children.now) c.args.root.now at.listing.rows.items at.listing.winners.items at.asked c.index-winner.result.now at.invariant.stands next c.index-winner.ensures in
     omega (arith, within, rows_long)
 
-pub returns-in_err-bring_in-clause-refused : goal.returns-in_err-bring_in-clause-refused
-returns-in_err-bring_in-clause-refused g c =
+pub returns-in_err-bring_in-clause-answer : goal.returns-in_err-bring_in-clause-answer
+returns-in_err-bring_in-clause-answer g c =
     let at = c.loop-asked in
     let test = c.loop-asked-test.true in
     let counts = c.len.ensures in
@@ -44,12 +45,10 @@ returns-in_err-bring_in-clause-refused g c =
     let error = c.in_err-bring_in.field-0.0 in
     let rows = at.listing.rows.items in
     let winner = c.index-winner.result.now in
-    let hindered = subst (λ (o : Option _). IfSome o (λ known. Hinders g.C.Children.is_outside g.C.Children.is_memory (g.C.Children.children_of known) rows winner error)) at.invariant.meaning c.in_err-bring_in.ensures.err in
+    let hindered = subst (λ (o : Option _). IfSome o (λ known. Hinders g.C.Children.blame (g.C.Children.children_of known) rows winner error)) at.invariant.meaning c.in_err-bring_in.ensures.err in
     let meaning = g.C.Children.meaning c.args.children.now in
-    handed_on c.from_residual-in_err-bring_in.result error
-    (λ e. IfSome meaning (λ known. HasCause g.C.Children.is_outside g.C.Children.is_memory (g.C.Children.children_of known) c.args.root.now e))
-    c.from_residual-in_err-bring_in.ensures.1
-    (stands_hindered g.C.Children.children_of meaning c.args.root.now rows at.listing.winners.items at.asked winner at.invariant.stands next c.index-winner.ensures g.C.Children.is_outside g.C.Children.is_memory error hindered)
+    told_on meaning (rows_blame g.C.Children.blame) (λ known. IsListing (g.C.Children.children_of known) c.args.root.now) c.from_residual-in_err-bring_in.result error c.from_residual-in_err-bring_in.ensures.1
+    (stands_hindered g.C.Children.children_of meaning c.args.root.now rows at.listing.winners.items at.asked winner at.invariant.stands next c.index-winner.ensures g.C.Children.blame error hindered)
 
 pub loop-asked-preserved : goal.loop-asked-preserved
 loop-asked-preserved g c =
@@ -70,8 +69,8 @@ loop-asked-preserved g c =
       faults = c.in_ok-bring_in.ensures.cause.kept (refl {a = false}) ∙ at.invariant.faults;
     }
 
-pub returns-clause-read : goal.returns-clause-read
-returns-clause-read g c =
+pub returns-clause-answer : goal.returns-clause-answer
+returns-clause-answer g c =
     let at = c.loop-asked in
     let test = c.loop-asked-test.false in
     let counts = c.len.ensures in

@@ -12,4 +12,4 @@ give_back-requires g c =
     slot_after_set _ c.put-put.new.self.key Out
     (λ (q : BuildKey). slot_of (contains key_cmp c.in_ok-store.store.out q))
     (λ (q : BuildKey). slot_of (contains key_cmp c.folder.new.self.out q))
-    c.in_ok-folder.ensures.out (c.put-put.ensures.key ∙ c.in_ok-folder.ensures.key)
+    c.in_ok-folder.ensures.lends.out (c.put-put.ensures.key ∙ c.in_ok-folder.ensures.key)

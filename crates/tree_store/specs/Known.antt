@@ -1,0 +1,45 @@
+-- What a store is known by, and what its calls do to that.
+use Rattle.std.specs.Prelude.{◌≡◌, ℕ, Bool, List, Option, Result, IfSome, OnOk, OnErr}
+use Rattle.mx_base.specs.Blame.{Blame, Answers, fails}
+use Rattle.mx_base.specs.Causes.{Counted}
+use Rattle.mx_base.specs.declared.file.File.{File}
+use Rattle.tree_store.specs.declared.key.BuildKey.{BuildKey}
+use Rattle.tree_store.specs.Slot.{Slot, SetsSlot}
+use Rattle.tree_store.specs.Slot.Slot.{Out}
+
+pub record Known : Type 0 where
+  -- the project's files in the order of paths, without those in `_build`, where they are told
+  pub sources : Option (List File)
+  -- at a build: its files, where they are told, or a folder that is out
+  pub slot : BuildKey → Slot
+  -- how often the store's own calls failed
+  pub faults : ℕ
+  -- how many folders came back with a fault
+  pub returned : ℕ
+
+-- the project's files say this of the answer, where they are told
+abbrev pub Told : {A : Type 0} → Known → (List File → A → Type 0) → A → Type 0
+Told known Says answer = IfSome known.sources (λ files. Says files answer)
+
+-- nothing changes, but that a fault is counted exactly where the call failed
+pub record OnlyReads (old new : Known) (failed : Bool) : Type 0 where
+  pub same : new ≡ record old { faults = new.faults }
+  pub cause : Counted old.faults new.faults failed
+
+-- the answer is what the files say, where they are told, and the call only reads
+pub record Reads {X E : Type 0} (blame : E → Blame) (old new : Known) (result : Result X E) (Says : List File → Result X E → Type 0) : Type 0 where
+  pub answer : Answers blame result (Told old Says)
+  pub reads : OnlyReads old new (fails blame result)
+
+-- the folder of a build is out after it was handed out, and nothing else changes
+pub record Lends {X E : Type 0} (key : BuildKey) (old new : Known) (result : Result X E) (failed : Bool) : Type 0 where
+  pub out : OnOk result (SetsSlot key Out old.slot new.slot)
+  pub kept : OnErr result (new.slot ≡ old.slot)
+  pub rest : new ≡ record old { slot = new.slot; faults = new.faults }
+  pub cause : Counted old.faults new.faults failed
+
+-- a build is what its folder was, which came back, with a fault or without
+pub record TakesBack (key : BuildKey) (slot : Slot) (old new : Known) (faulty : Bool) : Type 0 where
+  pub back : SetsSlot key slot old.slot new.slot
+  pub rest : new ≡ record old { slot = new.slot; returned = new.returned }
+  pub cause : Counted old.returned new.returned faulty
