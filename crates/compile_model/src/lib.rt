@@ -14,6 +14,3 @@ pub use how::{How, Texts};
 pub use job::{Job, Jobs, Origin, Places, Plan};
 pub use outcome::{Fate, Outcome};
 pub use seq::{SeqFault, seq_build};
-
-#[cfg(test)]
-mod tests;

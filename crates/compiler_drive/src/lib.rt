@@ -7,6 +7,3 @@
 mod commands;
 
 pub use commands::command;
-
-#[cfg(test)]
-mod tests;

@@ -11,8 +11,6 @@ mod divergences;
 mod laws;
 mod reach;
 mod strays;
-#[cfg(test)]
-mod tests;
 mod walk;
 mod web;
 

@@ -11,8 +11,6 @@ mod option_name;
 mod option_values;
 mod reading;
 mod stated;
-#[cfg(test)]
-mod tests;
 mod values;
 mod word;
 

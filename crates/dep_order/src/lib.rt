@@ -9,8 +9,6 @@ mod laws;
 mod listing;
 mod ordering;
 mod reach;
-#[cfg(test)]
-mod tests;
 
 pub use graph::{Graph, Places};
 pub use laws::{

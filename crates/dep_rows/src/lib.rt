@@ -14,8 +14,6 @@ mod list_children;
 mod listing;
 mod queue;
 mod row;
-#[cfg(test)]
-mod tests;
 
 pub use children::Children;
 pub use error::RowsError;

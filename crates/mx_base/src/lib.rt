@@ -28,6 +28,3 @@ pub use shared::Shared;
 pub use sink::{Failed, Sink};
 pub use text::{Text, copy_text};
 pub use variable::{Variable, Variables};
-
-#[cfg(test)]
-mod tests;

@@ -21,8 +21,3 @@ pub use loading::{load_project, load_settings, project_of_text};
 pub use manager::manager_by_files;
 pub use project::{Decls, Project};
 pub use settings::Settings;
-
-#[cfg(test)]
-mod shop_tests;
-#[cfg(test)]
-mod tests;

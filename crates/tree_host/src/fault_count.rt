@@ -46,13 +46,6 @@ impl FaultCount {
         }
     }
 
-    #[cfg(test)]
-    pub(crate) fn total(&self) -> u64
-        ensures { result ≡ self.now }
-    {
-        self.count
-    }
-
     /// Hands on what the system answered. Want of memory is no failure of the system, also where
     /// the system itself says so, and isn't counted.
     pub(crate) fn counted<T>(&mut self, answer: io::Result<T>) -> Result<T, StoreFault>

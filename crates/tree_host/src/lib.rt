@@ -13,6 +13,3 @@ mod walk;
 pub use host_folder::HostFolder;
 pub use host_sink::HostSink;
 pub use host_store::HostStore;
-
-#[cfg(test)]
-mod tests;

@@ -8,8 +8,6 @@ mod key;
 mod mem_folder;
 mod mem_store;
 mod store;
-#[cfg(test)]
-mod tests;
 
 pub use contents::{Contents, files_in_order};
 pub use in_build::is_in_build;

@@ -13,8 +13,6 @@ mod parse;
 mod requirement;
 mod scan;
 mod scanned;
-#[cfg(test)]
-mod tests;
 
 pub use error::ReqError;
 pub use matching::{compare, matches};
