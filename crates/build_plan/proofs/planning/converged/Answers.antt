@@ -6,10 +6,10 @@ use Rattle.build_plan.proofs.VersionsLemmas.{sounds, within_rows, none_missing}
 use Rattle.build_plan.proofs.planning.converged.Goals as goal
 
 pub versions-requires : goal.versions-requires
-versions-requires c = sounds c.args.rows.rows c.args.rows.winners c.args.found.now c.requires.founds
+versions-requires c = sounds c.args.rows.rows c.args.rows.winners c.args.found.now c.requires.at
 
 pub converge-requires : goal.converge-requires
-converge-requires c = c.in_ok-versions.ensures.long ∙ AllZip-long (IsFoundAt c.args.rows.rows) c.args.rows.winners c.args.found.now c.requires.founds
+converge-requires c = c.in_ok-versions.ensures.long ∙ AllZip-long (IsFoundAt c.args.rows.rows) c.args.rows.winners c.args.found.now c.requires.at
 
 pub lines-requires : goal.lines-requires
 lines-requires c =
