@@ -3,7 +3,7 @@ ghost use Rattle.std.specs.Prelude.{◌≡◌, List, IfOk, IsTrue, IsFalse, filt
 ghost use Rattle.mx_base.specs.declared.file.File.{File};
 ghost use Rattle.mx_base.specs.Blame.{Answers, fails};
 ghost use Rattle.mx_base.specs.Order.{bytes_at};
-ghost use Rattle.tree_store.specs.Blame as store;
+ghost use Rattle.tree_store.specs.Blame.{blame_of as store_blame};
 ghost use Rattle.tree_store.specs.Known.{OnlyReads};
 ghost use Rattle.converger.specs.Reach.{admits};
 ghost use Rattle.project_file.specs.Blame.{project_blame};
@@ -96,7 +96,7 @@ fn paths_in<S: Store>(
     dir: &RelPath,
 ) -> Result<Vec<RelPath>, StoreFault>
     ensures paths { IfOk result (λ paths. ArePathsIn (S.known store.old).sources dir.now paths.items) }
-    ensures reads { OnlyReads (S.known store.old) (S.known store.new) (fails store.blame_of result) }
+    ensures reads { OnlyReads (S.known store.old) (S.known store.new) (fails store_blame result) }
 {
     if is_apart(dir) {
         store.list(alloc, dir)

@@ -5,7 +5,7 @@ ghost use Rattle.mx_base.specs.Blame.{Answers, AnswersBy, fails, is_outside};
 ghost use Rattle.mx_base.specs.Blame.Blame.{Input};
 ghost use Rattle.mx_base.specs.declared.file.File.{File};
 ghost use Rattle.compile_model.specs.Planned.{ArePlanned, most_jobs};
-ghost use Rattle.tree_store.specs.Blame as store;
+ghost use Rattle.tree_store.specs.Blame.{blame_of as store_blame};
 ghost use Rattle.tree_store.specs.Known.{Told, OnlyReads};
 ghost use Rattle.build_plan.specs.Blame.{blame_of};
 ghost use Rattle.build_plan.specs.Dependencies.{version_by};
@@ -110,7 +110,7 @@ fn job_of<S: Store>(
     ensures known { IfOk result (λ job. IfSome job (IsKnownAt scene.now.rows.now scene.now.places.now scene.now.order.now at)) }
     ensures app { IfOk result (λ job. IfSome job (λ job. job.app ≡ post.now.row.now.app)) }
     ensures fits { IfOk result (λ job. IfSome job (HasRoom room)) }
-    ensures reads { OnlyReads (S.known store.old) (S.known store.new) (fails store.blame_of result) }
+    ensures reads { OnlyReads (S.known store.old) (S.known store.new) (fails store_blame result) }
 {
     match sources(alloc, store, post.found, room.min(MOST_BYTES))? {
         Some(sources) => Ok(Some(described(alloc, scene, post, at, sources)?)),
