@@ -125,11 +125,11 @@ refused_as files app dir path (project.Options error) place has says input =
 
 -- the manifest is refused
 pub refused_here : (told : Option (List File)) (app dir path : List ℕ) (paths : List (List ℕ)) (text : Option (List ℕ)) (fault : ProjectError) (error : PlanError) → error ≡ of_project path fault → path ≡ manifest_at dir → IsFalse (is_empty paths) → IfSome told (λ files. has_files files dir ≡ not (is_empty paths)) → IfSome told (λ files. text ≡ bytes_at path files) → ((files : List File) → text ≡ bytes_at (manifest_at dir) files → project_blame fault ≡ Input → IsLoaded files dir (Err fault)) → blame_of error ≡ Input → IfSome told (λ files. (winner : Decl) → winner.source ≡ Path dir → AreChildren files app winner (Err error))
-refused_here None app dir path paths text fault error is place some has read says input = tt
-refused_here (Some files) app dir path paths text fault error is place some has read says input =
+refused_here None app dir path paths text fault error is place some has same says input = tt
+refused_here (Some files) app dir path paths text fault error is place some has same says input =
     subst (λ (e : PlanError). (winner : Decl) → winner.source ≡ Path dir → AreChildren files app winner (Err e)) (sym is)
     (refused_as files app dir path fault place (negated (has_files files dir) (is_empty paths) has some)
-    (says files (read ∙ ap (λ (p : List ℕ). bytes_at p files) place))
+    (says files (same ∙ ap (λ (p : List ℕ). bytes_at p files) place))
     (subst (λ (e : PlanError). blame_of e ≡ Input) is input))
 
 -- nothing is locked

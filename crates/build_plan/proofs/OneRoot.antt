@@ -46,13 +46,13 @@ module _ (one : OneProject) (files : List File) where
   children_once app winner answer other says tells = once one says tells
 
   rows_same : {root : List Decl} {a b : Result Listed PlanError} → ListsRows files root a → ListsRows files root b → a ≡ b
-  rows_same {root = root} (meets {fault = d} met) (meets {fault = e} also) = ap (λ (e : PlanError). Err e) (one_fault (AreChildren files) children_once root d e met also)
-  rows_same {root = root} (meets {fault = d} met) (passes many) = absurd (fault_or_limit (AreChildren files) children_once root d met many)
-  rows_same {root = root} (meets {fault = d} met) (lists listed are few) = absurd (rows_or_fault (AreChildren files) children_once root listed.rows listed.winners d are met)
-  rows_same {root = root} (passes many) (meets {fault = d} met) = absurd (fault_or_limit (AreChildren files) children_once root d met many)
+  rows_same {root = root} (meets {error = d} met) (meets {error = e} also) = ap (λ (e : PlanError). Err e) (one_fault (AreChildren files) children_once root d e met also)
+  rows_same {root = root} (meets {error = d} met) (passes many) = absurd (fault_or_limit (AreChildren files) children_once root d met many)
+  rows_same {root = root} (meets {error = d} met) (lists listed are few) = absurd (rows_or_fault (AreChildren files) children_once root listed.rows listed.winners d are met)
+  rows_same {root = root} (passes many) (meets {error = d} met) = absurd (fault_or_limit (AreChildren files) children_once root d met many)
   rows_same (passes many) (passes also) = refl
   rows_same {root = root} (passes many) (lists listed are few) = absurd (rows_or_limit (AreChildren files) children_once root listed.rows listed.winners are few many)
-  rows_same {root = root} (lists listed are few) (meets {fault = d} met) = absurd (rows_or_fault (AreChildren files) children_once root listed.rows listed.winners d are met)
+  rows_same {root = root} (lists listed are few) (meets {error = d} met) = absurd (rows_or_fault (AreChildren files) children_once root listed.rows listed.winners d are met)
   rows_same {root = root} (lists listed are few) (passes many) = absurd (rows_or_limit (AreChildren files) children_once root listed.rows listed.winners are few many)
   rows_same {root = root} (lists listed are few) (lists others also less) =
       let same = one_list (AreChildren files) children_once root listed.rows others.rows listed.winners others.winners are also in

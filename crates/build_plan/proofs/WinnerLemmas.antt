@@ -63,7 +63,7 @@ rows_blamed listing.OutOfMemory = refl
 refuses : (files : List File) (root : List Decl) (error : RowsError PlanError) → IsListing (AreChildren files) root (Err error) → ListsRows files root (Err (of_rows error))
 refuses files root (listing.Children error) met = meets met
 refuses files root listing.TooManyRows many = passes many
-refuses files root listing.OutOfMemory none = absurd none
+refuses files root listing.OutOfMemory never = absurd never
 
 pub if_refuses : (told : Option (List File)) (root : List Decl) (error : RowsError PlanError) → IfSome told (λ files. rows_blame blame_of error ≡ Input → IsListing (AreChildren files) root (Err error)) → blame_of (of_rows error) ≡ Input → IfSome told (λ files. ListsRows files root (Err (of_rows error)))
 if_refuses None root error says input = tt

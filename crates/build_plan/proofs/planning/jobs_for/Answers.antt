@@ -1,6 +1,7 @@
 use Rattle.std.proofs.Common.{◌≡◌, ◌≢◌, ℕ, ◌<◌, List, length, All, AllPairs, IfSome, Err, sym, subst, arith, rules, Vec}
 use Rattle.std.specs.List.{AllZip}
 use Rattle.std.proofs.lemmas.Result.{err_from_is_err_and}
+use Rattle.std.specs.declared.alloc.Global.{Global}
 use Rattle.compile_model.specs.declared.job.Job.{Job}
 use Rattle.converger.specs.Reach.{AreReached}
 use Rattle.dep_order.proofs.Listings.{order_apart}
@@ -88,7 +89,7 @@ returns-clause-answer g c =
     let same : rows ≡ given = search rules in
     let reached : AreReached rows env places = subst (λ (r : List Row). AreReached r env places) (sym same) c.in_ok-places.ensures in
     let graph_is : graph ≡ graph_of rows places = subst (λ (ps : List ℕ). graph ≡ graph_of rows ps) c.deref.ensures.value c.in_ok-graph.ensures in
-    answers_by_as (λ (jobs : Vec Job). jobs.items) blame_of
+    answers_by_as (λ (jobs : Vec Job Global). jobs.items) blame_of
     (λ answer. IfSome told (λ files. MakesJobs files settings rows c.deref-4.result.now c.deref-5.result.now answer))
     (λ answer. IfSome told (λ files. HasJobs files settings given env answer))
     c.jobs.result

@@ -1,6 +1,7 @@
 use Rattle.std.proofs.Common.{◌≡◌, List, Option, IfSome, All, Result, Ok, Err, sym, subst, Vec}
 use Rattle.std.proofs.lemmas.Result.{err_from_is_err_and}
 use Rattle.mx_base.specs.declared.file.File.{File}
+use Rattle.std.specs.declared.alloc.Global.{Global}
 use Rattle.compile_model.specs.declared.job.Job.{Job}
 use Rattle.dep_options.specs.declared.decl.Decl.{Decl}
 use Rattle.dep_rows.specs.Listed.{Listed}
@@ -45,7 +46,7 @@ returns-clause-answer g c =
     let listed = c.in_ok-all.all.rows in
     let live = c.in_ok-converged.converged.rows in
     let are = subst (λ (decls : List Decl). IfSome told (λ files. ListsRows files decls (Ok listed))) c.as_slice.ensures c.in_ok-all.ensures.answer in
-    answers_by_as (λ (jobs : Vec Job). jobs.items) blame_of
+    answers_by_as (λ (jobs : Vec Job Global). jobs.items) blame_of
     (λ answer. IfSome (g.S.Store.known c.dependencies.new.store).sources (λ files. HasJobs files settings live.rows env answer))
     (λ answer. IfSome told (λ files. IsRoot files settings root → IsPlan files env answer))
     c.jobs_for.result

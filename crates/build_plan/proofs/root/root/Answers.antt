@@ -5,8 +5,8 @@ use Rattle.project_file.specs.Files.{IsLoaded, manifest_at}
 use Rattle.build_plan.proofs.RootLemmas.{if_project}
 use Rattle.build_plan.proofs.root.root.Goals as goal
 
-pub returns-in-Err-clause-answer : goal.returns-in-Err-clause-answer
-returns-in-Err-clause-answer g c =
+pub returns-clause-answer : goal.returns-clause-answer
+returns-clause-answer g c =
     let told = (g.S.Store.known c.args.store.now).sources in
     let fault = c.in-Err.fault in
     let place : c.in_ok-path.path ≡ manifest_at [] = c.in_ok-path.ensures ∙ ap manifest_at c.root-dir.ensures in
