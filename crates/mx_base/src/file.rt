@@ -10,7 +10,9 @@ use std::marker::Model;
 /// A file: its path, from the folder that it is spoken of in, and its bytes.
 #[derive(Clone, Debug, PartialEq, Eq, Drop)]
 pub struct File {
+    /// Where it lies.
     pub path: RelPath,
+    /// What it holds.
     pub bytes: Bytes,
 }
 
@@ -34,6 +36,7 @@ impl Model for Files {
 }
 
 impl Files {
+    /// No files. It takes no memory.
     pub fn new(alloc: Global) -> Files
         ensures { result ≡ [] }
     {
@@ -42,6 +45,7 @@ impl Files {
         }
     }
 
+    /// Files that are in order already. It takes no memory.
     pub fn from_vec(files: Vec<File>) -> Files
         requires { AreInOrder files.items }
         ensures { result ≡ files.items }
@@ -49,6 +53,7 @@ impl Files {
         Files { files }
     }
 
+    /// Gives the vector back.
     pub fn into_vec(self) -> Vec<File>
         ensures { result.items ≡ self }
     {
@@ -56,6 +61,7 @@ impl Files {
         files
     }
 
+    /// The files.
     pub fn as_slice(&self) -> &[File]
         ensures value { result.now ≡ self.now }
         ensures in_order { AreInOrder self.now }

@@ -61,6 +61,7 @@ impl RelPath {
         }
     }
 
+    /// The text of the path, which is empty for the root.
     pub fn as_str(&self) -> &str
         ensures value { result.now ≡ self.now }
         ensures path { IsTrue (is_path self.now) }

@@ -10,7 +10,9 @@ pub type Variables = ListOf<Variable>;
 /// An environment variable for the compiler of a dependency.
 #[derive(Debug, Drop)]
 pub struct Variable {
+    /// Its name.
     pub name: Text,
+    /// What it is set to.
     pub value: Text,
 }
 
