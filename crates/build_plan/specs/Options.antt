@@ -1,7 +1,7 @@
 -- The options text of a job: all that its declaration says of how it is compiled, as a printed term.
 use Rattle.std.specs.Prelude.{ℕ, Bool, true, false, List, [], ◌∷◌, map, codes}
-use Rattle.elixir_terms.specs.declared.term.Term.{Term}
-use Rattle.elixir_terms.specs.declared.term.Term.TheVariants.{Atom, Str, List as Elements, Tuple}
+use Rattle.term_values.specs.declared.term.Term.{Term}
+use Rattle.term_values.specs.declared.term.Term.TheVariants.{Atom, Str, List as Elements, Tuple}
 use Rattle.elixir_terms.specs.Printed.{printed}
 use Rattle.mx_base.specs.declared.variable.Variable.{Variable}
 use Rattle.compile_model.specs.declared.how.How.{How}

@@ -11,11 +11,12 @@ use Rattle.elixir_terms.specs.declared.frame.Slot.{Slot}
 use Rattle.elixir_terms.specs.declared.frame.Slot.TheVariants as slot
 use Rattle.elixir_terms.specs.declared.state.State.{State}
 use Rattle.elixir_terms.specs.declared.state.State.TheVariants as state
-use Rattle.elixir_terms.specs.declared.term.Term.{Term}
-use Rattle.elixir_terms.specs.declared.term.Term.TheVariants as term
+use Rattle.term_values.specs.declared.term.Term.{Term}
+use Rattle.term_values.specs.declared.term.Term.TheVariants as term
 use Rattle.elixir_terms.specs.declared.token.Token.{Token}
 use Rattle.elixir_terms.specs.declared.token.Token.TheVariants.{Atom, Int, Str, Words, Key, Open, Close, Comma, Arrow}
-use Rattle.elixir_terms.specs.Grammar.{IsTerm, atom, integer, string, words, brackets, Pair, enclosed, closing_of}
+use Rattle.elixir_terms.specs.Grammar.{IsTerm, atom, integer, string, words, brackets, enclosed, closing_of}
+use Rattle.term_values.specs.Views.{Pair}
 use Rattle.elixir_terms.specs.Lexing.{past_blank}
 use Rattle.elixir_terms.specs.Local.{starts_with, is_plain, IsFree, IsFloat}
 use Rattle.elixir_terms.specs.Codes.{keys_in}

@@ -10,12 +10,13 @@ use Rattle.elixir_terms.specs.declared.frame.Slot.{Slot}
 use Rattle.elixir_terms.specs.declared.frame.Slot.TheVariants as slot
 use Rattle.elixir_terms.specs.declared.state.State.{State}
 use Rattle.elixir_terms.specs.declared.state.State.TheVariants as state
-use Rattle.elixir_terms.specs.declared.term.Term.{Term}
-use Rattle.elixir_terms.specs.declared.term.Term.TheVariants as term
+use Rattle.term_values.specs.declared.term.Term.{Term}
+use Rattle.term_values.specs.declared.term.Term.TheVariants as term
 use Rattle.elixir_terms.specs.declared.token.Closing.{Closing}
 use Rattle.elixir_terms.specs.declared.token.Token.{Token}
 use Rattle.elixir_terms.specs.declared.token.Token.TheVariants.{Atom, Int, Str, Words, Key, Open, Close, Comma, Arrow}
-use Rattle.elixir_terms.specs.Grammar.{Pair, enclosed}
+use Rattle.elixir_terms.specs.Grammar.{enclosed}
+use Rattle.term_values.specs.Views.{Pair}
 use Rattle.elixir_terms.specs.Levels.{cost_in}
 use Rattle.elixir_terms.specs.Codes.{keys_in}
 use Rattle.elixir_terms.specs.Machine.{is_none, is_closed_by, takes_key, takes_part, part_slot, empty, placed_in, placed, begun, closed, at_part, at_key, at_element, at_separator, at_arrow, step, NewIn, IsNew, KeysDiffer, BeginsWell, PartWell, ElementWell, Allows}

@@ -11,7 +11,7 @@ use Rattle.elixir_terms.specs.declared.frame.Hole.{Hole}
 use Rattle.elixir_terms.specs.declared.frame.Slot.TheVariants as slot
 use Rattle.elixir_terms.specs.declared.state.State.{State}
 use Rattle.elixir_terms.specs.declared.state.State.TheVariants as state
-use Rattle.elixir_terms.specs.declared.term.Term.{Term}
+use Rattle.term_values.specs.declared.term.Term.{Term}
 use Rattle.elixir_terms.specs.declared.token.Token.{Token}
 use Rattle.elixir_terms.specs.declared.token.Token.TheVariants.{Int}
 use Rattle.elixir_terms.specs.Grammar.{IsTerm}

@@ -8,7 +8,7 @@ use Rattle.elixir_terms.specs.declared.error.TermCause.TheVariants.{TooDeep}
 use Rattle.elixir_terms.specs.declared.expected.Expected.{Expected}
 use Rattle.elixir_terms.specs.declared.state.State.{State}
 use Rattle.elixir_terms.specs.declared.state.State.TheVariants.{Done}
-use Rattle.elixir_terms.specs.declared.term.Term.{Term}
+use Rattle.term_values.specs.declared.term.Term.{Term}
 use Rattle.elixir_terms.specs.declared.token.Token.{Token}
 use Rattle.elixir_terms.specs.Lexing.{IsNarrow}
 use Rattle.elixir_terms.specs.Local.{IsFree, IsFirst, Locally, takes}

@@ -10,8 +10,8 @@ use Rattle.elixir_terms.specs.declared.frame.Hole.{Hole}
 use Rattle.elixir_terms.specs.declared.frame.Slot.TheVariants as slot
 use Rattle.elixir_terms.specs.declared.state.State.{State}
 use Rattle.elixir_terms.specs.declared.state.State.TheVariants as state
-use Rattle.elixir_terms.specs.declared.term.Term.{Term}
-use Rattle.elixir_terms.specs.declared.term.Term.TheVariants as term
+use Rattle.term_values.specs.declared.term.Term.{Term}
+use Rattle.term_values.specs.declared.term.Term.TheVariants as term
 use Rattle.elixir_terms.specs.declared.token.Closing.{Closing}
 use Rattle.elixir_terms.specs.declared.token.Closing.TheVariants.{Square, Curly}
 use Rattle.elixir_terms.specs.declared.token.Token.{Token}

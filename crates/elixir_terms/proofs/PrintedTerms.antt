@@ -8,14 +8,15 @@ use Rattle.std.proofs.lemmas.Bool.{and_parts, true≢false, false≢true}
 use Rattle.std.proofs.lemmas.Str.{IsUtf8-nil, IsUtf8-append}
 use Rattle.elixir_terms.specs.declared.bracket.Bracket.{Bracket}
 use Rattle.elixir_terms.specs.declared.bracket.Bracket.TheVariants as bracket
-use Rattle.elixir_terms.specs.declared.term.Term.{Term}
-use Rattle.elixir_terms.specs.declared.term.Term.TheOpen.{Term-F}
-use Rattle.elixir_terms.specs.declared.term.Term.TheVariants.{Atom, Int, Str, List as Listed, Tuple, Map, rolls-Atom, rolls-Int, rolls-Str}
-use Rattle.elixir_terms.specs.declared.term.Term.TheFolds.{fold-roll-Term}
+use Rattle.term_values.specs.declared.term.Term.{Term}
+use Rattle.term_values.specs.declared.term.Term.TheOpen.{Term-F}
+use Rattle.term_values.specs.declared.term.Term.TheVariants.{Atom, Int, Str, List as Listed, Tuple, Map, rolls-Atom, rolls-Int, rolls-Str}
+use Rattle.term_values.specs.declared.term.Term.TheFolds.{fold-roll-Term}
 use Rattle.elixir_terms.specs.declared.token.Token.{Token}
 use Rattle.elixir_terms.specs.declared.token.Token.TheVariants as token
 use Rattle.elixir_terms.specs.Tokens.{Begins, Blanks, opening, closing}
-use Rattle.elixir_terms.specs.Grammar.{Pair, pair_tuple, closing_of, enclosed, IsTerm, Inside, Follows}
+use Rattle.elixir_terms.specs.Grammar.{pair_tuple, closing_of, enclosed, IsTerm, Inside, Follows}
+use Rattle.term_values.specs.Views.{Pair}
 use Rattle.elixir_terms.specs.Spells.{Spells}
 use Rattle.elixir_terms.specs.Printable.{AreBytes, IsPrintable, ArePrintable, PairsArePrintable}
 use Rattle.elixir_terms.specs.Printed.{Shown, quoted, atom_text, key_text, separated, joined, plain, keyword_of, show_step, shown, printed, printed_keyword, printed_entry, printed_field}

@@ -1,11 +1,11 @@
 -- How a term is shown, level by level.
 use Rattle.std.proofs.Common.{◌≡◌, ℕ, ◌<◌, ◌≤◌, Bool, true, false, ◌&&◌, List, [], ◌∷◌, ◌++◌, map, length, get_or, Option, Some, None, is_some, unwrap_or, option_map, codes, arith, refl, sym, ◌∙◌, ap, cond}
 use Rattle.std.specs.List.{list_all}
-use Rattle.elixir_terms.specs.declared.term.Term.{Term}
-use Rattle.elixir_terms.specs.declared.term.Term.TheOpen.{Term-F}
-use Rattle.elixir_terms.specs.declared.term.Term.TheVariants.{Tuple, Map, List as Listed, rolls-Tuple, rolls-Map, rolls-List}
-use Rattle.elixir_terms.specs.declared.term.Term.TheFolds.{fold-roll-Term}
-use Rattle.elixir_terms.specs.Grammar.{Pair}
+use Rattle.term_values.specs.declared.term.Term.{Term}
+use Rattle.term_values.specs.declared.term.Term.TheOpen.{Term-F}
+use Rattle.term_values.specs.declared.term.Term.TheVariants.{Tuple, Map, List as Listed, rolls-Tuple, rolls-Map, rolls-List}
+use Rattle.term_values.specs.declared.term.Term.TheFolds.{fold-roll-Term}
+use Rattle.term_values.specs.Views.{Pair}
 use Rattle.elixir_terms.specs.Printed.{Shown, plain, joined, keyword_of, list_inside, map_inside, show_step, shown, shown_pair, printed, printed_keyword, printed_entry, printed_field}
 
 pub shown-list : (parts : List Term) → shown (Listed parts) ≡ plain (91 ∷ list_inside (map shown parts) ++ 93 ∷ [])

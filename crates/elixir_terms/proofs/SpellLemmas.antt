@@ -1,6 +1,6 @@
 -- No text spells two terms.
 use Rattle.std.proofs.Common.{◌≡◌, ℕ, List, subst}
-use Rattle.elixir_terms.specs.declared.term.Term.{Term}
+use Rattle.term_values.specs.declared.term.Term.{Term}
 use Rattle.elixir_terms.specs.Grammar.{IsTerm}
 use Rattle.elixir_terms.specs.Spells.{Spells}
 use Rattle.elixir_terms.proofs.Runs.{term_one}

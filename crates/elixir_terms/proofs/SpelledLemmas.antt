@@ -7,10 +7,11 @@ use Rattle.elixir_terms.specs.declared.error.TermCause.{TermCause}
 use Rattle.elixir_terms.specs.declared.error.TermCause.TheVariants as cause
 use Rattle.elixir_terms.specs.declared.state.State.{State}
 use Rattle.elixir_terms.specs.declared.state.State.TheVariants as state
-use Rattle.elixir_terms.specs.declared.term.Term.{Term}
+use Rattle.term_values.specs.declared.term.Term.{Term}
 use Rattle.elixir_terms.specs.declared.token.Token.{Token}
 use Rattle.elixir_terms.specs.declared.token.Token.TheVariants.{Open}
-use Rattle.elixir_terms.specs.Grammar.{IsTerm, Pair}
+use Rattle.elixir_terms.specs.Grammar.{IsTerm}
+use Rattle.term_values.specs.Views.{Pair}
 use Rattle.elixir_terms.specs.Lexing.{past_blank, IsNarrow}
 use Rattle.elixir_terms.specs.Local.{starts_with, is_plain, IsFree, Locally}
 use Rattle.elixir_terms.specs.Machine.{expected}

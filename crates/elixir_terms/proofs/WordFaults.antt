@@ -7,8 +7,8 @@ use Rattle.elixir_terms.specs.declared.error.Feature.TheVariants.{Sigil, Interpo
 use Rattle.elixir_terms.specs.declared.error.TermCause.{TermCause}
 use Rattle.elixir_terms.specs.declared.error.TermCause.TheVariants.{Unsupported, BadEscape, Unclosed, Unexpected}
 use Rattle.elixir_terms.specs.declared.expected.Expected.{Expected}
-use Rattle.elixir_terms.specs.declared.term.Term.{Term}
-use Rattle.elixir_terms.specs.declared.term.Term.TheVariants as term
+use Rattle.term_values.specs.declared.term.Term.{Term}
+use Rattle.term_values.specs.declared.term.Term.TheVariants as term
 use Rattle.elixir_terms.specs.declared.token.Token.{Token}
 use Rattle.elixir_terms.specs.declared.token.Token.TheVariants.{Words}
 use Rattle.elixir_terms.specs.Lexed.{broken, words_stop, after_tilde_lexed, words_lexed}

@@ -6,7 +6,7 @@ use Rattle.std.proofs.lemmas.Bool.{not-true, not_from_false, and_parts, and_from
 use Rattle.std.proofs.lemmas.Grind.{take_at_read}
 use Rattle.std.proofs.lemmas.List.{take_at, drop_at, take-append-drop, append-nil, length-drop}
 use Rattle.std.specs.List.{list_all}
-use Rattle.elixir_terms.specs.declared.term.Term.{Term}
+use Rattle.term_values.specs.declared.term.Term.{Term}
 use Rattle.elixir_terms.specs.declared.token.Token.{Token}
 use Rattle.elixir_terms.specs.declared.token.Token.TheVariants.{Words}
 use Rattle.elixir_terms.specs.declared.words.WordKind.TheVariants.{Strings}

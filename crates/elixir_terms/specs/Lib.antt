@@ -6,7 +6,6 @@ pub mod Tokens
 pub mod Grammar
 pub mod Spells
 pub mod Within
-pub mod Views
 pub mod Refused
 pub mod Lexing
 pub mod KeyCode

@@ -1,9 +1,9 @@
 -- The terms whose text spells them.
 use Rattle.std.specs.Prelude.{ℕ, ◌^◌, ◌<◌, List, [], ◌∷◌, ℤ, pos, neg_ℤ, ◌≤ℤ◌, ◌<ℤ◌}
 use Rattle.std.specs.Str.{IsUtf8}
-use Rattle.elixir_terms.specs.declared.term.Term.{Term}
-use Rattle.elixir_terms.specs.declared.term.Term.TheVariants.{Atom, Int, Str, List as Listed, Tuple, Map}
-use Rattle.elixir_terms.specs.Grammar.{Pair}
+use Rattle.term_values.specs.declared.term.Term.{Term}
+use Rattle.term_values.specs.declared.term.Term.TheVariants.{Atom, Int, Str, List as Listed, Tuple, Map}
+use Rattle.term_values.specs.Views.{Pair}
 
 -- each is a byte
 abbrev pub AreBytes : List ℕ → Type 0

@@ -3,12 +3,12 @@ use Rattle.std.specs.Prelude.{ℕ, Bool, true, not, ◌&&◌, ◌||◌, ◌==◌
 use Rattle.std.specs.List.{list_all}
 use Rattle.std.specs.Str.{is_utf8}
 use Rattle.std.specs.Fmt.{signed_decimal, digit_glyph}
-use Rattle.elixir_terms.specs.declared.term.Term.{Term}
-use Rattle.elixir_terms.specs.declared.term.Term.TheOpen.{Term-F}
-use Rattle.elixir_terms.specs.declared.term.Term.TheFolds.{fold-Term}
+use Rattle.term_values.specs.declared.term.Term.{Term}
+use Rattle.term_values.specs.declared.term.Term.TheOpen.{Term-F}
+use Rattle.term_values.specs.declared.term.Term.TheFolds.{fold-Term}
 use Rattle.elixir_terms.specs.Names.{is_name, is_bare_atom}
 use Rattle.elixir_terms.specs.Strings.{opens_interpolation}
-use Rattle.elixir_terms.specs.Grammar.{Pair}
+use Rattle.term_values.specs.Views.{Pair}
 
 -- what stands after a backslash for a byte that has an escape of its own: `\n`, `\r`, `\t`, `\e`, `\0`, `\"` and `\\`
 abbrev pub letter_of : ℕ → Option ℕ

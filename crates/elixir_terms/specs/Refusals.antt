@@ -6,11 +6,12 @@ use Rattle.elixir_terms.specs.declared.bracket.Bracket.TheVariants as bracket
 use Rattle.elixir_terms.specs.declared.error.Feature.TheVariants.{Charlist, Sigil, Heredoc, Interpolation, Float, Alias, Bits}
 use Rattle.elixir_terms.specs.declared.error.TermCause.{TermCause}
 use Rattle.elixir_terms.specs.declared.error.TermCause.TheVariants as cause
-use Rattle.elixir_terms.specs.declared.term.Term.{Term}
-use Rattle.elixir_terms.specs.declared.term.Term.TheVariants as term
+use Rattle.term_values.specs.declared.term.Term.{Term}
+use Rattle.term_values.specs.declared.term.Term.TheVariants as term
 use Rattle.elixir_terms.specs.declared.token.Token.{Token}
 use Rattle.elixir_terms.specs.declared.token.Token.TheVariants.{Int, Words, Key, Open, Comma, Arrow}
-use Rattle.elixir_terms.specs.Grammar.{IsTerm, Pair}
+use Rattle.elixir_terms.specs.Grammar.{IsTerm}
+use Rattle.term_values.specs.Views.{Pair}
 use Rattle.elixir_terms.specs.Lexing.{past_blank, IsWide}
 use Rattle.elixir_terms.specs.Local.{IsOpening, IsCapital, IsDecimal, IsNoEscape, IsFloat, IsFree, is_plain, rank}
 use Rattle.elixir_terms.specs.Names.{is_name, is_blank}

@@ -1,7 +1,7 @@
 -- What a text spells.
 use Rattle.std.specs.Prelude.{ℕ, List}
 use Rattle.std.specs.Str.{IsUtf8}
-use Rattle.elixir_terms.specs.declared.term.Term.{Term}
+use Rattle.term_values.specs.declared.term.Term.{Term}
 use Rattle.elixir_terms.specs.declared.token.Token.{Token}
 use Rattle.elixir_terms.specs.Tokens.{AreTokens}
 use Rattle.elixir_terms.specs.Grammar.{IsTerm}

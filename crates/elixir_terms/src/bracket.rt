@@ -1,7 +1,7 @@
 // The kinds of brackets.
 
 /// What a pair of brackets encloses.
-#[derive(Clone, Copy, Debug, Drop)]
+#[derive(Clone, Copy, Drop)]
 pub enum Bracket {
     /// `[` and `]`.
     List,

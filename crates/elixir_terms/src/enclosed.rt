@@ -3,9 +3,9 @@ ghost use Rattle.std.specs.Prelude.{◌≡◌, [], ◌++◌, map, IfOk};
 ghost use Rattle.elixir_terms.specs.declared.bracket.Bracket.TheVariants as bracket;
 ghost use Rattle.elixir_terms.specs.Grammar.{enclosed, pair_tuple};
 
-use crate::term::{Pairs, Term, Terms};
 use sqlite_items::Items;
 use std::alloc::{AllocError, Global};
+use term_values::{Pairs, Term, Terms};
 
 /// A list of elements and then keywords. It takes no entries.
 pub fn list(

@@ -3,7 +3,7 @@
 use crate::token::Closing;
 
 /// Which tokens may stand next.
-#[derive(Clone, Copy, Debug, Drop)]
+#[derive(Clone, Copy, Drop)]
 pub struct Expected {
     /// The first token of a term.
     pub term: bool,

@@ -15,7 +15,7 @@ use std::marker::Model;
 const DEEPEST: u8 = 64;
 
 /// The holes in the open brackets, the innermost first, which are at most 64 levels deep.
-#[derive(Debug, Drop)]
+#[derive(Drop)]
 pub struct Holes {
     open: Stack<Hole>,
     depth: u8,

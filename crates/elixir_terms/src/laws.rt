@@ -1,7 +1,7 @@
 // What holds of every text.
 ghost use Rattle.std.specs.Prelude.{◌≡◌, ℕ, List};
 ghost use Rattle.elixir_terms.specs.declared.error.TermCause.{TermCause};
-ghost use Rattle.elixir_terms.specs.declared.term.Term.{Term};
+ghost use Rattle.term_values.specs.declared.term.Term.{Term};
 ghost use Rattle.elixir_terms.specs.Refusals.{IsRefusal};
 ghost use Rattle.elixir_terms.specs.Spells.{Spells};
 ghost use Rattle.elixir_terms.specs.Within.{Within};

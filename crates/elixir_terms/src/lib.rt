@@ -33,13 +33,11 @@ mod stack;
 mod state;
 mod strings;
 mod stuck;
-mod term;
 mod token;
-mod views;
 mod words;
 
 pub use error::{Feature, TermCause, TermError};
 pub use laws::{no_refusal, one_refusal};
 pub use printer::print;
 pub use reading::{one_reading, read};
-pub use term::{Pairs, Term, Terms};
+pub use term_values::{Pairs, Term, Terms};

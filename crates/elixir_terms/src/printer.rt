@@ -6,9 +6,9 @@ ghost use Rattle.elixir_terms.specs.Spells.{Spells};
 ghost use Rattle.elixir_terms.specs.Printed.{shown, printed, printed_key, printed_keyword, printed_entry, printed_field, joined, shown_pair, list_inside, map_inside};
 
 use crate::scalars::{print_atom, print_atom_key, print_integer, print_string};
-use crate::term::Term;
 use mx_base::Bytes;
 use std::alloc::{AllocError, Global};
+use term_values::Term;
 
 // What stands between two parts.
 const COMMA: &[u8] = b", ";

@@ -3,7 +3,7 @@ ghost use Rattle.std.specs.Prelude.{MatchOption, ◌≡◌, ℕ, ◌+◌, ◌≤
 ghost use Rattle.std.specs.Str.{IsUtf8};
 ghost use Rattle.elixir_terms.specs.declared.error.TermCause.TheVariants.{Unclosed};
 ghost use Rattle.elixir_terms.specs.declared.state.State.TheVariants.{Done};
-ghost use Rattle.elixir_terms.specs.declared.term.Term.{Term};
+ghost use Rattle.term_values.specs.declared.term.Term.{Term};
 ghost use Rattle.elixir_terms.specs.declared.token.Token.{Token};
 ghost use Rattle.elixir_terms.specs.Lexing.{past_blank};
 ghost use Rattle.elixir_terms.specs.Local.{takes};
@@ -19,8 +19,8 @@ use crate::error::{Fault, TermCause, TermError};
 use crate::holes::Holes;
 use crate::lexer::first_token;
 use crate::state::State;
-use crate::term::Term;
 use std::alloc::Global;
+use term_values::Term;
 
 /// The longest text that is read, in bytes.
 const LONGEST: usize = 4_194_304;

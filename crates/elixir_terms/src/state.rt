@@ -12,13 +12,13 @@ use crate::expected::Expected;
 use crate::frame::{Hole, Slot};
 use crate::holes::Holes;
 use crate::opened::Opened;
-use crate::term::Term;
 use crate::token::{Closing, Token};
 use mx_base::Text;
 use std::alloc::{AllocError, Global};
+use term_values::Term;
 
 /// What the reader knows between two tokens.
-#[derive(Debug, Drop)]
+#[derive(Drop)]
 pub enum State {
     /// A term is wanted: the text's own, or one for the innermost hole.
     Value {

@@ -1,11 +1,11 @@
 // The pieces that a text is made of.
 
 use crate::bracket::Bracket;
-use crate::term::Terms;
 use mx_base::{Bytes, Text};
+use term_values::Terms;
 
 /// A token: what stands between the blanks of a text.
-#[derive(Debug, Drop)]
+#[derive(Drop)]
 pub enum Token {
     /// `true`, `false`, `nil`; `:` and a name; `:` and a string.
     Atom(Text),
@@ -28,7 +28,7 @@ pub enum Token {
 }
 
 /// The closing brackets.
-#[derive(Clone, Copy, Debug, Drop)]
+#[derive(Clone, Copy, Drop)]
 pub enum Closing {
     /// `]`.
     Square,

@@ -6,10 +6,10 @@ ghost use Rattle.elixir_terms.specs.Lexing.{inside_len, kind_of, word_term, word
 use crate::bytes::{is_blank, opens_interpolation};
 use crate::error::{Fault, Feature, TermCause};
 use crate::strings::broken;
-use crate::term::{Term, Terms};
 use crate::token::Token;
 use mx_base::{Bytes, Text};
 use std::alloc::{AllocError, Global};
+use term_values::{Term, Terms};
 
 /// What the words of a list are.
 #[derive(Clone, Copy)]

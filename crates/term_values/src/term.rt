@@ -10,7 +10,7 @@ pub type Terms = Items<Term>;
 pub type Pairs = Items<(Term, Term)>;
 
 /// A literal Elixir term, as plain data.
-#[derive(Debug, Drop)]
+#[derive(Drop)]
 pub enum Term {
     /// An atom, without its colon.
     Atom(Text),

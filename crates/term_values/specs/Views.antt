@@ -1,9 +1,12 @@
 -- What a term is, seen from outside.
 use Rattle.std.specs.Prelude.{ℕ, List, [], ◌∷◌, map, Option, Some, None, option_and_then}
 use Rattle.std.specs.Borrow.{Bor}
-use Rattle.elixir_terms.specs.declared.term.Term.{Term, out-Term}
-use Rattle.elixir_terms.specs.declared.term.Term.TheOpen.{Term-F}
-use Rattle.elixir_terms.specs.Grammar.{Pair}
+use Rattle.term_values.specs.declared.term.Term.{Term, out-Term}
+use Rattle.term_values.specs.declared.term.Term.TheOpen.{Term-F}
+
+-- a key and its value
+abbrev pub Pair : Type 0
+Pair = Term × Term
 
 -- one level of a term
 abbrev Layer : Type 0

@@ -1,7 +1,7 @@
 // What a term is, seen from outside.
 ghost use Rattle.std.specs.Prelude.{◌≡◌, IfOk, option_map};
 ghost use Rattle.std.specs.Option.{option_copied};
-ghost use Rattle.elixir_terms.specs.Views.{atom_of, string_of, list_of, tuple_of, map_of, pair_of, keyword_of, keywords_of, named};
+ghost use Rattle.term_values.specs.Views.{atom_of, string_of, list_of, tuple_of, map_of, pair_of, keyword_of, keywords_of, named};
 
 use crate::term::Term;
 use mx_base::{Bytes, Text};
