@@ -5,7 +5,7 @@ ghost use Rattle.mx_base.specs.Causes.{Counted};
 use std::marker::Model;
 
 /// How often something failed, up to 2^64 - 1, where the count stands still. Contracts see the number.
-#[derive(Debug, Drop)]
+#[derive(Drop)]
 pub struct Count {
     number: u64,
 }

@@ -8,7 +8,7 @@ use std::alloc::{AllocError, Global};
 use std::marker::Model;
 
 /// A file: its path, from the folder that it is spoken of in, and its bytes.
-#[derive(Clone, Debug, PartialEq, Eq, Drop)]
+#[derive(Clone, PartialEq, Eq, Drop)]
 pub struct File {
     /// Where it lies.
     pub path: RelPath,
@@ -17,7 +17,7 @@ pub struct File {
 }
 
 /// Files of different paths, in the order of their paths, which contracts see as the list of them.
-#[derive(Debug, Drop)]
+#[derive(Drop)]
 pub struct Files {
     files: Vec<File>,
 }

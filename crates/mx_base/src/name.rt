@@ -20,7 +20,7 @@ const MAX_NAME_LEN: usize = 255;
 pub type Names = ListOf<AppName>;
 
 /// The name of an application: `[A-Za-z_][A-Za-z0-9_]*`, of at most 255 bytes. Names are ordered by their bytes.
-#[derive(Clone, Debug, PartialEq, Eq, PartialOrd, Ord, Drop)]
+#[derive(Clone, PartialEq, Eq, PartialOrd, Ord, Drop)]
 pub struct AppName {
     text: Utf8,
 }

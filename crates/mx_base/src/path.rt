@@ -9,7 +9,7 @@ use std::marker::Model;
 
 /// A path below a root: segments with a `/` between them, which contracts see as that text.
 /// The root has no segment. Paths are ordered as the byte strings of their texts.
-#[derive(Clone, Debug, PartialEq, Eq, PartialOrd, Ord, Drop)]
+#[derive(Clone, PartialEq, Eq, PartialOrd, Ord, Drop)]
 pub struct RelPath {
     text: Utf8,
 }

@@ -8,7 +8,7 @@ use std::alloc::AllocError;
 pub type Variables = ListOf<Variable>;
 
 /// An environment variable for the compiler of a dependency.
-#[derive(Debug, Drop)]
+#[derive(Drop)]
 pub struct Variable {
     /// Its name.
     pub name: Text,
