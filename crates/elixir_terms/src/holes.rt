@@ -5,11 +5,11 @@ ghost use Rattle.elixir_terms.specs.Machine.{is_none};
 ghost use Rattle.elixir_terms.specs.Limits.{GivesWhere};
 ghost use Rattle.elixir_terms.specs.Within.{deepest};
 
-use crate::error::{Fault, TermCause};
 use crate::frame::Hole;
 use crate::stack::Stack;
 use std::alloc::Global;
 use std::marker::Model;
+use term_tokens::{Fault, TermCause};
 
 /// The deepest term that is read, in levels of lists, tuples and maps.
 const DEEPEST: u8 = 64;
