@@ -1,4 +1,6 @@
-use Rattle.std.proofs.Common.{◌≡◌, sym, refl}
+use Rattle.std.proofs.Common.{Err, sym, ◌∙◌, ap}
+use Rattle.mix_main.specs.declared.command.WordsError.{WordsError}
+use Rattle.mix_main.specs.Blame.{blame_of}
 use Rattle.mix_main.specs.Ends.Comes.{refused, asked}
 use Rattle.mix_main.proofs.call.answer.Goals as goal
 
@@ -7,5 +9,6 @@ returns-in-Ok-clause-comes g c = asked c.in-Ok.command (sym c.in-Ok.ensures) c.a
 
 pub returns-in-Err-Refused-clause-comes : goal.returns-in-Err-Refused-clause-comes
 returns-in-Err-Refused-clause-comes g c =
-    let x : c.in-Err-Refused.field-0 ≡ c.in-Err-Refused.nothing = ? in
-    refused c.in-Err-Refused.at (sym (c.in-Err-Refused.ensures refl)) (c.misread.ensures _)
+    let arm = c.in-Err-Refused in
+    let says = arm.ensures (ap blame_of arm.field-0-is) in
+    refused arm.at (sym says ∙ ap (λ (e : WordsError). Err e) arm.field-0-is) (c.misread.ensures _)
