@@ -1,5 +1,5 @@
 -- A state that wants the rest of a term within the limits takes the next token within the limits.
-use Rattle.std.proofs.Common.{◌≡◌, ℕ, ◌+◌, List, [], ◌∷◌, ◌++◌, Some, sym, subst, arith, append_assoc}
+use Rattle.std.proofs.Common.{◌≡◌, ℕ, ◌+◌, List, [], ◌∷◌, ◌++◌, map, Some, sym, subst, arith, append_assoc}
 use Rattle.elixir_terms.specs.declared.frame.Frame.{Frame}
 use Rattle.elixir_terms.specs.declared.frame.Hole.{Hole}
 use Rattle.elixir_terms.specs.declared.frame.Slot.{Slot}
@@ -10,7 +10,7 @@ use Rattle.term_values.specs.declared.term.Term.{Term}
 use Rattle.term_values.specs.declared.term.Term.TheVariants as term
 use Rattle.term_tokens.specs.declared.token.Token.{Token}
 use Rattle.term_tokens.specs.declared.token.Token.TheVariants.{Atom, Int, Str, Words, Open, Arrow}
-use Rattle.term_print.specs.Grammar.{IsTerm, atom, integer, string, words, brackets, enclosed}
+use Rattle.term_print.specs.Grammar.{IsTerm, atom, integer, string, words, brackets, enclosed, word_term}
 use Rattle.term_values.specs.Views.{Pair}
 use Rattle.elixir_terms.specs.Levels.{levels, HasRoom, Enters}
 use Rattle.term_tokens.specs.Lexing.{IsNarrow}
@@ -80,7 +80,7 @@ begins_well tok tokens rest holes (integer {n = n}) e f = let e1 : tok ≡ Int n
 begins_well tok tokens rest holes (string {bytes = bytes}) e f = let e1 : tok ≡ Str bytes = cc in rw e1 (record { well = tt; small = tt })
 begins_well tok tokens rest holes (words {kind = kind} {words = ws}) e f =
     let e1 : tok ≡ Words kind ws = cc in
-    let deep = (list_parts f.left terms f.fits).1 in
+    let deep = (list_parts f.left (map (word_term kind) ws) f.fits).1 in
     let all = f.all in
     let room : HasRoom holes = omega arith in
     rw e1 (record { well = room; small = tt })

@@ -13,7 +13,7 @@ use Rattle.term_values.specs.declared.term.Term.{Term}
 use Rattle.term_values.specs.declared.term.Term.TheVariants as term
 use Rattle.term_tokens.specs.declared.token.Token.{Token}
 use Rattle.term_tokens.specs.declared.token.Token.TheVariants.{Atom, Int, Str, Words, Key, Open, Close, Comma, Arrow}
-use Rattle.term_print.specs.Grammar.{IsTerm, atom, integer, string, words, brackets, Inside, nothing, element, entry, keyword, Follows, end, comma, enclosed, closing_of}
+use Rattle.term_print.specs.Grammar.{IsTerm, atom, integer, string, words, brackets, Inside, nothing, element, entry, keyword, Follows, end, comma, enclosed, closing_of, word_list}
 use Rattle.term_values.specs.Views.{Pair}
 use Rattle.elixir_terms.specs.Machine.{is_closed_by, is_none, takes_key, takes_key_in, takes_part, part_slot, placed_in, placed, begun, closed, at_element, at_separator, at_arrow, step}
 use Rattle.elixir_terms.proofs.Meaning.{InOrder, Continues, Values, FilledIn, AfterEntry, AfterKeyword, Filled, Wants, WantsNext}
@@ -61,7 +61,7 @@ begun_forth u tok tokens rest holes (string {bytes = bytes}) e h =
 begun_forth u tok tokens rest holes (words {kind = kind} {words = ws}) e h =
     let e1 : tok ≡ Words kind ws = cc in
     let e2 : tokens ≡ rest = cc in
-    rw (e1, e2) (placed_forth u (term.List terms) holes rest h)
+    rw (e1, e2) (placed_forth u (word_list kind ws) holes rest h)
 begun_forth u tok tokens rest holes (brackets {kind = kind} {inside = inside} {items = items} {entries = entries} {keywords = keywords} {t = t} reads encloses) e h =
     let e1 : tok ≡ Open kind = cc in
     let e2 : tokens ≡ (inside ++ Close (closing_of kind) ∷ []) ++ rest = cc in

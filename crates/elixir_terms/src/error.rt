@@ -1,4 +1,5 @@
 // Why a text is not read, and where.
+ghost use Rattle.std.specs.Prelude.{◌≡◌};
 
 use std::alloc::{AllocError, AllocFailed};
 use term_tokens::TermCause;

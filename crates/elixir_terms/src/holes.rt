@@ -26,7 +26,7 @@ impl Model for Holes {
     ghost use Rattle.elixir_terms.specs.declared.frame.Hole.{Hole};
     ghost use Rattle.elixir_terms.specs.Levels.{levels};
     ghost use Rattle.elixir_terms.specs.Within.{deepest};
-    ghost use Rattle.elixir_terms.specs.contracts.term.Term as term;
+    ghost use Rattle.term_values.specs.contracts.term.Term as term;
     ghost use Rattle.std.specs.Coded.{codes};
 
     ghost Value = { List Hole };

@@ -23,7 +23,7 @@ pub struct Opened {
 impl Model for Opened {
     ghost use Rattle.std.specs.Coded.{codes};
     ghost use Rattle.elixir_terms.specs.declared.frame.Frame.{Frame};
-    ghost use Rattle.elixir_terms.specs.contracts.term.Term as term;
+    ghost use Rattle.term_values.specs.contracts.term.Term as term;
     ghost use Rattle.elixir_terms.specs.Codes.{HoldsCodes};
 
     ghost Value = { Frame };

@@ -8,7 +8,7 @@ ghost use Rattle.elixir_terms.specs.Machine.{placed, placed_in, begun, closed, a
 ghost use Rattle.elixir_terms.specs.Limits.{GivesWhere};
 
 use crate::enclosed::word_list;
-use crate::frame::{Hole, Slot};
+use crate::frame::{Hole, Slot, closing_of, is_closed_by, part_slot};
 use crate::holes::Holes;
 use crate::opened::Opened;
 use mx_base::Text;
@@ -67,11 +67,11 @@ impl State {
             State::Element { frame, .. } => Expected {
                 term: frame.takes_part(),
                 key: frame.takes_key(),
-                closing: Some(frame.bracket().closing()),
+                closing: Some(closing_of(frame.bracket())),
                 ..none
             },
             State::Separator { frame, .. } => Expected {
-                closing: Some(frame.bracket().closing()),
+                closing: Some(closing_of(frame.bracket())),
                 comma: true,
                 ..none
             },
@@ -225,7 +225,7 @@ fn closed(
 ) -> Result<State, Fault>
     ensures { GivesWhere (Unit {0}) left result (closed frame closing holes) }
 {
-    if !frame.bracket().is_closed_by(closing) {
+    if !is_closed_by(frame.bracket(), closing) {
         return Err(unexpected(left));
     }
     match frame.enclosed(alloc)? {
@@ -247,7 +247,7 @@ fn at_part(
     if !frame.takes_part() {
         return Err(unexpected(left));
     }
-    let slot = frame.bracket().part_slot();
+    let slot = part_slot(frame.bracket());
     let holes = holes.entered(Hole { frame, slot }, left)?;
     begun(alloc, token, holes, left)
 }
