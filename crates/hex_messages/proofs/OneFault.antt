@@ -10,13 +10,17 @@ use Rattle.hex_messages.specs.declared.message.Message.TheVariants as message
 use Rattle.hex_messages.specs.Varint.{goes_on, is_whole, IsVarint}
 use Rattle.hex_messages.specs.Fields.{Payload, Varint, Length, Field, Fields, SpellsField, wire_type}
 use Rattle.hex_messages.specs.Fields as fields
-use Rattle.hex_messages.specs.Schema.{Kind, Text, Reason, Inner, Known, field_at, wire_of}
+use Rattle.hex_messages.specs.declared.schema.Kind.{Kind}
+use Rattle.hex_messages.specs.declared.schema.Kind.TheVariants.{Text, Reason, Inner}
+use Rattle.hex_messages.specs.declared.schema.Known.{Known}
+use Rattle.hex_messages.specs.Schema.{field_at, wire_of}
 use Rattle.hex_messages.specs.Good.{AllGood, Misses}
 use Rattle.hex_messages.specs.Faults.{VarintFault, ValueFault, IsWire, IsKey, IsOwnWire, FieldFault, Fault}
 use Rattle.hex_messages.specs.Faults as fault
 use Rattle.hex_messages.proofs.VarintLemmas.{whole_stops, one_varint}
 use Rattle.hex_messages.proofs.OneReading.{one_field, one_fields, key_apart, type_small}
-use Rattle.hex_messages.proofs.Apart.{varint_apart, value_apart, length_split, wire_is, wire_small, Stood, field_apart, faulty_some, next_field, one_miss, good_first, good_rest}
+use Rattle.hex_messages.proofs.Apart.{varint_apart, value_apart, length_split, wire_is, wire_small, Stood, field_apart, faulty_some, next_field, one_miss}
+use Rattle.hex_messages.proofs.GoodLemmas.{good_first, good_rest}
 
 great_not_cut : {text : List ℕ} (f r : List ℕ) → is_whole f ≡ true → length f ≤ 10 → text ≡ f ++ r → length text < 10 → list_all goes_on text ≡ true → ⊥
 great_not_cut {text = text} f r w short e few on =

@@ -13,14 +13,16 @@ use Rattle.hex_messages.specs.declared.package.Reason.{Reason as Cause}
 use Rattle.hex_messages.specs.declared.package.Reason.TheVariants as cause
 use Rattle.hex_messages.specs.Fields.{Payload, Varint, Fixed64, Length, Fixed32, Field, Fields, SpellsField, SpellsPayload, greatest_number}
 use Rattle.hex_messages.specs.Fields as fields
-use Rattle.hex_messages.specs.Schema.{Text, Bytes, Truth, Reason, Inner, Known, field_at, retired_number}
+use Rattle.hex_messages.specs.declared.schema.Kind.TheVariants.{Text, Bytes, Truth, Reason, Inner}
+use Rattle.hex_messages.specs.declared.schema.Known.{Known}
+use Rattle.hex_messages.specs.Schema.{field_at, retired_number}
 use Rattle.hex_messages.specs.Good.{AllGood, IsOf, IsWhole, Merged, has}
 use Rattle.hex_messages.specs.Good as good
 use Rattle.hex_messages.specs.Stands.{later, last_bytes, last_number, all_bytes, is_set, reason_number, Each, StandsRetirement, StandsDependency, StandsRelease, Stands}
 use Rattle.hex_messages.specs.Canonical.{WritesPayload, WritesField, WritesFields, bytes_field, perhaps, truth_field, WritesDependency, dependency_fields, WritesRetirement, retired_fields, WritesRelease, release_fields, Writes, IsText, IfThere, IsWritableDependency, IsWritableRetirement, IsWritableRelease, IsWritable}
 use Rattle.hex_messages.specs.Canonical as written
-use Rattle.hex_messages.proofs.FieldsLemmas.{good_append}
-use Rattle.hex_messages.proofs.PartLemmas.{later_none, whole_retired}
+use Rattle.hex_messages.proofs.GoodLemmas.{good_append, whole_retired}
+use Rattle.hex_messages.proofs.ValueLemmas.{later_none}
 
 -- a field's number may stand
 abbrev Numbered : Field → Type 0

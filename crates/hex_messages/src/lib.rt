@@ -1,15 +1,14 @@
 //! Messages of the Hex registry, version 2: what they say of a package, and how they are spelled.
 #![tactic(auto)]
 
-mod dependency;
+mod building;
+mod checking;
 mod error;
-mod fields;
+mod finding;
 mod laws;
 mod message;
 mod package;
 mod reader;
-mod release;
-mod retired;
 mod schema;
 mod varint;
 mod wire;

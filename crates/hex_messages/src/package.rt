@@ -46,7 +46,7 @@ pub struct Retired {
 }
 
 /// Why a release was retired.
-#[derive(Clone, Copy, Debug, PartialEq, Eq, Drop)]
+#[derive(Clone, Copy, Debug)]
 pub enum Reason {
     Other,
     Invalid,
