@@ -5,14 +5,14 @@ use Rattle.std.proofs.lemmas.List.{nil_from_length}
 use Rattle.std.specs.Str.{is_utf8, chars}
 use lib.Utf8.{encode}
 use Rattle.semver.proofs.OnLiterals.{semver_on_literals}
-use Rattle.elixir_terms.specs.declared.term.Term.{Term}
+use Rattle.term_values.specs.declared.term.Term.{Term}
 use Rattle.mx_base.specs.declared.file.File.{File}
 use Rattle.mx_base.specs.Order.{bytes_at}
 use Rattle.tree_store.specs.Files.{paths_below, is_in_build}
 use Rattle.dep_options.specs.declared.decl.Decl.{Decl}
 use Rattle.dep_options.specs.declared.decl.DepSource.TheVariants.{Hex, Path}
 use Rattle.converger.specs.Reach.{admits}
-use Rattle.elixir_terms.specs.Views.{string_of, Named}
+use Rattle.term_values.specs.Views.{string_of, Named}
 use Rattle.dep_options.specs.Options.{first_of}
 use Rattle.project_file.specs.declared.project.Project.{Project}
 use Rattle.project_file.specs.declared.error.ProjectError.{ProjectError}

@@ -2,7 +2,7 @@
 use Rattle.std.proofs.Common.{◌≡◌, ℕ, ◌+◌, ◌<◌, ◌≤◌, Bool, true, false, ◌||◌, List, [], ◌∷◌, ◌++◌, drop, length, get_or, Option, Some, None, is_some, option_map, option_and_then, Ok, Err, codes, refl, sym, ◌∙◌, ap, subst, append_assoc, add-one}
 use Rattle.std.specs.Option.{option_copied}
 use Rattle.std.proofs.lemmas.List.{at_drop_more, at_drop_all, append-nil}
-use Rattle.elixir_terms.specs.declared.term.Term.{Term}
+use Rattle.term_values.specs.declared.term.Term.{Term}
 use Rattle.version_req.specs.declared.error.ReqError.{ReqError}
 use Rattle.version_req.specs.declared.error.ReqError.TheVariants.{Refused}
 use Rattle.version_req.specs.Condition.{Alternatives}

@@ -1,13 +1,13 @@
 -- One answer for the terms of a manifest.
 use Rattle.std.proofs.Common.{◌≡◌, ℕ, Bool, true, false, List, [], ◌∷◌, Option, Some, None, Result, Ok, Err, refl, sym, ◌∙◌, ap, subst}
-use Rattle.elixir_terms.specs.declared.term.Term.{Term}
+use Rattle.term_values.specs.declared.term.Term.{Term}
 use Rattle.version_req.specs.Condition.{Alternatives}
 use Rattle.version_req.specs.Grammar.{Spells}
 use Rattle.dep_options.specs.declared.decl.Decl.{Decl}
 use Rattle.dep_options.specs.declared.error.OptionCause.{OptionCause}
 use Rattle.dep_options.specs.declared.error.OptionError.{OptionError}
 use Rattle.dep_options.specs.Options.{first_fault}
-use Rattle.elixir_terms.specs.Views.{list_of}
+use Rattle.term_values.specs.Views.{list_of}
 use Rattle.dep_options.specs.Decls.{Written, written_of, IsRequirement, IsBadRequirement, has_source, decl_of, IsDecl, shape, requirement, option, source, good, AreDeclsFrom, end, refused, later, more, AreDecls, no_list, items}
 
 -- no text spells two requirements

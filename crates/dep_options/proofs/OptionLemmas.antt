@@ -8,13 +8,13 @@ use Rattle.std.proofs.lemmas.Slice.Eq.{bytes_eq-Decides}
 use Rattle.std.proofs.lemmas.List.{take_more, at_drop_more, map-append}
 use Rattle.std.proofs.lemmas.List.Folds.{list_any-append}
 use denote.Ref.{Bor}
-use Rattle.elixir_terms.specs.declared.term.Term.{Term}
+use Rattle.term_values.specs.declared.term.Term.{Term}
 use Rattle.dep_options.specs.declared.error.OptionCause.{OptionCause}
 use Rattle.dep_options.specs.declared.error.OptionCause.TheVariants.{BadValue}
 use Rattle.dep_options.specs.declared.option_values.OptionValues.{OptionValues}
 use Rattle.dep_options.specs.Options.{first_of, has_name, fault_of, first_fault, or_else, truth_of, environments_of, compile_of, folder_of, package_of, manager_of, variables_of}
 use Rattle.dep_options.specs.Values.{values_of, with_option}
-use Rattle.elixir_terms.specs.Views.{Named}
+use Rattle.term_values.specs.Views.{Named}
 use Rattle.dep_options.specs.Views.{app_of}
 
 same_names : (n m : List ℕ) → bytes_eq n m ≡ true → n ≡ m

@@ -1,6 +1,6 @@
 -- What the declarations of a manifest declare.
 use Rattle.std.specs.Prelude.{◌≡◌, ℕ, suc, Bool, true, false, ◌||◌, List, [], ◌∷◌, Option, Some, None, is_some, option_map, option_and_then, Result, Ok, Err, codes}
-use Rattle.elixir_terms.specs.declared.term.Term.{Term}
+use Rattle.term_values.specs.declared.term.Term.{Term}
 use Rattle.version_req.specs.Condition.{Alternatives}
 use Rattle.version_req.specs.Grammar.{Spells}
 use Rattle.dep_options.specs.declared.decl.Decl.{Decl}
@@ -11,7 +11,7 @@ use Rattle.dep_options.specs.declared.error.OptionCause.{OptionCause}
 use Rattle.dep_options.specs.declared.error.OptionCause.TheVariants.{Shape, BadRequirement, NoSource}
 use Rattle.dep_options.specs.declared.error.OptionError.{OptionError}
 use Rattle.dep_options.specs.Options.{first_of, first_fault, given, truth_of, environments_of, compile_of, folder_of, package_of, manager_of, variables_of}
-use Rattle.elixir_terms.specs.Views.{string_of, list_of, tuple_of, keywords_of, Named}
+use Rattle.term_values.specs.Views.{string_of, list_of, tuple_of, keywords_of, Named}
 use Rattle.dep_options.specs.Views.{app_of}
 
 -- what stands in a declaration

@@ -1,8 +1,7 @@
 -- The options of a declaration, as a table by name.
 use Rattle.std.specs.Prelude.{ℕ, Bool, true, false, not, ◌||◌, ◌==◌, List, [], ◌∷◌, Option, Some, None, is_some, option_and_then, Result, Ok, Err, if◌then◌else◌, codes, bytes_eq}
 use Rattle.std.specs.List.{list_any}
-use Rattle.elixir_terms.specs.declared.term.Term.{Term}
-use Rattle.elixir_terms.specs.Grammar.{Pair}
+use Rattle.term_values.specs.declared.term.Term.{Term}
 use Rattle.mx_base.specs.Join.{joined}
 use Rattle.mx_base.specs.Path.{first_segment}
 use Rattle.mx_base.specs.declared.path_join.PathError.{PathError}
@@ -13,7 +12,7 @@ use Rattle.dep_options.specs.declared.decl.Manager.TheVariants as manager
 use Rattle.mx_base.specs.declared.variable.Variable.{Variable}
 use Rattle.dep_options.specs.declared.error.OptionCause.{OptionCause}
 use Rattle.dep_options.specs.declared.error.OptionCause.TheVariants.{UnknownOption, UnsupportedSource, BadValue}
-use Rattle.elixir_terms.specs.Views.{atom_of, string_of, list_of, map_of, pair_of, all_of, Named}
+use Rattle.term_values.specs.Views.{Pair, atom_of, string_of, list_of, map_of, pair_of, all_of, Named}
 use Rattle.dep_options.specs.Views.{if_app, app_of}
 
 -- what an option takes: `Environments` one or a list of them, `Registry` the name of the one that there is, and

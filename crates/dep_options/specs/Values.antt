@@ -1,6 +1,6 @@
 -- The values of options, each where its option is there.
 use Rattle.std.specs.Prelude.{◌≡◌, ℕ, Bool, true, false, List, [], Option, Some, None, option_and_then, if◌then◌else◌, codes, bytes_eq}
-use Rattle.elixir_terms.specs.declared.term.Term.{Term}
+use Rattle.term_values.specs.declared.term.Term.{Term}
 use Rattle.version_req.specs.Condition.{Alternatives}
 use Rattle.dep_options.specs.declared.decl.Decl.{Decl}
 use Rattle.dep_options.specs.declared.decl.DepSource.{DepSource}
@@ -13,7 +13,7 @@ use Rattle.dep_options.specs.declared.option_name.OptionName.{OptionName}
 use Rattle.dep_options.specs.declared.option_name.OptionName.TheVariants as name
 use Rattle.dep_options.specs.declared.option_values.OptionValues.{OptionValues}
 use Rattle.dep_options.specs.Options.{Registry, Unsupported, kind_of, first_of, fault_by, truth_of, environments_of, compile_of, folder_of, package_of, manager_of, variable_of, variables_of}
-use Rattle.elixir_terms.specs.Views.{pair_of, Named}
+use Rattle.term_values.specs.Views.{pair_of, Named}
 use Rattle.dep_options.specs.Views.{app_of}
 
 -- want of memory, which says nothing of the declarations

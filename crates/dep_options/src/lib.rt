@@ -1,6 +1,6 @@
 //! The declarations of a manifest: what each declares, and which is refused.
 //!
-//! It stands on the terms of `elixir_terms` and the requirements of `version_req`. A layer above may rely on
+//! It stands on the terms of `term_values` and the requirements of `version_req`. A layer above may rely on
 //! this: `decls` answers exactly what a term declares, and else the first declaration that is refused and why.
 #![tactic(auto)]
 

@@ -10,10 +10,10 @@ use crate::values::{
     app_of, compile_of, environments_of, folder_of, manager_of, package_of, truth_of, variables_of,
 };
 use crate::word::is_word;
-use elixir_terms::Term;
 use mx_base::{AppName, ListOf, Names, RelPath, Text, Variables, copy_text};
 use std::alloc::{AllocError, Global};
 use std::collections::BTreeSet;
+use term_values::Term;
 use version_req::Requirement;
 
 /// The values of the options that were read so far.

@@ -1,7 +1,7 @@
 // The reader of declarations.
 ghost use Rattle.std.specs.Prelude.{◌≡◌, ℕ, List, [], ◌∷◌, ◌++◌, ◌||◌, is_some, Result, Ok, Err, IfOk, IfErr, OnOk, IsFalse};
 ghost use Rattle.std.specs.Option.{option_copied};
-ghost use Rattle.elixir_terms.specs.declared.term.Term.{Term};
+ghost use Rattle.term_values.specs.declared.term.Term.{Term};
 ghost use Rattle.dep_options.specs.declared.decl.Decl.{Decl};
 ghost use Rattle.dep_options.specs.declared.error.OptionError.{OptionError};
 ghost use Rattle.dep_options.specs.Decls.{IsRequirement, IsBadRequirement, IsDecl, AreDeclsFrom, AreDecls};
@@ -12,9 +12,9 @@ use crate::decl::Decl;
 use crate::error::{OptionCause, OptionError};
 use crate::option_values::{OptionValues, option_values};
 use crate::stated::read_stated;
-use elixir_terms::Term;
 use mx_base::{Bytes, RelPath};
 use std::alloc::Global;
+use term_values::Term;
 use version_req::{ReqError, Requirement, one_requirement};
 
 /// Reads what a manifest's term declares in a folder, which paths are taken from. A term that is no list is

@@ -1,20 +1,19 @@
 // Open brackets, with what was read in them.
 ghost use Rattle.std.specs.Prelude.{◌≡◌, ◌≤◌, [], IfOk};
-ghost use Rattle.elixir_terms.specs.Grammar.{closing_of, enclosed};
+ghost use Rattle.term_print.specs.Grammar.{closing_of, enclosed};
 ghost use Rattle.elixir_terms.specs.Levels.{cost, keyword_cost};
 ghost use Rattle.elixir_terms.specs.Machine.{empty, is_closed_by, part_slot, takes_key, takes_part};
 
-use crate::bracket::Bracket;
 use crate::enclosed::{list, mapping, tuple};
 use crate::opened::Opened;
-use crate::term::{Pairs, Term, Terms};
-use crate::token::Closing;
 use mx_base::Text;
 use sqlite_items::Items;
 use std::alloc::{AllocError, Global};
+use term_tokens::{Bracket, Closing};
+use term_values::{Pairs, Term, Terms};
 
 /// An open bracket, and what was read in it: elements or entries, and then keywords.
-#[derive(Debug, Drop)]
+#[derive(Drop)]
 pub struct Frame {
     pub bracket: Bracket,
     pub items: Terms,
@@ -23,7 +22,7 @@ pub struct Frame {
 }
 
 /// What a term in a bracket is.
-#[derive(Debug, Drop)]
+#[derive(Drop)]
 pub enum Slot {
     /// An element of a list or a tuple.
     Element,
@@ -36,7 +35,7 @@ pub enum Slot {
 }
 
 /// A place in an open bracket where a term is wanted.
-#[derive(Debug, Drop)]
+#[derive(Drop)]
 pub struct Hole {
     pub frame: Opened,
     pub slot: Slot,

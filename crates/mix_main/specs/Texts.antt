@@ -2,10 +2,10 @@
 use Rattle.std.specs.Prelude.{ℕ, List, ◌++◌, flat_map, Option, Some, None, codes}
 use Rattle.std.specs.Fmt.{decimal}
 use Rattle.elixir_terms.specs.declared.error.TermError.{TermError}
-use Rattle.elixir_terms.specs.declared.error.TermCause.{TermCause}
-use Rattle.elixir_terms.specs.declared.error.TermCause.TheVariants as term
-use Rattle.elixir_terms.specs.declared.error.Feature.{Feature}
-use Rattle.elixir_terms.specs.declared.error.Feature.TheVariants as feature
+use Rattle.term_tokens.specs.declared.cause.TermCause.{TermCause}
+use Rattle.term_tokens.specs.declared.cause.TermCause.TheVariants as term
+use Rattle.term_tokens.specs.declared.cause.Feature.{Feature}
+use Rattle.term_tokens.specs.declared.cause.Feature.TheVariants as feature
 use Rattle.dep_options.specs.declared.error.OptionError.{OptionError}
 use Rattle.dep_options.specs.declared.error.OptionCause.{OptionCause}
 use Rattle.dep_options.specs.declared.error.OptionCause.TheVariants as option

@@ -3,10 +3,10 @@ use Rattle.std.proofs.Common.{◌≡◌, ℕ, List, [], Option, Some, None, Resu
 use Rattle.mx_base.specs.declared.file.File.{File}
 use Rattle.mx_base.specs.Order.{bytes_at}
 use Rattle.elixir_terms.specs.declared.error.TermError.{TermError}
-use Rattle.elixir_terms.specs.declared.term.Term.{Term}
-use Rattle.elixir_terms.specs.declared.error.TermCause.{TermCause}
+use Rattle.term_values.specs.declared.term.Term.{Term}
+use Rattle.term_tokens.specs.declared.cause.TermCause.{TermCause}
 use Rattle.elixir_terms.specs.Refusals.{IsRefusal}
-use Rattle.elixir_terms.specs.Spells.{Spells}
+use Rattle.term_print.specs.Spells.{Spells}
 use Rattle.elixir_terms.specs.Within.{Within}
 use Rattle.dep_options.specs.declared.decl.Decl.{Decl}
 use Rattle.dep_options.specs.declared.error.OptionError.{OptionError}

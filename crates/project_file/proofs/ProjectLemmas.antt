@@ -7,9 +7,9 @@ use Rattle.mx_base.specs.Blame.Blame.{Input}
 use Rattle.mx_base.specs.declared.file.File.{File}
 use Rattle.mx_base.specs.Order.{bytes_at}
 use Rattle.elixir_terms.specs.declared.error.TermError.{TermError}
-use Rattle.elixir_terms.specs.declared.term.Term.{Term}
+use Rattle.term_values.specs.declared.term.Term.{Term}
 use Rattle.elixir_terms.specs.Refusals.{IsRefusal}
-use Rattle.elixir_terms.specs.Refused.{is_memory}
+use Rattle.term_tokens.specs.Refused.{is_memory}
 use Rattle.dep_options.specs.declared.decl.Decl.{Decl}
 use Rattle.dep_options.specs.declared.error.OptionError.{OptionError}
 use Rattle.dep_options.specs.Decls.{AreDecls}

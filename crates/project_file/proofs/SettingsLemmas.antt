@@ -4,9 +4,9 @@ use Rattle.mx_base.specs.declared.file.File.{File}
 use Rattle.mx_base.specs.Blame.Blame.{Input}
 use Rattle.mx_base.specs.Order.{bytes_at}
 use Rattle.elixir_terms.specs.declared.error.TermError.{TermError}
-use Rattle.elixir_terms.specs.declared.term.Term.{Term}
+use Rattle.term_values.specs.declared.term.Term.{Term}
 use Rattle.elixir_terms.specs.Refusals.{IsRefusal}
-use Rattle.elixir_terms.specs.Refused.{is_memory}
+use Rattle.term_tokens.specs.Refused.{is_memory}
 use Rattle.project_file.specs.declared.error.SettingsError.TheVariants as settings
 use Rattle.project_file.specs.declared.settings.Settings.{Settings}
 use Rattle.project_file.specs.Compilers.{settings_of, no_settings}

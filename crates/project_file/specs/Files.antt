@@ -4,10 +4,10 @@ use Rattle.mx_base.specs.declared.file.File.{File}
 use Rattle.mx_base.specs.Order.{bytes_at}
 use Rattle.mx_base.specs.Path.{child_of}
 use Rattle.elixir_terms.specs.declared.error.TermError.{TermError}
-use Rattle.elixir_terms.specs.declared.term.Term.{Term}
+use Rattle.term_values.specs.declared.term.Term.{Term}
 use Rattle.elixir_terms.specs.Refusals.{IsRefusal}
-use Rattle.elixir_terms.specs.Refused.{is_memory}
-use Rattle.elixir_terms.specs.Spells.{Spells}
+use Rattle.term_tokens.specs.Refused.{is_memory}
+use Rattle.term_print.specs.Spells.{Spells}
 use Rattle.elixir_terms.specs.Within.{Within}
 use Rattle.dep_options.specs.declared.decl.Manager.{Manager}
 use Rattle.dep_options.specs.declared.decl.Manager.TheVariants.{Mix, Rebar3, Make}

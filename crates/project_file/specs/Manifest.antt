@@ -2,12 +2,12 @@
 use Rattle.std.specs.Prelude.{◌≡◌, ℕ, Bool, ◌&&◌, List, [], Option, Some, None, option_map, option_and_then, Result, Ok, Err, is_ok, if◌then◌else◌, codes}
 use Rattle.std.specs.Str.{is_utf8}
 use Rattle.semver.specs.Parse.{version_parts}
-use Rattle.elixir_terms.specs.declared.term.Term.{Term}
+use Rattle.term_values.specs.declared.term.Term.{Term}
 use Rattle.dep_options.specs.declared.decl.Decl.{Decl}
 use Rattle.dep_options.specs.declared.error.OptionError.{OptionError}
 use Rattle.dep_options.specs.Decls.{AreDecls}
 use Rattle.dep_options.specs.Options.{first_of, or_else}
-use Rattle.elixir_terms.specs.Views.{string_of, list_of, map_of, keywords_of, all_of, named_of, Named}
+use Rattle.term_values.specs.Views.{string_of, list_of, map_of, keywords_of, all_of, named_of, Named}
 use Rattle.dep_options.specs.Views.{app_of}
 use Rattle.project_file.specs.declared.project.Project.{Project}
 use Rattle.project_file.specs.declared.error.ProjectError.{ProjectError}

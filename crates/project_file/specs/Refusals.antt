@@ -1,7 +1,7 @@
 -- What the refusals of inner calls become.
 use Rattle.std.specs.Prelude.{if◌then◌else◌}
 use Rattle.elixir_terms.specs.declared.error.TermError.{TermError}
-use Rattle.elixir_terms.specs.Refused.{is_memory}
+use Rattle.term_tokens.specs.Refused.{is_memory}
 use Rattle.dep_options.specs.declared.error.OptionError.{OptionError}
 use Rattle.dep_options.specs.Values.{is_memory as options_memory}
 use Rattle.tree_store.specs.declared.store.StoreFault.{StoreFault}
