@@ -11,6 +11,7 @@ use mx_base::{Bytes, Text};
 use std::alloc::{AllocError, Global};
 
 /// The canonical spelling of a package: fields by number, shortest varints, and nothing that may be left out.
+/// Each text of the package has to be UTF-8, and each of its texts, checksums and lists shorter than 2^31.
 /// Each message within is written once and copied once, and they are nested three deep.
 pub fn write_package(alloc: Global, package: &Package) -> Result<Bytes, AllocError>
     requires writable { IsWritable «package».now }
