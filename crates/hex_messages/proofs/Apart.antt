@@ -1,7 +1,6 @@
 -- Bytes that stand for a package have no fault, and stand for one alone.
 use Rattle.std.proofs.Common.{◌≡◌, ℕ, ◌+◌, ◌*◌, ◌<◌, ◌≤◌, true, Option, Some, None, List, [], ◌∷◌, ◌++◌, length, take, refl, sym, ap, ◌∙◌, subst, inl, inr, ⊎_elim, ◌⊎◌, arith}
 use Rattle.std.specs.List.{list_all}
-use Rattle.std.specs.Str.{IsUtf8}
 use Rattle.std.proofs.lemmas.List.{length-append, append_assoc, take_all}
 use Rattle.hex_messages.specs.declared.error.FieldName.{FieldName}
 use Rattle.hex_messages.specs.declared.error.WireCause.{WireCause}

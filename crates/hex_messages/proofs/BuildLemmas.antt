@@ -1,26 +1,21 @@
 -- What is built of a message without a fault.
-use Rattle.std.proofs.Common.{◌≡◌, ℕ, ◌≤◌, Bool, true, false, ◌&&◌, not, cond, Option, Some, None, List, [], ◌∷◌, ◌++◌, refl, sym, ap, ◌∙◌, subst, arith}
+use Rattle.std.proofs.Common.{◌≡◌, ℕ, Bool, true, false, Option, Some, None, List, [], ◌∷◌, ◌++◌, refl, sym, ap, ◌∙◌, subst}
 use Rattle.std.specs.Prelude.{is_some}
 use Rattle.std.proofs.lemmas.List.{append-nil}
-use Rattle.hex_messages.specs.declared.error.FieldName.{FieldName}
 use Rattle.hex_messages.specs.declared.message.Message.{Message}
 use Rattle.hex_messages.specs.declared.message.Message.TheVariants as message
-use Rattle.hex_messages.specs.declared.package.Package.{Package}
-use Rattle.hex_messages.specs.declared.package.Release.{Release}
-use Rattle.hex_messages.specs.declared.package.Dependency.{Dependency}
-use Rattle.hex_messages.specs.declared.package.Retired.{Retired}
-use Rattle.hex_messages.specs.declared.schema.Kind.TheVariants.{Reason, Inner}
+use Rattle.hex_messages.specs.declared.schema.Kind.TheVariants.{Inner}
 use Rattle.hex_messages.specs.declared.schema.Known.{Known}
-use Rattle.hex_messages.specs.Fields.{Payload, Varint, Length, Field, Fields, wire_type}
-use Rattle.hex_messages.specs.Schema.{field_at, retired_number}
-use Rattle.hex_messages.specs.Good.{AllGood, IsWhole, Merged, Misses, has}
-use Rattle.hex_messages.specs.Stands.{all_bytes, last_bytes, last_number, is_set, reason_number, Each, StandsRetired, StandsRetirement, StandsDependency, StandsRelease, Stands}
-use Rattle.hex_messages.specs.Finding.{InFields, InMerged, HasWire, Finds, last_value}
+use Rattle.hex_messages.specs.Fields.{Payload, Varint, Length, Field, wire_type}
+use Rattle.hex_messages.specs.Schema.{field_at}
+use Rattle.hex_messages.specs.Good.{AllGood, IsWhole, has}
+use Rattle.hex_messages.specs.Stands.{all_bytes, last_bytes, last_number, is_set, Each}
+use Rattle.hex_messages.specs.Finding.{InFields, HasWire, Finds, last_value}
 use Rattle.hex_messages.proofs.FieldsLemmas.{At, at_start}
-use Rattle.hex_messages.proofs.GoodLemmas.{good_behind, Whole, whole_parts}
+use Rattle.hex_messages.proofs.GoodLemmas.{good_behind}
 use Rattle.hex_messages.proofs.ValueLemmas.{all_append, all_apart, all_found, each_push, bytes_agree, AgreesBytes, number_agree, AgreesNumber, has_value}
 use Rattle.hex_messages.proofs.FindLemmas.{behind, found_at, whole_front}
-use Rattle.hex_messages.proofs.MergeLemmas.{inner_at, merged_of}
+use Rattle.hex_messages.proofs.MergeLemmas.{inner_at}
 
 length_same : (a b : List ℕ) → Length a ≡ Length b → a ≡ b
 length_same a b e = cc

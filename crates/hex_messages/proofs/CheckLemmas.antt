@@ -1,5 +1,5 @@
 -- The first fault of a message.
-use Rattle.std.proofs.Common.{◌≡◌, ℕ, ◌+◌, ◌-◌, ◌*◌, ◌<◌, ◌≤◌, Bool, true, false, ◌&&◌, ◌||◌, not, cond, eqb, Option, Some, None, List, [], ◌∷◌, ◌++◌, length, refl, sym, ap, ◌∙◌, subst, arith}
+use Rattle.std.proofs.Common.{◌≡◌, ℕ, ◌+◌, ◌-◌, ◌<◌, ◌≤◌, Bool, true, false, ◌&&◌, not, cond, eqb, Option, Some, None, List, [], ◌∷◌, ◌++◌, length, refl, sym, ap, ◌∙◌, subst, arith}
 use Rattle.std.specs.Option.{option_or}
 use Rattle.std.specs.Str.{IsUtf8}
 use Rattle.std.proofs.lemmas.List.{length-append, append_assoc}
@@ -15,7 +15,7 @@ use Rattle.hex_messages.specs.declared.schema.Kind.TheVariants.{Text, Bytes, Tru
 use Rattle.hex_messages.specs.declared.schema.Known.{Known}
 use Rattle.hex_messages.specs.declared.wire.Wire.{Wire}
 use Rattle.hex_messages.specs.Fields.{Payload, Varint, Length, Field, Fields, SpellsField, wire_type}
-use Rattle.hex_messages.specs.Schema.{field_at, wire_of, retired_number}
+use Rattle.hex_messages.specs.Schema.{field_at, wire_of}
 use Rattle.hex_messages.specs.Good.{AllGood, IsOf, IsWhole, Misses, Merged, has, absent_in}
 use Rattle.hex_messages.specs.Good as good
 use Rattle.hex_messages.specs.Faults.{VarintFault, ValueFault, Fault, FieldFault, IsOwnWire, utf8, reason, inner, field, missing}
@@ -25,7 +25,6 @@ use Rattle.hex_messages.specs.Finding.{InFields, InMerged, Finds}
 use Rattle.hex_messages.specs.Checking.{IsPlaced, BlamesField, FaultFrom}
 use Rattle.hex_messages.proofs.FieldsLemmas.{At, at_start, at_push, at_end}
 use Rattle.hex_messages.proofs.GoodLemmas.{good_append, length_of, varint_of}
-use Rattle.hex_messages.proofs.OneReading.{one_fields}
 use Rattle.hex_messages.proofs.ValueLemmas.{has_append, same_test}
 use Rattle.hex_messages.proofs.FindLemmas.{behind, found_at}
 use Rattle.hex_messages.proofs.MergeLemmas.{merged_of}

@@ -1,5 +1,5 @@
 -- How a field is found by its number.
-use Rattle.std.proofs.Common.{◌≡◌, ◌≢◌, ℕ, ◌+◌, ◌<◌, ◌≤◌, Bool, true, false, ◌||◌, eqb, Option, Some, None, List, [], ◌∷◌, ◌++◌, length, refl, sym, ap, ◌∙◌, subst, ⊎_elim, arith}
+use Rattle.std.proofs.Common.{◌≡◌, ◌≢◌, ℕ, ◌+◌, ◌<◌, ◌≤◌, Bool, true, false, eqb, Option, Some, None, List, [], ◌∷◌, ◌++◌, length, refl, sym, ap, ◌∙◌, subst, ⊎_elim, arith}
 use Rattle.std.proofs.lemmas.Bool.{ne_eqb, eqb-true}
 use Rattle.std.proofs.lemmas.List.{append_assoc, append-nil, length-append}
 use Rattle.hex_messages.specs.declared.error.WireCause.{WireCause}
@@ -8,12 +8,12 @@ use Rattle.hex_messages.specs.declared.wire.Wire.{Wire}
 use Rattle.hex_messages.specs.Fields.{Payload, Field, Fields}
 use Rattle.hex_messages.specs.Fields as fields
 use Rattle.hex_messages.specs.Good.{AllGood, IsWhole, has}
-use Rattle.hex_messages.specs.Stands.{later, last_of}
+use Rattle.hex_messages.specs.Stands.{later}
 use Rattle.hex_messages.specs.Faults.{FieldFault}
 use Rattle.hex_messages.specs.Reading.{BeginsField, payload_of, field_of}
 use Rattle.hex_messages.specs.Finding.{InFields, Finds, last_value}
 use Rattle.hex_messages.proofs.FieldsLemmas.{At, at_start, at_push, at_append, at_end}
-use Rattle.hex_messages.proofs.GoodLemmas.{good_front, good_behind, Whole, whole_parts}
+use Rattle.hex_messages.proofs.GoodLemmas.{good_front, good_behind, whole_parts}
 use Rattle.hex_messages.proofs.ValueLemmas.{last_append, last_apart, last_found, has_append}
 use Rattle.hex_messages.proofs.OneReading.{one_field, one_fields, not_empty}
 use Rattle.hex_messages.proofs.Apart.{field_apart, next_field}

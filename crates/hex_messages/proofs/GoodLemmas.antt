@@ -1,5 +1,5 @@
 -- Fields that may stand in a message.
-use Rattle.std.proofs.Common.{◌≡◌, ℕ, ◌≤◌, Option, Some, None, List, [], ◌∷◌, ◌++◌, refl, sym, ap, ◌∙◌, subst}
+use Rattle.std.proofs.Common.{◌≡◌, ℕ, ◌≤◌, Option, Some, None, List, [], ◌∷◌, ◌++◌, refl, sym, ◌∙◌, subst}
 use Rattle.std.specs.Prelude.{option_map}
 use Rattle.std.specs.Str.{IsUtf8}
 use Rattle.hex_messages.specs.declared.message.Message.{Message}
@@ -8,7 +8,7 @@ use Rattle.hex_messages.specs.declared.schema.Kind.{Kind}
 use Rattle.hex_messages.specs.declared.schema.Kind.TheVariants.{Text, Reason, Inner}
 use Rattle.hex_messages.specs.declared.schema.Known.{Known}
 use Rattle.hex_messages.specs.Fields.{Payload, Varint, Fixed64, Length, Fixed32, Field, Fields, wire_type}
-use Rattle.hex_messages.specs.Schema.{field_at, wire_of, retired_number}
+use Rattle.hex_messages.specs.Schema.{field_at, wire_of}
 use Rattle.hex_messages.specs.Good.{AllGood, IsOf, IsWhole, Misses}
 use Rattle.hex_messages.specs.Good as good
 use Rattle.hex_messages.specs.Finding.{HasWire}

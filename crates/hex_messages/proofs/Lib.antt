@@ -15,3 +15,6 @@ pub mod OneFault
 pub mod WriteLemmas
 pub mod WrittenReads
 pub mod OneSpelling
+pub mod DecideField
+pub mod Decide
+pub mod Exists

@@ -1,5 +1,5 @@
 -- The merged retirements of a release.
-use Rattle.std.proofs.Common.{◌≡◌, ℕ, Bool, true, false, ◌||◌, eqb, Option, Some, None, List, [], ◌∷◌, ◌++◌, refl, sym, ap, ◌∙◌, subst, arith}
+use Rattle.std.proofs.Common.{◌≡◌, ℕ, Bool, true, false, eqb, Option, Some, None, List, [], ◌∷◌, ◌++◌, refl, sym, ap, ◌∙◌, subst, arith}
 use Rattle.std.specs.Prelude.{option_map}
 use Rattle.std.specs.Option.{option_or}
 use Rattle.std.proofs.lemmas.List.{append_assoc, append-nil}
@@ -15,14 +15,14 @@ use Rattle.hex_messages.specs.Fields.{Payload, Length, Field, Fields, wire_type}
 use Rattle.hex_messages.specs.Schema.{field_at, retired_number}
 use Rattle.hex_messages.specs.Good.{AllGood, IsOf, IsWhole, Merged, has}
 use Rattle.hex_messages.specs.Good as good
-use Rattle.hex_messages.specs.Stands.{later, last_of}
+use Rattle.hex_messages.specs.Stands.{later}
 use Rattle.hex_messages.specs.declared.wire.Value.{Value}
 use Rattle.hex_messages.specs.Reading.{payload_of}
 use Rattle.hex_messages.specs.Finding.{InFields, InMerged, Finds, last_value}
 use Rattle.hex_messages.proofs.FieldsLemmas.{At, at_start}
-use Rattle.hex_messages.proofs.GoodLemmas.{good_behind, good_front, good_rest, Whole, whole_parts}
+use Rattle.hex_messages.proofs.GoodLemmas.{good_behind, good_front, good_rest, whole_parts}
 use Rattle.hex_messages.proofs.ValueLemmas.{last_append}
-use Rattle.hex_messages.proofs.OneReading.{one_fields, merged_good}
+use Rattle.hex_messages.proofs.OneReading.{one_fields}
 use Rattle.hex_messages.proofs.FindLemmas.{behind, found_at}
 
 -- what two lists of fields merge into

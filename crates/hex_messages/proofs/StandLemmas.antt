@@ -1,25 +1,23 @@
 -- What a message without a fault stands for.
-use Rattle.std.proofs.Common.{◌≡◌, ℕ, ◌≤◌, Bool, true, false, ◌&&◌, not, cond, eqb, Option, Some, None, List, [], ◌∷◌, refl, sym, ap, ◌∙◌, subst, arith}
+use Rattle.std.proofs.Common.{◌≡◌, ℕ, ◌≤◌, Bool, true, false, ◌&&◌, not, cond, eqb, Option, Some, None, List, [], ◌∷◌, refl, sym, ap, ◌∙◌, subst}
 use Rattle.std.specs.Prelude.{is_some}
 use Rattle.std.proofs.lemmas.Bool.{eqb-true}
 use Rattle.hex_messages.specs.declared.error.FieldName.{FieldName}
 use Rattle.hex_messages.specs.declared.error.FieldName.TheVariants as name
 use Rattle.hex_messages.specs.declared.message.Message.{Message}
 use Rattle.hex_messages.specs.declared.message.Message.TheVariants as message
-use Rattle.hex_messages.specs.declared.package.Package.{Package}
 use Rattle.hex_messages.specs.declared.package.Release.{Release}
 use Rattle.hex_messages.specs.declared.package.Dependency.{Dependency}
 use Rattle.hex_messages.specs.declared.package.Retired.{Retired}
-use Rattle.hex_messages.specs.declared.package.Reason.{Reason as Cause}
 use Rattle.hex_messages.specs.declared.schema.Kind.{Kind}
 use Rattle.hex_messages.specs.declared.schema.Kind.TheVariants.{Reason}
 use Rattle.hex_messages.specs.declared.schema.Known.{Known}
 use Rattle.hex_messages.specs.Fields.{Payload, Varint, Length, Field, Fields, wire_type}
 use Rattle.hex_messages.specs.Schema.{field_at, retired_number}
-use Rattle.hex_messages.specs.Good.{AllGood, IsOf, IsWhole, Merged, Misses, has, absent_in}
+use Rattle.hex_messages.specs.Good.{AllGood, IsOf, IsWhole, Merged, has, absent_in}
 use Rattle.hex_messages.specs.Stands.{later, all_bytes, last_bytes, last_number, is_set, reason_number, Each, StandsRetired, StandsRetirement, StandsDependency, StandsRelease, Stands}
 use Rattle.hex_messages.specs.Finding.{InFields, InMerged, HasWire, last_value}
-use Rattle.hex_messages.proofs.GoodLemmas.{good_first, good_rest, kind_at, reason_inv, Whole, whole_parts}
+use Rattle.hex_messages.proofs.GoodLemmas.{good_first, good_rest, kind_at, reason_inv, whole_parts}
 use Rattle.hex_messages.proofs.ValueLemmas.{bytes_agree, AgreesBytes, number_agree, AgreesNumber, has_value}
 use Rattle.hex_messages.proofs.OneReading.{one_fields, merged_good}
 use Rattle.hex_messages.proofs.Apart.{one_merged}
@@ -35,21 +33,21 @@ all_there : (a b c : Bool) (x y z : FieldName) → cond a (Some z) (cond b (cond
 all_there true b c x y z e = absurd cc
 all_there false b c x y z e = let p = both_there b c x y e in (refl, p.0, p.1)
 
-dependency_there : {text : List ℕ} {fields : List Field} → IsWhole message.Dependency text → Fields text fields → (has 1 fields ≡ true) × (has 2 fields ≡ true)
+pub dependency_there : {text : List ℕ} {fields : List Field} → IsWhole message.Dependency text → Fields text fields → (has 1 fields ≡ true) × (has 2 fields ≡ true)
 dependency_there {fields = fields} w s =
     let p = whole_parts w in
     let m = p.misses in
     let e : absent_in message.Dependency m.merged fields ≡ None = ap (absent_in message.Dependency m.merged) (one_fields fields p.fields s p.spelled) ∙ m.answers in
     both_there (has 1 fields) (has 2 fields) name.Package name.Requirement e
 
-package_there : {text : List ℕ} {fields : List Field} → IsWhole message.Package text → Fields text fields → (has 2 fields ≡ true) × (has 3 fields ≡ true)
+pub package_there : {text : List ℕ} {fields : List Field} → IsWhole message.Package text → Fields text fields → (has 2 fields ≡ true) × (has 3 fields ≡ true)
 package_there {fields = fields} w s =
     let p = whole_parts w in
     let m = p.misses in
     let e : absent_in message.Package m.merged fields ≡ None = ap (absent_in message.Package m.merged) (one_fields fields p.fields s p.spelled) ∙ m.answers in
     both_there (has 2 fields) (has 3 fields) name.Name name.Repository e
 
-release_there : {text : List ℕ} {fields merged : List Field} → IsWhole message.Release text → Fields text fields → Merged fields merged → ((has 4 fields && not (has 1 merged)) ≡ false) × (has 1 fields ≡ true) × (has 2 fields ≡ true)
+pub release_there : {text : List ℕ} {fields merged : List Field} → IsWhole message.Release text → Fields text fields → Merged fields merged → ((has 4 fields && not (has 1 merged)) ≡ false) × (has 1 fields ≡ true) × (has 2 fields ≡ true)
 release_there {fields = fields} {merged = merged} w s h =
     let p = whole_parts w in
     let m = p.misses in
@@ -109,7 +107,7 @@ kind_step true k q p None here more e = let same : q ≡ p = cc in subst (λ x. 
 kind_step false k q p None here more e = absurd cc
 
 -- the last value with a known number is of its kind
-last_kind : {m : Message} (n : ℕ) (k : Known) (fields : List Field) (p : Payload) → field_at m n ≡ Some k → AllGood m fields → last_value n fields ≡ Some p → IsOf k.kind p
+pub last_kind : {m : Message} (n : ℕ) (k : Known) (fields : List Field) (p : Payload) → field_at m n ≡ Some k → AllGood m fields → last_value n fields ≡ Some p → IsOf k.kind p
 last_kind n k [] p at g e = absurd cc
 last_kind {m = m} n k (f ∷ fields) p at g e =
     kind_step (eqb f.number n) k.kind f.payload p (last_value n fields)

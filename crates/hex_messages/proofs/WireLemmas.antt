@@ -12,7 +12,7 @@ use Rattle.hex_messages.specs.Faults.{VarintFault, ValueFault, bytes, IsKey, IsO
 use Rattle.hex_messages.specs.Reading.{BeginsVarint, BeginsKey, BeginsValue, BeginsField}
 
 -- a key with its number and its wire type apart
-key_parts : (n number code : ℕ) → number ≡ n / 8 → code ≡ n % 8 → number * 8 + code ≡ n
+pub key_parts : (n number code : ℕ) → number ≡ n / 8 → code ≡ n % 8 → number * 8 + code ≡ n
 key_parts n number code a b = let q : n ≡ 8 * (n / 8) + n % 8 = omega arith in omega arith
 
 pub bad_key_at : (text rest : List ℕ) (n : ℕ) → BeginsVarint text n rest → (IsKey (n / 8) (n % 8) → ⊥) → (m : Message) → FieldFault m text 0 BadKey

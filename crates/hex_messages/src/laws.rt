@@ -1,5 +1,5 @@
 // What holds of the definitions, of all bytes and packages.
-ghost use Rattle.std.specs.Prelude.{◌≡◌, ℕ, List};
+ghost use Rattle.std.specs.Prelude.{◌≡◌, ◌⊎◌, ℕ, List};
 ghost use Rattle.hex_messages.specs.declared.error.WireCause.{WireCause};
 ghost use Rattle.hex_messages.specs.declared.message.Message.TheVariants as message;
 ghost use Rattle.hex_messages.specs.declared.package.Package.{Package};
@@ -30,4 +30,9 @@ pub fn one_spelling()
 /// Bytes have one first fault.
 pub fn one_fault()
     ensures { (bytes : List ℕ) (at other : ℕ) (cause another : WireCause) → Fault message.Package bytes at cause → Fault message.Package bytes other another → (at ≡ other) × (cause ≡ another) }
+{}
+
+/// Bytes stand for a package, or have a first fault.
+pub fn each_stands_or_fails()
+    ensures { (bytes : List ℕ) → ((whole : Package) × Stands bytes whole) ⊎ ((at : ℕ) × (cause : WireCause) × Fault message.Package bytes at cause) }
 {}

@@ -15,7 +15,9 @@ mod wire;
 mod writer;
 
 pub use error::{FieldName, WireCause, WireError};
-pub use laws::{faults_stand_apart, one_fault, one_package, one_spelling, written_reads};
+pub use laws::{
+    each_stands_or_fails, faults_stand_apart, one_fault, one_package, one_spelling, written_reads,
+};
 pub use message::Message;
 pub use package::{Dependencies, Dependency, Package, Reason, Release, Releases, Retired};
 pub use reader::read_package;

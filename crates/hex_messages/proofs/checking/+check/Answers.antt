@@ -1,11 +1,9 @@
-use Rattle.std.proofs.Common.{◌≡◌, ◌+◌, ◌-◌, ◌*◌, ◌<◌, length, refl, sym, ap, ◌∙◌, ⊎_elim, arith}
+use Rattle.std.proofs.Common.{◌+◌, ◌-◌, ◌<◌, length, refl, ap, ◌∙◌, ⊎_elim, arith}
 use Rattle.std.proofs.lemmas.Result.{err_from_is_err_and, on_ok_weaker, IfErr-weaker}
-use Rattle.hex_messages.specs.Fields.{wire_type}
-use Rattle.hex_messages.specs.Good.{AllGood, IsWhole}
 use Rattle.hex_messages.specs.Schema.{wire_of}
-use Rattle.hex_messages.specs.Reading.{payload_of, field_of}
+use Rattle.hex_messages.specs.Reading.{field_of}
 use Rattle.hex_messages.specs.Checking.{FaultFrom, BlamesField}
-use Rattle.hex_messages.proofs.CheckLemmas.{depth, checked_start, checked_on, checked_whole, checked_missing, checked_faults, placed, field_faults, own_is, good_unknown, good_bytes, good_truth, good_text, good_reason, good_inner, text_refused, reason_refused, inner_refused, deeper}
+use Rattle.hex_messages.proofs.CheckLemmas.{depth, checked_start, checked_on, checked_whole, checked_missing, checked_faults, field_faults, own_is, good_unknown, good_bytes, good_truth, good_text, good_reason, good_inner, text_refused, reason_refused, inner_refused, deeper}
 use Rattle.hex_messages.proofs.FindLemmas.{no_bytes}
 use Rattle.hex_messages.proofs.checking.+check.Goals as goal
 

@@ -1,5 +1,4 @@
 use Rattle.std.proofs.lemmas.Result.{err_from_is_err_and}
-use Rattle.hex_messages.specs.declared.error.WireCause.TheVariants.{OutOfMemory}
 use Rattle.hex_messages.proofs.CheckLemmas.{never_memory}
 use Rattle.hex_messages.proofs.reader.read_package.Goals as goal
 
