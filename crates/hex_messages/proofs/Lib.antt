@@ -11,8 +11,10 @@ pub mod CheckLemmas
 pub mod BuildLemmas
 pub mod StandLemmas
 pub mod OnePackage
+pub mod EarlyFaults
 pub mod OneFault
 pub mod WriteLemmas
+pub mod WrittenFields
 pub mod WrittenReads
 pub mod OneSpelling
 pub mod DecideField

@@ -26,7 +26,8 @@ pub(crate) fn package_of(alloc: Global, text: &[u8]) -> Result<Package, AllocErr
 
 fn releases_of(alloc: Global, text: &[u8]) -> Result<Releases, AllocError>
     requires { IsWhole message.Package text.now }
-    ensures { IfOk result (λ releases. InFields message.Package text.now (λ fields. Each StandsRelease (all_bytes 1 fields) releases)) }
+    ensures { IfOk result (λ releases. InFields message.Package text.now (λ fields.
+        Each StandsRelease (all_bytes 1 fields) releases)) }
 {
     let mut releases = ListOf::new(alloc);
     let mut rest = text;
@@ -52,7 +53,8 @@ fn release_of(alloc: Global, text: &[u8]) -> Result<Release, AllocError>
 
 fn dependencies_of(alloc: Global, text: &[u8]) -> Result<Dependencies, AllocError>
     requires { IsWhole message.Release text.now }
-    ensures { IfOk result (λ dependencies. InFields message.Release text.now (λ fields. Each StandsDependency (all_bytes 3 fields) dependencies)) }
+    ensures { IfOk result (λ dependencies. InFields message.Release text.now (λ fields.
+        Each StandsDependency (all_bytes 3 fields) dependencies)) }
 {
     let mut dependencies = ListOf::new(alloc);
     let mut rest = text;
@@ -78,7 +80,8 @@ fn dependency_of(alloc: Global, text: &[u8]) -> Result<Dependency, AllocError>
 
 /// Whether a dependency is optional.
 fn is_optional(text: &[u8]) -> bool
-    ensures { InFields message.Dependency text.now (λ fields. result ≡ is_set (last_number 3 fields)) }
+    ensures { InFields message.Dependency text.now (λ fields.
+        result ≡ is_set (last_number 3 fields)) }
 {
     match last(Message::Dependency, 3, text) {
         Some(value) => value.varint() != 0,
@@ -89,7 +92,8 @@ fn is_optional(text: &[u8]) -> bool
 /// The merged retirement of a release, where there is one.
 fn retired_of(alloc: Global, text: &[u8]) -> Result<Option<Retired>, AllocError>
     requires { IsWhole message.Release text.now }
-    ensures { IfOk result (λ retired. InMerged text.now (λ fields merged. StandsRetirement (has retired_number fields) merged retired)) }
+    ensures { IfOk result (λ retired. InMerged text.now (λ fields merged.
+        StandsRetirement (has retired_number fields) merged retired)) }
 {
     let Some(reason) = last_merged(1, text) else {
         return Ok(None);
@@ -116,7 +120,8 @@ fn reason_of(number: u64) -> Reason
 /// The bytes of a field that is not absent.
 fn required(message: Message, number: u64, text: &[u8]) -> &[u8]
     requires { HasWire message number 2 }
-    ensures { InFields message text.now (λ fields. has number fields ≡ true → last_bytes number fields ≡ Some result.now) }
+    ensures { InFields message text.now (λ fields. has number fields ≡ true
+        → last_bytes number fields ≡ Some result.now) }
 {
     match last(message, number, text) {
         Some(value) => value.bytes(),
@@ -127,7 +132,8 @@ fn required(message: Message, number: u64, text: &[u8]) -> &[u8]
 /// The bytes of a field that may be absent.
 fn given(message: Message, number: u64, text: &[u8]) -> Option<&[u8]>
     requires { HasWire message number 2 }
-    ensures { InFields message text.now (λ fields. option_map (λ b. b.now) result ≡ last_bytes number fields) }
+    ensures { InFields message text.now (λ fields.
+        option_map (λ b. b.now) result ≡ last_bytes number fields) }
 {
     match last(message, number, text) {
         Some(value) => Some(value.bytes()),
@@ -138,7 +144,8 @@ fn given(message: Message, number: u64, text: &[u8]) -> Option<&[u8]>
 /// The same of a field of the merged retirement of a release.
 fn given_merged(number: u64, text: &[u8]) -> Option<&[u8]>
     requires { HasWire message.Retired number 2 }
-    ensures { InMerged text.now (λ fields merged. option_map (λ b. b.now) result ≡ last_bytes number merged) }
+    ensures { InMerged text.now (λ fields merged.
+        option_map (λ b. b.now) result ≡ last_bytes number merged) }
 {
     match last_merged(number, text) {
         Some(value) => Some(value.bytes()),

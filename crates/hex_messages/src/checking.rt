@@ -44,7 +44,8 @@ pub(crate) fn check_message(message: Message, start: u64, text: &[u8]) -> Result
 /// Finds the first fault of a field that is spelled in full.
 #[cycle(check)]
 fn check_field(message: Message, wire: &Wire<'_>) -> Result<(), WireError>
-    requires own { IsOwnWire (field_at message wire.now.number) (wire_type (payload_of wire.now.value)) }
+    requires own { IsOwnWire (field_at message wire.now.number)
+        (wire_type (payload_of wire.now.value)) }
     requires placed { IsPlaced wire.now }
     ensures good { OnOk result (AllGood message (field_of wire.now ∷ [])) }
     ensures refused { IfErr result (λ error. BlamesField message wire.now error) }
@@ -104,7 +105,8 @@ fn missing(message: Message, text: &[u8]) -> Option<FieldName>
 
 /// The name of the field with this number, where it is absent.
 fn absent(message: Message, number: u64, name: FieldName, text: &[u8]) -> Option<FieldName>
-    ensures { InFields message text.now (λ fields. result ≡ (if has number fields then None else Some name)) }
+    ensures { InFields message text.now (λ fields.
+        result ≡ (if has number fields then None else Some name)) }
 {
     match find(message, number, text) {
         Some(_) => None,
@@ -114,7 +116,9 @@ fn absent(message: Message, number: u64, name: FieldName, text: &[u8]) -> Option
 
 /// The name of a reason, where the merged retirement of a release has none.
 fn lost_reason(text: &[u8]) -> Option<FieldName>
-    ensures { InMerged text.now (λ fields merged. result ≡ (if has retired_number fields && not (has 1 merged) then Some FieldName.Reason else None)) }
+    ensures { InMerged text.now (λ fields merged. result
+        ≡ (if has retired_number fields && not (has 1 merged) then Some FieldName.Reason
+        else None)) }
 {
     match (find(Message::Release, RETIRED, text), last_merged(1, text)) {
         (Some(_), None) => Some(FieldName::Reason),

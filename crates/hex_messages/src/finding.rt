@@ -10,7 +10,8 @@ use crate::wire::{Value, split_field};
 
 /// The value of the first field with this number, and what follows it.
 pub(crate) fn find(message: Message, number: u64, text: &[u8]) -> Option<(Value<'_>, &[u8])>
-    ensures { MatchOption result (InFields message text.now (λ fields. has number fields ≡ false)) (λ found. Finds number text.now (payload_of found.0) found.1.now) }
+    ensures { MatchOption result (InFields message text.now (λ fields. has number fields ≡ false))
+        (λ found. Finds number text.now (payload_of found.0) found.1.now) }
 {
     let mut rest = text;
     while !rest.is_empty() {
@@ -27,7 +28,8 @@ pub(crate) fn find(message: Message, number: u64, text: &[u8]) -> Option<(Value<
 
 /// The value of the last field with this number.
 pub(crate) fn last(message: Message, number: u64, text: &[u8]) -> Option<Value<'_>>
-    ensures { InFields message text.now (λ fields. option_map payload_of result ≡ last_value number fields) }
+    ensures { InFields message text.now (λ fields.
+        option_map payload_of result ≡ last_value number fields) }
 {
     let mut found = None;
     let mut rest = text;
@@ -40,7 +42,8 @@ pub(crate) fn last(message: Message, number: u64, text: &[u8]) -> Option<Value<'
 
 /// The value of the last field with this number in the merged retirement of a release.
 pub(crate) fn last_merged(number: u64, text: &[u8]) -> Option<Value<'_>>
-    ensures { InMerged text.now (λ fields merged. option_map payload_of result ≡ last_value number merged) }
+    ensures { InMerged text.now (λ fields merged.
+        option_map payload_of result ≡ last_value number merged) }
 {
     let mut found = None;
     let mut rest = text;

@@ -24,7 +24,8 @@ use std::alloc::Global;
 pub fn read_package(alloc: Global, bytes: &[u8]) -> Result<Package, WireError>
     ensures read { IfOk result (λ whole. Stands bytes.now whole) }
     ensures refused { IfErr result (λ error. IsFirstFault bytes.now error) }
-    ensures memory { IfErr result (λ error. error.cause ≡ OutOfMemory → IsWhole message.Package bytes.now) }
+    ensures memory { IfErr result (λ error. error.cause ≡ OutOfMemory
+        → IsWhole message.Package bytes.now) }
 {
     check_message(Message::Package, 0, bytes)?;
     Ok(package_of(alloc, bytes)?)

@@ -64,7 +64,8 @@ impl<'a> Wire<'a> {
         ensures ends { result.0 + length result.1.now ≡ self.now.end }
         ensures after { self.now.at ≤ result.0 }
         ensures fits { result.0 + length result.1.now < 2 ^ 64 }
-        ensures value { wire_type (payload_of self.now.value) ≡ 2 → payload_of self.now.value ≡ Length result.1.now }
+        ensures value { wire_type (payload_of self.now.value) ≡ 2
+            → payload_of self.now.value ≡ Length result.1.now }
     {
         let end = self.end;
         match self.value {
@@ -77,7 +78,8 @@ impl<'a> Wire<'a> {
 /// The key that a text begins with, and the text after it.
 fn split_key(text: &[u8]) -> Result<(u64, WireType, &[u8]), WireCause>
     ensures read { IfOk result (λ key. BeginsKey text.now key.0 (wire_code key.1) key.2.now) }
-    ensures refused { IfErr result (λ cause. (m : Message) → text.now ≢ [] → FieldFault m text.now 0 cause) }
+    ensures refused { IfErr result (λ cause.
+        (m : Message) → text.now ≢ [] → FieldFault m text.now 0 cause) }
 {
     let (key, rest) = split_varint(text)?;
     let number = key / 8;
@@ -89,7 +91,8 @@ fn split_key(text: &[u8]) -> Result<(u64, WireType, &[u8]), WireCause>
 
 /// The value of the wire type that a text begins with, and the text after it.
 fn split_value(wire: WireType, text: &[u8]) -> Result<(Value<'_>, &[u8]), WireCause>
-    ensures read { IfOk result (λ split. BeginsValue text.now (wire_code wire) (payload_of split.0) split.1.now) }
+    ensures read { IfOk result (λ split.
+        BeginsValue text.now (wire_code wire) (payload_of split.0) split.1.now) }
     ensures refused { IfErr result (λ cause. ValueFault (wire_code wire) text.now cause) }
 {
     match wire {
@@ -134,7 +137,8 @@ pub(crate) fn split_field(
 ) -> Result<(Wire<'_>, &[u8]), WireCause>
     requires some { text.now ≢ [] }
     requires within { at + length text.now < 2 ^ 64 }
-    ensures read { IfOk result (λ split. BeginsField message text.now (field_of split.0) split.1.now) }
+    ensures read { IfOk result (λ split.
+        BeginsField message text.now (field_of split.0) split.1.now) }
     ensures at { IfOk result (λ split. split.0.at ≡ at) }
     ensures end { IfOk result (λ split. split.0.end + length split.1.now ≡ at + length text.now) }
     ensures refused { IfErr result (λ cause. FieldFault message text.now 0 cause) }

@@ -51,7 +51,8 @@ fn push_dependencies(
     out: &mut Vec<u8>,
     dependencies: &[Dependency],
 ) -> Result<(), AllocError>
-    ensures { OnOk result (AppendsEach WritesDependency 3 out.old.items out.new.items dependencies.now) }
+    ensures { OnOk result (AppendsEach WritesDependency 3 out.old.items out.new.items
+        dependencies.now) }
 {
     for dependency in dependencies {
         let bytes = dependency_bytes(alloc, dependency)?;
@@ -172,7 +173,8 @@ fn push_bytes(out: &mut Vec<u8>, number: u8, bytes: &[u8]) -> Result<(), AllocEr
 fn push_number(out: &mut Vec<u8>, number: u8, value: u64) -> Result<(), AllocError>
     requires least { 1 ≤ number }
     requires most { number ≤ 15 }
-    ensures { OnOk result (Appends out.old.items out.new.items (record { number = number; payload = Varint value } ∷ [])) }
+    ensures { OnOk result (Appends out.old.items out.new.items
+        (record { number = number; payload = Varint value } ∷ [])) }
 {
     out.push(number * 8)?;
     push_varint(out, value)?;
