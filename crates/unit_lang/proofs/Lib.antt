@@ -14,3 +14,5 @@ pub mod HeadLemmas
 pub mod Outcomes
 pub mod FileOutcomes
 pub mod Apart
+pub mod OneFault
+pub mod Answered
