@@ -21,7 +21,8 @@ use Rattle.unit_lang.specs.Spells.{Spells, Makes, Body, lines_of, longest_line, 
 use Rattle.unit_lang.specs.Tokens.{without_blanks, without_comment}
 use Rattle.unit_lang.proofs.FileLemmas.{some_lines, unitless_or}
 use Rattle.unit_lang.proofs.HeadLemmas.{unit_line_or}
-use Rattle.unit_lang.proofs.LineLemmas.{Reached, reached_first, reached_next, NoMore, deep_line, great_fault, bad_fault, line_says}
+use Rattle.unit_lang.proofs.LineLemmas.{deep_line, great_fault, bad_fault, line_says}
+use Rattle.unit_lang.proofs.Reached.{Reached, reached_first, reached_next, NoMore}
 use Rattle.unit_lang.proofs.Outcomes.{lex_none, plain_of, warn_bad, warn_says}
 use Rattle.unit_lang.proofs.TokenLemmas.{first_shorter, some_pair}
 use Rattle.unit_lang.proofs.WarnLemmas.{blank_line_is, is_blank_line, is_warning, no_warning}

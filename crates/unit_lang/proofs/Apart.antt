@@ -20,7 +20,8 @@ use Rattle.unit_lang.specs.Machine.{step}
 use Rattle.unit_lang.specs.Names.{are_digits}
 use Rattle.unit_lang.specs.Spells.{Spells, Makes, Body, longest_line, longest_file}
 use Rattle.unit_lang.specs.Tokens.{without_comment}
-use Rattle.unit_lang.proofs.LineLemmas.{NoMore, reached_first, no_deep, no_great, dot_no_digits, digits_all}
+use Rattle.unit_lang.proofs.LineLemmas.{no_deep, no_great, dot_no_digits, digits_all}
+use Rattle.unit_lang.proofs.Reached.{NoMore, reached_first}
 use Rattle.unit_lang.proofs.Meaning.{Wants, WantsNext}
 use Rattle.unit_lang.proofs.OneLemmas.{blank_says_nothing, blank_names_nothing}
 use Rattle.unit_lang.proofs.StepForth.{step_forth}

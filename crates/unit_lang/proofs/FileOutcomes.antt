@@ -1,11 +1,11 @@
 -- What the reader of a file answers.
-use Rattle.std.proofs.Common.{◌≡◌, ℕ, suc, ◌+◌, ◌<◌, ◌≤◌, List, [], ◌∷◌, ◌++◌, Option, Some, None, Result, Ok, Err, length, take, drop, refl, sym, ap, ◌∙◌, subst, inl, inr}
+use Rattle.std.proofs.Common.{◌≡◌, ℕ, suc, ◌<◌, ◌≤◌, List, [], ◌∷◌, ◌++◌, Option, Some, None, Result, Ok, Err, length, take, drop, refl, sym, ap, ◌∙◌, subst, inl, inr}
 use Rattle.std.specs.Prelude.{◌⊎◌}
 use Rattle.std.specs.Result.{MatchResult, IfErr}
 use Rattle.mx_base.specs.Blame.{Answers}
-use Rattle.mx_base.specs.Blame.Blame.{Input, Memory}
+use Rattle.mx_base.specs.Blame.Blame.{Memory}
 use Rattle.unit_lang.specs.declared.error.UnitCause.{UnitCause}
-use Rattle.unit_lang.specs.declared.error.UnitCause.TheVariants.{TooLong, OutOfMemory}
+use Rattle.unit_lang.specs.declared.error.UnitCause.TheVariants.{TooLong}
 use Rattle.unit_lang.specs.declared.error.UnitError.{UnitError}
 use Rattle.unit_lang.specs.declared.unit.Line.{Line}
 use Rattle.unit_lang.specs.declared.unit.Statement.{Statement}
@@ -16,7 +16,7 @@ use Rattle.unit_lang.specs.Gives.{FaultsAs}
 use Rattle.unit_lang.specs.Lexing.{line_len, rest_of, lines_after}
 use Rattle.unit_lang.specs.Lines.{IsBlankLine, IsUnitLine, Names, Says}
 use Rattle.unit_lang.specs.Reading.{BodyFaultAs, Follows, Hears, HearsFault, Refuses}
-use Rattle.unit_lang.specs.Spells.{Spells, Makes, Body, lines_of, longest_line, longest_file}
+use Rattle.unit_lang.specs.Spells.{Makes, Body, lines_of, longest_line, longest_file}
 use Rattle.unit_lang.proofs.FileLemmas.{first_line_is, Heard, heard_blank, heard_says, heard_fault, Sought, refused_fault}
 
 -- a text cut at the end of its first line

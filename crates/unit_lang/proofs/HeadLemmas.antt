@@ -1,12 +1,12 @@
 -- The name in a `unit` line.
-use Rattle.std.proofs.Common.{◌≡◌, ℕ, ◌<◌, ◌&&◌, ◌++◌, Bool, true, false, List, [], ◌∷◌, Option, Some, None, cond, eqb, take, drop, length, codes, bytes_eq, refl, sym, ap, ◌∙◌, subst, append_assoc, inl, inr, arith, lit<}
+use Rattle.std.proofs.Common.{◌≡◌, ℕ, ◌<◌, ◌&&◌, ◌++◌, Bool, true, false, List, [], ◌∷◌, Option, Some, None, cond, eqb, take, drop, length, codes, bytes_eq, refl, sym, ap, ◌∙◌, subst, inl, inr, arith, lit<}
 use Rattle.std.specs.Prelude.{◌⊎◌, ◌↔◌, MatchOption, is_some, option_map}
 use Rattle.std.specs.List.{list_all}
 use Rattle.std.proofs.lemmas.Bool.{and_parts, eqb-true, false≢true}
 use Rattle.std.proofs.lemmas.List.{take_at, drop_at, take-append-drop, nil_from_length}
 use Rattle.std.proofs.lemmas.Slice.Eq.{bytes_eq-Decides}
 use Rattle.unit_lang.specs.declared.token.Token.{Token}
-use Rattle.unit_lang.specs.declared.token.Token.TheVariants.{Word, Equals, Plus, Minus, Star, Open, Close}
+use Rattle.unit_lang.specs.declared.token.Token.TheVariants.{Word}
 use Rattle.unit_lang.specs.Lexing.{first_token, word_len, front_word, after_word, name_alone, title_of}
 use Rattle.unit_lang.specs.Lines.{IsUnitLine, IsWarnLine, Names}
 use Rattle.unit_lang.specs.Names.{is_name, is_word_byte}

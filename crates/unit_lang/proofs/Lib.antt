@@ -6,6 +6,7 @@ pub mod StepBack
 pub mod Ends
 pub mod Steps
 pub mod TokenLemmas
+pub mod Reached
 pub mod LineLemmas
 pub mod WarnLemmas
 pub mod FileLemmas

@@ -1,5 +1,5 @@
 -- No text has two first faults.
-use Rattle.std.proofs.Common.{◌≡◌, ℕ, List, ◌∷◌, length, refl}
+use Rattle.std.proofs.Common.{◌≡◌, ℕ, List, length, refl}
 use Rattle.unit_lang.specs.declared.error.UnitCause.{UnitCause}
 use Rattle.unit_lang.specs.Faults.{LineFault, HeadingFault, BodyFault, FileFault, UnitlessFault, FirstFault}
 use Rattle.unit_lang.specs.Spells.{longest_line, longest_file}

@@ -19,7 +19,8 @@ use Rattle.unit_lang.specs.Machine.{step, finished}
 use Rattle.unit_lang.specs.Progress.{Advances, Stops, memory, stuck, deep, FinishesAs}
 use Rattle.unit_lang.specs.Spells.{longest_line}
 use Rattle.unit_lang.specs.Tokens.{without_blanks, without_comment}
-use Rattle.unit_lang.proofs.LineLemmas.{Reached, reached_next, NoMore, deep_line, bad_fault, great_fault, line_says, empty_is}
+use Rattle.unit_lang.proofs.LineLemmas.{deep_line, bad_fault, great_fault, line_says}
+use Rattle.unit_lang.proofs.Reached.{Reached, reached_next, NoMore, empty_is}
 use Rattle.unit_lang.proofs.TokenLemmas.{some_pair}
 use Rattle.unit_lang.proofs.WarnLemmas.{starts_warn, no_warn, warns, warning_of, warn_rest_one, is_blank_line, blank_line_is, no_warning}
 

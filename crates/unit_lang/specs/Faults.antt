@@ -1,5 +1,5 @@
 -- The first fault of a text that spells no unit.
-use Rattle.std.specs.Prelude.{◌≡◌, ℕ, suc, ◌+◌, ◌<◌, ◌≤◌, List, [], ◌∷◌, ◌++◌, length, IsTrue, Result, Ok, Err}
+use Rattle.std.specs.Prelude.{ℕ, suc, ◌<◌, ◌≤◌, List, [], ◌∷◌, ◌++◌, length, IsTrue, Result, Ok, Err}
 use Rattle.std.specs.List.{AllByRecursion}
 use Rattle.std.specs.Str.Parse.{digits_value}
 use Rattle.unit_lang.specs.declared.error.UnitCause.{UnitCause}
@@ -96,6 +96,7 @@ pub data IsHeaded : List (List ℕ) → Type 0 where
   heading : {line : List ℕ} {lines : List (List ℕ)} → length line ≤ longest_line → IsUnitLine line → IsHeaded (line ∷ lines)
   blank : {line : List ℕ} {lines : List (List ℕ)} → length line ≤ longest_line → IsBlankLine line → IsHeaded lines → IsHeaded (line ∷ lines)
 
+-- a file that isn't too long, of such lines
 pub record HasHeading (text : List ℕ) : Type 0 where
   pub short : length text ≤ longest_file
   pub headed : IsHeaded (lines_of text)

@@ -3,7 +3,7 @@ ghost use Rattle.std.specs.Prelude.{◌≡◌, Some, IfOk};
 ghost use Rattle.std.specs.Option.{option_copied};
 ghost use Rattle.unit_lang.specs.Gives.{Gives};
 ghost use Rattle.unit_lang.specs.Machine.{at_start, at_use, at_let, at_named, at_export, at_factor, at_operator, at_settled, after_factor, step, settled, is_minus, whole, whole_settled, finished, depth};
-ghost use Rattle.unit_lang.specs.declared.token.Token.TheVariants.{Close, Word};
+ghost use Rattle.unit_lang.specs.declared.token.Token.TheVariants.{Close, Minus, Open, Word};
 
 use crate::bytes::is_name;
 use crate::error::UnitCause;
@@ -182,33 +182,67 @@ fn at_factor(
     alloc: Global,
     name: Text,
     level: Level,
-    mut holes: Stack<Hole>,
+    holes: Stack<Hole>,
     token: Token,
 ) -> Result<State, UnitCause>
     ensures { Gives result (at_factor name level holes token) }
 {
     match token {
-        Token::Minus => {
-            holes.push(Hole::Minus)?;
-            Ok(State::Factor { name, level, holes })
-        }
-        Token::Open => {
-            holes.push(Hole::Parenthesis(level))?;
-            Ok(State::Factor {
-                name,
-                level: Level::fresh(),
-                holes,
-            })
-        }
-        Token::Word(word) => Ok(State::Operator {
-            name,
-            level,
-            factor: boxed_operand(alloc, word)?,
-            holes,
-        }),
+        Token::Minus => after_minus(name, level, holes),
+        Token::Open => after_open(name, level, holes),
+        Token::Word(word) => after_word(alloc, name, level, holes, word),
         _ => {
             drop(level);
             Err(UnitCause::BadLine)
+        }
+    }
+}
+
+/// A minus sign opens where a factor is wanted.
+fn after_minus(name: Text, level: Level, mut holes: Stack<Hole>) -> Result<State, UnitCause>
+    ensures { Gives result (at_factor name level holes Minus) }
+{
+    match holes.push(Hole::Minus) {
+        Ok(()) => Ok(State::Factor { name, level, holes }),
+        Err(_) => {
+            drop(level);
+            Err(UnitCause::OutOfMemory)
+        }
+    }
+}
+
+/// A parenthesis opens where a factor is wanted.
+fn after_open(name: Text, level: Level, mut holes: Stack<Hole>) -> Result<State, UnitCause>
+    ensures { Gives result (at_factor name level holes Open) }
+{
+    holes.push(Hole::Parenthesis(level))?;
+    Ok(State::Factor {
+        name,
+        level: Level::fresh(),
+        holes,
+    })
+}
+
+/// A word stands where a factor is wanted.
+fn after_word(
+    alloc: Global,
+    name: Text,
+    level: Level,
+    holes: Stack<Hole>,
+    word: Text,
+) -> Result<State, UnitCause>
+    ensures { Gives result (at_factor name level holes (Word word)) }
+{
+    match boxed_operand(alloc, word) {
+        Ok(factor) => Ok(State::Operator {
+            name,
+            level,
+            factor,
+            holes,
+        }),
+        Err(cause) => {
+            drop(level);
+            Err(cause)
         }
     }
 }

@@ -2,7 +2,7 @@ use Rattle.std.proofs.Common.{sym, ◌∙◌, ap, arith, subst}
 use Rattle.std.proofs.lemmas.Result.{err_from_is_err_and}
 use Rattle.unit_lang.specs.declared.progress.Progress.{Progress}
 use Rattle.unit_lang.specs.Tokens.{without_blanks, without_comment}
-use Rattle.unit_lang.proofs.LineLemmas.{Reached, reached_first, empty_is, more_is}
+use Rattle.unit_lang.proofs.Reached.{Reached, reached_first, empty_is, more_is}
 use Rattle.unit_lang.proofs.Outcomes.{lex_fault, stop_fault, reached_advance, finish_outcome}
 use Rattle.unit_lang.proofs.TokenLemmas.{first_shorter}
 use Rattle.unit_lang.proofs.line.said.Goals as goal

@@ -1,4 +1,4 @@
-use Rattle.std.proofs.Common.{◌+◌, arith, subst, refl}
+use Rattle.std.proofs.Common.{◌+◌, arith, subst}
 use Rattle.unit_lang.specs.declared.error.UnitCause.TheVariants.{TooLong, NoUnit}
 use Rattle.unit_lang.specs.Faults.{HeadingFault, FirstFault}
 use Rattle.unit_lang.proofs.FileLemmas.{Sought, sought_first, sought_next, blank_fault}
