@@ -3,7 +3,8 @@
 use std::alloc::{AllocError, Global};
 use std::test::Fail;
 use unit_lang::{
-    Expression, Line, Statement, Unit, UnitCause, faults_stand_apart, one_unit, parse_unit,
+    Expression, Line, Statement, Unit, UnitCause, UnitError, faults_stand_apart, one_fault,
+    one_unit, parse_unit,
 };
 
 /// The expression on one line, each operation before its sides, a blank before each part.
@@ -118,14 +119,26 @@ fn repeated(alloc: Global, text: &[u8], times: usize) -> Result<Vec<u8>, AllocEr
     Ok(out)
 }
 
+/// The name of a cause.
+fn name_of(cause: UnitCause) -> &'static str {
+    match cause {
+        UnitCause::TooLong => "TooLong",
+        UnitCause::NoUnit => "NoUnit",
+        UnitCause::TooDeep => "TooDeep",
+        UnitCause::NumberTooBig => "NumberTooBig",
+        UnitCause::BadLine => "BadLine",
+        UnitCause::OutOfMemory => "OutOfMemory",
+    }
+}
+
 /// What the text is read as: the unit, or the line and the name of its fault.
 fn read(alloc: Global, text: &[u8]) -> Result<Vec<u8>, AllocError> {
     match parse_unit(alloc, text) {
         Ok(unit) => show_unit(alloc, unit),
         Err(error) => {
             let line = error.line;
-            let cause = error.cause;
-            let text = format!(in alloc; "{line} {cause:?}\n")?;
+            let cause = name_of(error.cause);
+            let text = format!(in alloc; "{line} {cause}\n")?;
             Vec::from_slice(alloc, text.as_bytes())
         }
     }
@@ -134,6 +147,7 @@ fn read(alloc: Global, text: &[u8]) -> Result<Vec<u8>, AllocError> {
 #[test]
 fn a_unit_file_is_read(rt: HostRuntime) -> Result<(), Fail> {
     one_unit();
+    one_fault();
     faults_stand_apart();
     let alloc = rt.alloc();
     let text = "unit m\nuse b.k\nlet x = 2 * (3 + k.v)\nlet y = 1\nexport x\nwarn mind the gap\n";
@@ -151,7 +165,11 @@ unit m|1 unit m;
 |1 NoUnit;
 ;;|1 NoUnit;
 # all; \t;|1 NoUnit;
-;let x = 1;|2 NoUnit;
+;let x = 1;|1 NoUnit;
+;let x = 1;unit m;|2 NoUnit;
+;let x = 1;;unit M;unit m n;warn unit m;|1 NoUnit;
+use b.k;unit m;|1 NoUnit;
+\t;unit 1;\tunit m # m;|2 NoUnit;
 unit;|1 NoUnit;
 unit M;|1 NoUnit;
 unit m n;|1 NoUnit;
@@ -222,15 +240,15 @@ fn has_fault(
     sign: &[u8],
     times: usize,
     rest: &[u8],
-    want: Option<UnitCause>,
+    want: &str,
 ) -> Result<bool, AllocError> {
     let mut text = Vec::from_slice(alloc, b"unit m\nlet x = ".as_slice())?;
     let signs = repeated(alloc, sign, times)?;
     text.extend_from_slice(signs.as_slice())?;
     text.extend_from_slice(rest)?;
     match parse_unit(alloc, text.as_slice()) {
-        Ok(_) => Ok(want.is_none()),
-        Err(error) => Ok(want == Some(error.cause) && error.line == 2),
+        Ok(_) => Ok(want.is_empty()),
+        Err(UnitError { line, cause }) => Ok(line == 2 && name_of(cause) == want),
     }
 }
 
@@ -238,15 +256,15 @@ fn has_fault(
 fn levels_are_counted(rt: HostRuntime) -> Result<(), Fail> {
     let alloc = rt.alloc();
     let close = repeated(alloc, b")".as_slice(), 64)?;
-    let deep = Some(UnitCause::TooDeep);
-    assert!(rt; has_fault(alloc, b"-".as_slice(), 64, b"1".as_slice(), None)?);
+    let deep = "TooDeep";
+    assert!(rt; has_fault(alloc, b"-".as_slice(), 64, b"1".as_slice(), "")?);
     assert!(rt; has_fault(alloc, b"-".as_slice(), 65, b"1".as_slice(), deep)?);
     assert!(rt; has_fault(alloc, b"-".as_slice(), 65, b"".as_slice(), deep)?);
     assert!(rt; has_fault(alloc, b"(".as_slice(), 65, b"".as_slice(), deep)?);
     assert!(rt; has_fault(alloc, b"-(".as_slice(), 33, b"".as_slice(), deep)?);
     let mut rest = Vec::from_slice(alloc, b"1".as_slice())?;
     rest.extend_from_slice(close.as_slice())?;
-    assert!(rt; has_fault(alloc, b"(".as_slice(), 64, rest.as_slice(), None)?);
+    assert!(rt; has_fault(alloc, b"(".as_slice(), 64, rest.as_slice(), "")?);
     assert!(rt; has_fault(alloc, b"(".as_slice(), 65, rest.as_slice(), deep)?);
     // a number that is too great comes after the 65th level, wherever they stand on the line
     let minus = repeated(alloc, b"-".as_slice(), 65)?;
@@ -259,17 +277,17 @@ fn levels_are_counted(rt: HostRuntime) -> Result<(), Fail> {
             deep
         )?
     );
-    let bad = Some(UnitCause::BadLine);
+    let bad = "BadLine";
     assert!(rt; has_fault(alloc, b"1 ".as_slice(), 2, minus.as_slice(), bad)?);
     // closed levels don't count, and a fault before the 65th level stays
-    assert!(rt; has_fault(alloc, b"-1+".as_slice(), 100, b"1".as_slice(), None)?);
+    assert!(rt; has_fault(alloc, b"-1+".as_slice(), 100, b"1".as_slice(), "")?);
     assert!(rt;
         has_fault(
             alloc,
             b"99999999999999999999*".as_slice(),
             1,
             b"(((".as_slice(),
-            Some(UnitCause::NumberTooBig)
+            "NumberTooBig"
         )?
     );
     Ok(())
@@ -294,6 +312,8 @@ fn lines_and_files_may_be_too_long(rt: HostRuntime) -> Result<(), Fail> {
     assert_eq!(rt; out.as_slice(), b"1 TooLong\n".as_slice());
     let out = long_line(alloc, b"\n".as_slice(), 4097)?;
     assert_eq!(rt; out.as_slice(), b"1 NoUnit\n".as_slice());
+    let out = long_line(alloc, b"\nunit m #".as_slice(), 4097)?;
+    assert_eq!(rt; out.as_slice(), b"2 TooLong\n".as_slice());
     let out = long_line(alloc, b"unit m\nlet x = 1\n".as_slice(), 1_048_576)?;
     assert_eq!(rt; out.as_slice(), b"1 TooLong\n".as_slice());
     let out = long_line(alloc, b"unit m\nbad\n".as_slice(), 4097)?;
