@@ -4,11 +4,13 @@
 //! this: `decls` answers exactly what a term declares, and else the first declaration that is refused and why.
 #![tactic(auto)]
 
+mod checking;
 mod decl;
+mod declared;
 mod error;
+mod given;
 mod kept_apart;
-mod option_name;
-mod option_values;
+mod kind;
 mod reading;
 mod stated;
 mod values;
