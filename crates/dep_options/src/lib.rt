@@ -19,4 +19,4 @@ mod word;
 pub use decl::{CompileBy, Decl, DepSource, Manager};
 pub use error::{OptionCause, OptionError};
 pub use kept_apart::is_kept_apart;
-pub use reading::{decls, one_answer};
+pub use reading::{decls, one_answer, some_answer};

@@ -117,3 +117,9 @@ pub fn one_answer()
 {
     one_requirement();
 }
+
+/// Each term declares something, or is refused.
+pub fn some_answer()
+    ensures { (base : List ℕ) (term : Term)
+        → (answer : Result (List Decl) OptionError) × AreDecls base term answer }
+{}

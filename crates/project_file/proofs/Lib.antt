@@ -4,4 +4,5 @@ pub mod OneLemmas
 pub mod PathLemmas
 pub mod ProjectLemmas
 pub mod SettingsLemmas
+pub mod TextLemmas
 pub mod VersionLemmas
