@@ -93,7 +93,7 @@ project_one one {dir = dir} {t = t} (whole s b d {decls = xs} e some are) (whole
     ∙ ap (λ (zs : List Decl). Ok (project_of u v zs)) (ok_one xs ys (decls_one one dir (stated_of t) s u d c (Ok xs) (Ok ys) e f some same are also))
 
 terms_one : OneReading → (text : List ℕ) (t u : Term) → IsReadAs text t → IsReadAs text u → t ≡ u
-terms_one reading text t u read also = reading.terms text t u read.0 also.0
+terms_one reading text t u spelled also = reading.terms text t u spelled.0 also.0
 
 same_error : (d e : TermError) → d.at ≡ e.at → d.cause ≡ e.cause → d ≡ e
 same_error d e places causes = ap (λ (at : ℕ). record { at = at; cause = d.cause }) places ∙ ap (λ (cause : TermCause). record { at = e.at; cause = cause }) causes
@@ -104,7 +104,7 @@ same_refusal reading text d e why also =
     same_error d e same.0 same.1
 
 not_both : OneReading → (text : List ℕ) (error : TermError) (t : Term) → IsRefusedText text error → IsReadAs text t → ⊥
-not_both reading text error t why read = reading.apart text t error.at error.cause read.0 read.1 why.1
+not_both reading text error t why spelled = reading.apart text t error.at error.cause spelled.0 spelled.1 why.1
 
 -- the text of a manifest says one thing
 manifest_one : OneReading → OneAnswer → {dir text : List ℕ} {a b : Result Project ProjectError} → IsManifest dir text a → IsManifest dir text b → a ≡ b
@@ -127,21 +127,21 @@ pub project_law : OneReading → OneAnswer → (files : List File) (dir : List �
 project_law reading one files dir a b p q = said_one reading one p q
 
 none_some : (text : List ℕ) (t u : Term) (s : Settings) → OneReading → IsReadAs text t → IsReadAs text u → settings_of t ≡ None → settings_of u ≡ Some s → ⊥
-none_some text t u s reading read also none some = no_some (settings_of u) s (ap settings_of (sym (terms_one reading text t u read also)) ∙ none) some
+none_some text t u s reading spelled also none some = no_some (settings_of u) s (ap settings_of (sym (terms_one reading text t u spelled also)) ∙ none) some
 
 -- the settings are one thing
 settings_one : OneReading → {text : Option (List ℕ)} {a b : Result Settings SettingsError} → SaysSettings text a → SaysSettings text b → a ≡ b
 settings_one reading unset unset = refl
 settings_one reading (unread_settings {text = text} {error = x} why) (unread_settings {error = y} also) = ap (λ (z : TermError). Err (setting.Term z)) (same_refusal reading text x y why also)
-settings_one reading (unread_settings {text = text} {error = x} why) (no_settings u read none) = absurd (not_both reading text x u why read)
-settings_one reading (unread_settings {text = text} {error = x} why) (set u read some) = absurd (not_both reading text x u why read)
-settings_one reading (no_settings {text = text} t read none) (unread_settings {error = y} why) = absurd (not_both reading text y t why read)
-settings_one reading (no_settings t read none) (no_settings u also nothing) = refl
-settings_one reading (no_settings {text = text} t read none) (set u {s = r} also some) = absurd (none_some text t u r reading read also none some)
-settings_one reading (set {text = text} t read some) (unread_settings {error = y} why) = absurd (not_both reading text y t why read)
-settings_one reading (set {text = text} t {s = s} read some) (no_settings u also none) = absurd (none_some text u t s reading also read none some)
-settings_one reading (set {text = text} t {s = s} read some) (set u {s = r} also same) =
-    ap (λ (z : Settings). Ok z) (some_one (settings_of u) s r (ap settings_of (sym (terms_one reading text t u read also)) ∙ some) same)
+settings_one reading (unread_settings {text = text} {error = x} why) (no_settings u spelled none) = absurd (not_both reading text x u why spelled)
+settings_one reading (unread_settings {text = text} {error = x} why) (set u spelled some) = absurd (not_both reading text x u why spelled)
+settings_one reading (no_settings {text = text} t spelled none) (unread_settings {error = y} why) = absurd (not_both reading text y t why spelled)
+settings_one reading (no_settings t spelled none) (no_settings u also nothing) = refl
+settings_one reading (no_settings {text = text} t spelled none) (set u {s = r} also some) = absurd (none_some text t u r reading spelled also none some)
+settings_one reading (set {text = text} t spelled some) (unread_settings {error = y} why) = absurd (not_both reading text y t why spelled)
+settings_one reading (set {text = text} t {s = s} spelled some) (no_settings u also none) = absurd (none_some text u t s reading also spelled none some)
+settings_one reading (set {text = text} t {s = s} spelled some) (set u {s = r} also same) =
+    ap (λ (z : Settings). Ok z) (some_one (settings_of u) s r (ap settings_of (sym (terms_one reading text t u spelled also)) ∙ some) same)
 
 pub settings_law : OneReading → (files : List File) (a b : Result Settings SettingsError) → AreSettings files a → AreSettings files b → a ≡ b
 settings_law reading files a b p q = settings_one reading p q

@@ -34,3 +34,9 @@ returns c = record {
   answer = whole_project c.args.dir.now c.args.term.now c.in_ok-header.field-0 c.in-Some.header _ c.in-Some-deps.deps c.in_ok-decls.decls.items c.from_vec.result c.in_ok-header.ensures c.in-Some.is c.in-Some-deps.is c.in_ok-decls.ensures c.from_vec.ensures;
   alone = search rules;
 }
+
+pub invariant_of-result : goal.invariant_of-result
+invariant_of-result c = record { versioned = header_versioned c.args.term.now c.in_ok-header.field-0 c.in-Some.header c.in_ok-header.ensures c.in-Some.is }
+
+pub invariant_of-result-2 : goal.invariant_of-result-2
+invariant_of-result-2 c = record { versioned = header_versioned c.args.term.now c.in_ok-header.field-0 c.in-Some.header c.in_ok-header.ensures c.in-Some.is }
