@@ -4,11 +4,13 @@
 //! this: `decls` answers exactly what a term declares, and else the first declaration that is refused and why.
 #![tactic(auto)]
 
+mod checking;
 mod decl;
+mod declared;
 mod error;
+mod given;
 mod kept_apart;
-mod option_name;
-mod option_values;
+mod kind;
 mod reading;
 mod stated;
 mod values;
@@ -17,4 +19,4 @@ mod word;
 pub use decl::{CompileBy, Decl, DepSource, Manager};
 pub use error::{OptionCause, OptionError};
 pub use kept_apart::is_kept_apart;
-pub use reading::{decls, one_answer};
+pub use reading::{decls, one_answer, some_answer};

@@ -7,7 +7,8 @@ ghost use Rattle.term_values.specs.Views.{named};
 ghost use Rattle.mx_base.specs.Blame.{Computes};
 ghost use Rattle.project_file.specs.Entries.{stated_in};
 ghost use Rattle.project_file.specs.Blame.{project_blame};
-ghost use Rattle.project_file.specs.Manifest.{is_version, version_of, deps_in, stated_by, stated_of, IsProject};
+ghost use Rattle.project_file.specs.Version.{is_version};
+ghost use Rattle.project_file.specs.Manifest.{version_of, deps_in, stated_by, stated_of, IsProject};
 
 use crate::entries::{entries, first};
 use crate::error::ProjectError;
