@@ -1,5 +1,5 @@
 -- One declaration, and declarations one after another.
-use Rattle.std.proofs.Common.{◌≡◌, ℕ, ◌+◌, ◌<◌, ◌≤◌, Bool, true, false, ◌||◌, List, [], ◌∷◌, ◌++◌, drop, length, get_or, Option, Some, None, is_some, option_map, option_and_then, Result, Ok, Err, codes, refl, sym, ◌∙◌, ap, subst, append_assoc, add-one}
+use Rattle.std.proofs.Common.{◌≡◌, ℕ, ◌+◌, ◌<◌, ◌≤◌, true, false, List, [], ◌∷◌, ◌++◌, drop, length, get_or, Option, Some, None, option_map, Result, Ok, Err, sym, ◌∙◌, ap, subst, append_assoc, add-one}
 use Rattle.std.specs.Option.{option_copied}
 use Rattle.std.proofs.lemmas.List.{at_drop_more, at_drop_all, append-nil}
 use Rattle.term_values.specs.declared.term.Term.{Term}
@@ -17,7 +17,7 @@ use Rattle.dep_options.specs.declared.error.OptionCause.TheVariants.{Shape, BadR
 use Rattle.dep_options.specs.declared.error.OptionError.{OptionError}
 use Rattle.dep_options.specs.declared.stated.Stated.{Stated}
 use Rattle.dep_options.specs.Options.{first_fault}
-use Rattle.dep_options.specs.Decls.{Written, written_of, IsRequirement, IsBadRequirement, source_of, has_source, decl_of, IsDecl, shape, requirement, option, source, good, AreDeclsFrom, end, refused, later, more, AreDecls, items}
+use Rattle.dep_options.specs.Decls.{written_of, IsRequirement, IsBadRequirement, has_source, decl_of, IsDecl, shape, requirement, option, source, good, AreDeclsFrom, end, refused, later, more, AreDecls, items}
 use Rattle.dep_options.specs.Stated.{written_by}
 use Rattle.term_values.specs.Views.{Lent, named}
 
