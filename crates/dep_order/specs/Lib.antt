@@ -3,4 +3,4 @@ pub mod Listing
 pub mod Cycle
 pub mod Reach
 pub mod Pending
-pub mod Marks
+pub mod Search

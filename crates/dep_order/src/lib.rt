@@ -8,6 +8,7 @@ mod graph;
 mod laws;
 mod listing;
 mod ordering;
+mod ranks;
 mod reach;
 
 pub use graph::{Graph, Places};
@@ -17,4 +18,4 @@ pub use laws::{
     places_left_need_places_left, reach_is_the_least_closed_set,
 };
 pub use ordering::{OrderError, order};
-pub use reach::closure;
+pub use reach::{closure, reached};
