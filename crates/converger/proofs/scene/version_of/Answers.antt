@@ -1,7 +1,7 @@
 use Rattle.std.proofs.Common.{◌<◌, length, arith}
 use Rattle.std.proofs.lemmas.Option.{none-some}
 use Rattle.converger.proofs.CaseLemmas.{version_found, version_missing}
-use Rattle.converger.proofs.divergences.version_of.Goals as goal
+use Rattle.converger.proofs.scene.version_of.Goals as goal
 
 pub returns-in-Ok : goal.returns-in-Ok
 returns-in-Ok c =

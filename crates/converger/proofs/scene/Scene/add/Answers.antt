@@ -1,7 +1,7 @@
 use Rattle.std.proofs.Common.{sym, refl}
 use Rattle.converger.proofs.CaseLemmas.{before_found, before_none}
 use Rattle.converger.proofs.WebLemmas.{one_value}
-use Rattle.converger.proofs.divergences.Scene.add.Goals as goal
+use Rattle.converger.proofs.scene.Scene.add.Goals as goal
 
 pub returns-in_ok-push : goal.returns-in_ok-push
 returns-in_ok-push c =

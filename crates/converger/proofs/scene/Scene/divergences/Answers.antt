@@ -1,6 +1,6 @@
 use Rattle.std.proofs.Common.{arith}
 use Rattle.converger.proofs.CaseLemmas.{before_all}
-use Rattle.converger.proofs.divergences.Scene.divergences.Goals as goal
+use Rattle.converger.proofs.scene.Scene.divergences.Goals as goal
 
 pub returns : goal.returns
 returns c =

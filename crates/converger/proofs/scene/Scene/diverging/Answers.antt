@@ -9,7 +9,7 @@ use Rattle.converger.specs.Walk.{is_marked}
 use Rattle.converger.specs.Web.{winner_of}
 use Rattle.converger.proofs.WebLemmas.{one_value, winner_known}
 use Rattle.converger.proofs.CaseLemmas.{scene_case, meets_diverges, diverges_meets, diverges_at_winner, no_divergence, winner_below}
-use Rattle.converger.proofs.divergences.Scene.diverging.Goals as goal
+use Rattle.converger.proofs.scene.Scene.diverging.Goals as goal
 
 pub returns-in_err-place : goal.returns-in_err-place
 returns-in_err-place c = λ p.
