@@ -1,12 +1,14 @@
 -- Places as an order has them.
-use Rattle.std.proofs.Common.{◌≡◌, ◌↔◌, AllPairs, All, Contains, ℕ, zero, suc, ◌+◌, ◌<◌, ◌≤◌, Bool, true, false, cond, ◌||◌, inl, inr, eqb, eq-eqb, eqb-true, nat_cmp, List, [], ◌∷◌, ◌++◌, length, get_or, filter, map, set, take, sym, ◌∙◌, ap, ap₂, subst, refl, arith, IsTrue}
+use Rattle.std.proofs.Common.{◌≡◌, ◌↔◌, AllPairs, All, Contains, ℕ, zero, suc, ◌+◌, ◌<◌, ◌≤◌, Bool, true, false, cond, ◌||◌, inl, inr, eqb, eq-eqb, eqb-true, nat_eq, nat_lt, nat_cmp, Option, Some, None, List, [], ◌∷◌, ◌++◌, length, get_or, filter, map, set, take, sym, ◌∙◌, ap, ap₂, subst, refl, arith, IsTrue}
+use Rattle.std.specs.List.{position, position_or_len}
+use Rattle.std.proofs.lemmas.List.Sums.{position_or_len_is}
 use Rattle.std.specs.BTreeSet.{BTreeSet, contains, Updates}
 use Rattle.std.specs.Ordering.{is_eq}
 use Rattle.std.proofs.lemmas.Bool.Decides.{nat_tests}
 use Rattle.std.proofs.lemmas.List.{get_or-set_other, get_or-map, length-map, map-append, take_more}
 use Rattle.std.proofs.lemmas.Grind.{get_or-set_at}
 use Rattle.std.proofs.lemmas.List.Elements.{All-contains, Contains-get_or, filter_passes}
-use Rattle.std.proofs.lemmas.Bool.{both_ways, or_left, or_right, or_cases, cases_eq}
+use Rattle.std.proofs.lemmas.Bool.{both_ways, or_left, or_right, or_cases, cases_eq, ne_eqb, lt-ltb}
 use Rattle.dep_order.specs.Graph.{needs_of, NeedsAreWithin}
 use Rattle.dep_order.specs.Listing.{is_listed, IsOrderOf}
 use Rattle.dep_order.specs.Reach.{Reaches, Direct, Further, AreReachedFrom, IsClosureOf}
@@ -178,6 +180,18 @@ ranks_whole graph order o ranks long each = record {
       let is : get_or ranks place 0 ≡ s.at = ap (λ n. get_or ranks n 0) (sym s.is) ∙ each s.at s.before in
       (omega (arith, is, s.before), ap (λ n. get_or order n 0) is ∙ s.is);
 }
+
+-- a place stands first in the order at its rank
+pub rank_is : (graph : List (List ℕ)) (order : List ℕ) → IsOrderOf graph order → (ranks : List ℕ) → AreRanks order ranks → (place : ℕ) → place < length ranks → position (nat_eq place) order ≡ Some (get_or ranks place 0)
+rank_is graph order o ranks are place inside =
+    let rank = get_or ranks place 0 in
+    let back = are.back place inside in
+    let below : rank < length order = back.0 in
+    let at : position_or_len (nat_eq place) order ≡ rank =
+    position_or_len_is (nat_eq place) order rank 0 (omega arith)
+    (λ k before. ne_eqb place (get_or order k 0) (λ same. places_differ graph order o.listing k rank before below (sym same ∙ sym back.1)))
+    (λ within. eq-eqb place (get_or order rank 0) (sym back.1)) in
+    ap (λ (n : ℕ). cond (nat_lt n (length order)) (Some n) None) at ∙ ap (λ (b : Bool). cond b (Some rank) None) (lt-ltb rank (length order) below)
 
 -- ---- the places of a closure
 

@@ -4,3 +4,4 @@ pub mod Cycle
 pub mod Reach
 pub mod Pending
 pub mod Search
+pub mod Ordered

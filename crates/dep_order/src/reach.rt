@@ -5,7 +5,7 @@ ghost use Rattle.std.specs.Ordering.{nat_cmp};
 ghost use Rattle.std.specs.BTreeSet.{contains};
 ghost use Rattle.dep_order.specs.Listing.{is_listed, IsOrderOf};
 ghost use Rattle.dep_order.specs.Reach.{Reaches, AreReachedFrom, IsClosureOf};
-ghost use Rattle.dep_order.specs.Search.{Adds};
+ghost use Rattle.dep_order.specs.Search.{Adds, AreRanks};
 
 use crate::graph::Graph;
 use crate::ranks::{in_order, increasing, ranks_of};
@@ -74,6 +74,25 @@ pub fn closure(
         (other : ℕ) → Contains reached.items other ↔ Reaches graph.now place other) }
 {
     let ranks = ranks_of(alloc, graph, order)?;
+    closure_by(alloc, graph, order, &ranks, place)
+}
+
+/// A closure, where the ranks in the order are known.
+pub(crate) fn closure_by(
+    alloc: Global,
+    graph: &Graph,
+    order: &[usize],
+    ranks: &[usize],
+    place: usize,
+) -> Result<Vec<usize>, AllocError>
+    requires order { IsOrderOf graph.now order.now }
+    requires long { length ranks.now ≡ length graph.now }
+    requires ranks { AreRanks order.now ranks.now }
+    requires place { place < length graph.now }
+    ensures in_order { IfOk result (λ reached. IsClosureOf graph.now order.now place reached.items) }
+    ensures reached { IfOk result (λ reached.
+        (other : ℕ) → Contains reached.items other ↔ Reaches graph.now place other) }
+{
     let places = reached(alloc, graph, graph.needs_at(place))?;
-    in_order(alloc, order, &ranks, &places)
+    in_order(alloc, order, ranks, &places)
 }
