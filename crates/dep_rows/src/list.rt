@@ -10,7 +10,7 @@ use std::collections::BTreeMap;
 use std::marker::Model;
 
 /// The rows of a project, and the places of their winners. It has at most 65,536 rows.
-#[derive(Debug, Drop)]
+#[derive(Drop)]
 pub struct Rows {
     rows: RowList,
     winners: Places,
