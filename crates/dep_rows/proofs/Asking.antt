@@ -37,6 +37,20 @@ both_told : {A : Type 0} (meaning : Option A) (P Q : A → Type 0) → IfSome me
 both_told None P Q step h = h
 both_told (Some told) P Q step h = step h
 
+-- the winner's children are refused
+pub hinders : {Known Fault : Type 0} (children_of : Known → ChildrenOf Fault) (blame : Fault → Blame) (meaning : Option Known) (winner : ℕ) (row : Row) (rows : List Row) (fault : Fault) →
+    slice_get rows winner ≡ Some row → IfSome meaning (λ known. blame fault ≡ Input → children_of known row.app row.decl (Err fault)) →
+    IfSome meaning (λ known. Hinders blame (children_of known) rows winner (Children fault))
+hinders children_of blame None winner row rows fault stands refused = tt
+hinders children_of blame (Some known) winner row rows fault stands refused = (row, stands, refused)
+
+-- the winner's children are too many
+pub overflows : {Known Fault : Type 0} (children_of : Known → ChildrenOf Fault) (blame : Fault → Blame) (meaning : Option Known) (winner : ℕ) (row : Row) (rows : List Row) (decls : List Decl) →
+    slice_get rows winner ≡ Some row → IfSome meaning (λ known. children_of known row.app row.decl (Ok decls)) → most_rows < length rows + length decls →
+    IfSome meaning (λ known. Hinders blame (children_of known) rows winner TooManyRows)
+overflows children_of blame None winner row rows decls stands declared many = tt
+overflows children_of blame (Some known) winner row rows decls stands declared many = (row, decls, stands, declared, many)
+
 root_stands : {Known Fault : Type 0} (children_of : Known → ChildrenOf Fault) (meaning : Option Known) (root : List Decl) → length root ≤ most_rows → Stands children_of meaning root (rows_from None 0 root) (next_winners [] (rows_from None 0 root)) 0
 root_stands children_of meaning root few =
     let long = length-rows_from None 0 root in
