@@ -1,0 +1,55 @@
+// How answers are written.
+
+use crate::fields::Fault;
+use std::alloc::{AllocError, Global};
+
+/// A text of more bytes is shown by its length alone.
+const LONGEST: usize = 4096;
+
+/// Adds a text as hexadecimal digits, `-` for the empty one, or its length where it is long.
+pub(crate) fn push_text(alloc: Global, out: &mut String, text: &[u8]) -> Result<(), AllocError> {
+    if text.is_empty() {
+        return out.push_str("-");
+    }
+    if text.len() > LONGEST {
+        let length = text.len();
+        return write!(out, "{length} bytes");
+    }
+    let digits = hex::encode(alloc, text)?;
+    out.push_str(digits.as_str())
+}
+
+/// Adds what is written before a text and then the text.
+pub(crate) fn push_after(
+    alloc: Global,
+    out: &mut String,
+    before: &str,
+    text: &[u8],
+) -> Result<(), AllocError> {
+    out.push_str(before)?;
+    push_text(alloc, out, text)
+}
+
+/// The answer is this text.
+pub(crate) fn ok_text(alloc: Global, out: &mut String, text: &[u8]) -> Result<(), Fault> {
+    push_after(alloc, out, "ok ", text)?;
+    Ok(())
+}
+
+/// The answer is a text that needs no digits.
+pub(crate) fn say(out: &mut String, text: &str) -> Result<(), Fault> {
+    out.push_str(text)?;
+    Ok(())
+}
+
+/// The answer is that a text is refused at a place, for a cause.
+pub(crate) fn refused(out: &mut String, at: u64, cause: &str) -> Result<(), Fault> {
+    write!(out, "refused {at} {cause}")?;
+    Ok(())
+}
+
+/// The answer is a refusal that has no place.
+pub(crate) fn refused_whole(out: &mut String, cause: &str) -> Result<(), Fault> {
+    write!(out, "refused - {cause}")?;
+    Ok(())
+}
