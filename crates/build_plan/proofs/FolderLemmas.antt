@@ -5,28 +5,31 @@ use Rattle.std.proofs.lemmas.List.{nil_from_length}
 use Rattle.std.specs.Str.{is_utf8, chars}
 use lib.Utf8.{encode}
 use Rattle.semver.proofs.OnLiterals.{semver_on_literals}
-use Rattle.elixir_terms.specs.declared.term.Term.{Term}
+use Rattle.term_values.specs.declared.term.Term.{Term}
+use Rattle.mx_base.specs.Blame.Blame.{Input}
 use Rattle.mx_base.specs.declared.file.File.{File}
 use Rattle.mx_base.specs.Order.{bytes_at}
 use Rattle.tree_store.specs.Files.{paths_below, is_in_build}
 use Rattle.dep_options.specs.declared.decl.Decl.{Decl}
 use Rattle.dep_options.specs.declared.decl.DepSource.TheVariants.{Hex, Path}
 use Rattle.converger.specs.Reach.{admits}
-use Rattle.elixir_terms.specs.Views.{string_of, Named}
+use Rattle.term_values.specs.Views.{string_of, Named}
 use Rattle.dep_options.specs.Options.{first_of}
 use Rattle.project_file.specs.declared.project.Project.{Project}
 use Rattle.project_file.specs.declared.error.ProjectError.{ProjectError}
 use Rattle.project_file.specs.declared.error.ProjectError.TheVariants as project
-use Rattle.project_file.specs.Files.{IsLoaded, is_outside, manifest_at}
+use Rattle.project_file.specs.Blame.{project_blame}
+use Rattle.project_file.specs.Files.{IsLoaded, IsManifest, manifest_at}
+use Rattle.project_file.specs.Files.IsManifest.{read}
 use Rattle.project_file.specs.Manifest.{Stated, entries_of, stated, stated_by, if_version, is_version, version_of, IsProject}
 use Rattle.project_file.specs.Manifest.IsProject.{bare, whole}
 use Rattle.build_plan.specs.declared.found.Found.{Found}
-use Rattle.build_plan.specs.declared.children.ChildFault.{ChildFault}
-use Rattle.build_plan.specs.declared.children.ChildFault.TheVariants as child
-use Rattle.build_plan.specs.ChildFaults.{of_manifest}
+use Rattle.build_plan.specs.declared.error.PlanError.{PlanError}
+use Rattle.build_plan.specs.declared.error.PlanError.TheVariants as plan
+use Rattle.build_plan.specs.Blame.{blame_of}
+use Rattle.build_plan.specs.Refusals.{of_project}
 use Rattle.build_plan.specs.Dependencies.{AreChildren, declared_by, has_files, is_apart, is_empty}
 use Rattle.build_plan.specs.Dependencies.AreChildren.{unlocked, missing, refused, declared}
-use Rattle.build_plan.specs.Faults.{is_failed, is_memory}
 use Rattle.build_plan.specs.Found.{IsFound}
 
 version_if : (text version : List ℕ) → if_version text ≡ Some version → is_version version ≡ true
@@ -59,9 +62,13 @@ entries_version (Some entries) s is =
     version_term (first_of (codes "version") entries) s.version (stated_version _ (option_and_then version_of (first_of (codes "version") entries)) _ s is)
 
 -- a manifest that is read has a version
-pub project_version : {dir : List ℕ} {t : Term} {p : Project} → IsProject dir t (Ok p) → IsTrue (is_version p.version)
+project_version : {dir : List ℕ} {t : Term} {p : Project} → IsProject dir t (Ok p) → IsTrue (is_version p.version)
 project_version {t = t} (bare s is none) = entries_version (entries_of t) s is
 project_version {t = t} (whole s deps is some are) = entries_version (entries_of t) s is
+
+-- the same of its text
+pub manifest_version : {dir text : List ℕ} {p : Project} → IsManifest dir text (Ok p) → IsTrue (is_version p.version)
+manifest_version (read t spelled says) = project_version says
 
 both_hold : (a b : Bool) → (not a && not b) ≡ true → b ≡ false
 both_hold true b is = cc
@@ -99,38 +106,37 @@ pub some_listed : (paths : List (List ℕ)) (count : ℕ) (empty : Bool) → len
 some_listed paths count empty counts is some = some_paths paths (λ nothing. eqb-false count 0 (sym is ∙ some) (sym counts ∙ ap length nothing))
 
 -- no file lies there
-pub missing_here : (told : Option (List File)) (app dir name folder : List ℕ) (paths : List (List ℕ)) → name ≡ app → folder ≡ dir → IsTrue (is_empty paths) → IfSome told (λ files. has_files files dir ≡ not (is_empty paths)) → IfSome told (λ files. (winner : Decl) → winner.source ≡ Path dir → AreChildren files app winner (Err (child.PathMissing name folder)))
+pub missing_here : (told : Option (List File)) (app dir name folder : List ℕ) (paths : List (List ℕ)) → name ≡ app → folder ≡ dir → IsTrue (is_empty paths) → IfSome told (λ files. has_files files dir ≡ not (is_empty paths)) → IfSome told (λ files. (winner : Decl) → winner.source ≡ Path dir → AreChildren files app winner (Err (plan.PathMissing name folder)))
 missing_here None app dir name folder paths same at empty has = tt
 missing_here (Some files) app dir name folder paths same at empty has =
     λ winner lies.
-    subst (λ (n : List ℕ). AreChildren files app winner (Err (child.PathMissing n folder))) (sym same)
-    (subst (λ (d : List ℕ). AreChildren files app winner (Err (child.PathMissing app d))) (sym at) (missing dir lies (has ∙ ap not empty)))
+    subst (λ (n : List ℕ). AreChildren files app winner (Err (plan.PathMissing n folder))) (sym same)
+    (subst (λ (d : List ℕ). AreChildren files app winner (Err (plan.PathMissing app d))) (sym at) (missing dir lies (has ∙ ap not empty)))
 
-refused_as : (files : List File) (app dir path : List ℕ) (fault : ProjectError) → path ≡ manifest_at dir → IsTrue (has_files files dir) → (IsFalse (is_outside fault) → IsLoaded files dir (Err fault)) → IsFalse (is_failed (of_manifest path fault)) → IsFalse (is_memory (of_manifest path fault)) → (winner : Decl) → winner.source ≡ Path dir → AreChildren files app winner (Err (of_manifest path fault))
-refused_as files app dir path project.Read place has says inside free = cc
-refused_as files app dir path project.OutOfMemory place has says inside free = cc
-refused_as files app dir path (project.Term error) place has says inside free =
-    λ winner lies. subst (λ (p : List ℕ). AreChildren files app winner (Err (child.Project p (project.Term error)))) (sym place) (refused dir lies has (says refl))
-refused_as files app dir path project.Shape place has says inside free =
-    λ winner lies. subst (λ (p : List ℕ). AreChildren files app winner (Err (child.Project p project.Shape))) (sym place) (refused dir lies has (says refl))
-refused_as files app dir path (project.Options error) place has says inside free =
-    λ winner lies. subst (λ (p : List ℕ). AreChildren files app winner (Err (child.Project p (project.Options error)))) (sym place) (refused dir lies has (says refl))
+refused_as : (files : List File) (app dir path : List ℕ) (fault : ProjectError) → path ≡ manifest_at dir → IsTrue (has_files files dir) → (project_blame fault ≡ Input → IsLoaded files dir (Err fault)) → blame_of (of_project path fault) ≡ Input → (winner : Decl) → winner.source ≡ Path dir → AreChildren files app winner (Err (of_project path fault))
+refused_as files app dir path project.Read place has says input = cc
+refused_as files app dir path project.OutOfMemory place has says input = cc
+refused_as files app dir path (project.Term error) place has says input =
+    λ winner lies. subst (λ (p : List ℕ). AreChildren files app winner (Err (plan.Project p (project.Term error)))) (sym place) (refused dir lies has (says refl))
+refused_as files app dir path project.Shape place has says input =
+    λ winner lies. subst (λ (p : List ℕ). AreChildren files app winner (Err (plan.Project p project.Shape))) (sym place) (refused dir lies has (says refl))
+refused_as files app dir path (project.Options error) place has says input =
+    λ winner lies. subst (λ (p : List ℕ). AreChildren files app winner (Err (plan.Project p (project.Options error)))) (sym place) (refused dir lies has (says refl))
 
 -- the manifest is refused
-pub refused_here : (told : Option (List File)) (app dir path : List ℕ) (paths : List (List ℕ)) (text : Option (List ℕ)) (fault : ProjectError) (result : ChildFault) → result ≡ of_manifest path fault → path ≡ manifest_at dir → IsFalse (is_empty paths) → IfSome told (λ files. has_files files dir ≡ not (is_empty paths)) → IfSome told (λ files. text ≡ bytes_at path files) → (IsFalse (is_outside fault) → (files : List File) → text ≡ bytes_at (manifest_at dir) files → IsLoaded files dir (Err fault)) → IsFalse (is_failed result) → IsFalse (is_memory result) → IfSome told (λ files. (winner : Decl) → winner.source ≡ Path dir → AreChildren files app winner (Err result))
-refused_here None app dir path paths text fault result is place some has read says inside free = tt
-refused_here (Some files) app dir path paths text fault result is place some has read says inside free =
-    subst (λ (r : ChildFault). (winner : Decl) → winner.source ≡ Path dir → AreChildren files app winner (Err r)) (sym is)
+pub refused_here : (told : Option (List File)) (app dir path : List ℕ) (paths : List (List ℕ)) (text : Option (List ℕ)) (fault : ProjectError) (error : PlanError) → error ≡ of_project path fault → path ≡ manifest_at dir → IsFalse (is_empty paths) → IfSome told (λ files. has_files files dir ≡ not (is_empty paths)) → IfSome told (λ files. text ≡ bytes_at path files) → ((files : List File) → text ≡ bytes_at (manifest_at dir) files → project_blame fault ≡ Input → IsLoaded files dir (Err fault)) → blame_of error ≡ Input → IfSome told (λ files. (winner : Decl) → winner.source ≡ Path dir → AreChildren files app winner (Err error))
+refused_here None app dir path paths text fault error is place some has same says input = tt
+refused_here (Some files) app dir path paths text fault error is place some has same says input =
+    subst (λ (e : PlanError). (winner : Decl) → winner.source ≡ Path dir → AreChildren files app winner (Err e)) (sym is)
     (refused_as files app dir path fault place (negated (has_files files dir) (is_empty paths) has some)
-    (λ told. says told files (read ∙ ap (λ (p : List ℕ). bytes_at p files) place))
-    (subst (λ (r : ChildFault). IsFalse (is_failed r)) is inside)
-    (subst (λ (r : ChildFault). IsFalse (is_memory r)) is free))
+    (says files (same ∙ ap (λ (p : List ℕ). bytes_at p files) place))
+    (subst (λ (e : PlanError). blame_of e ≡ Input) is input))
 
 -- nothing is locked
-pub unlocked_here : (told : Option (List File)) (app name package_name : List ℕ) (winner : Decl) → name ≡ app → winner.source ≡ Hex package_name → IfSome told (λ files. AreChildren files app winner (Err (child.NotLocked name)))
+pub unlocked_here : (told : Option (List File)) (app name package_name : List ℕ) (winner : Decl) → name ≡ app → winner.source ≡ Hex package_name → IfSome told (λ files. AreChildren files app winner (Err (plan.NotLocked name)))
 unlocked_here None app name package_name winner same is = tt
 unlocked_here (Some files) app name package_name winner same is =
-    subst (λ (n : List ℕ). AreChildren files app winner (Err (child.NotLocked n))) (sym same) (unlocked package_name is)
+    subst (λ (n : List ℕ). AreChildren files app winner (Err (plan.NotLocked n))) (sym same) (unlocked package_name is)
 
 -- what an app declares, by what was found in its folder
 pub declared_here : (told : Option (List File)) (app : List ℕ) (winner : Decl) (found : Found) (decls : List Decl) → winner.source ≡ Path found.dir → IfSome told (λ files. IsTrue (has_files files found.dir) × IsFound files found) → decls ≡ filter (λ decl. admits decl.only winner.env) (declared_by found.project) → IfSome told (λ files. AreChildren files app winner (Ok decls))

@@ -1,12 +1,13 @@
 -- One job after another.
-use Rattle.std.proofs.Common.{◌≡◌, ℕ, zero, suc, ◌+◌, ◌<◌, ◌≤◌, inl, inr, min, Bool, false, ◌||◌, List, [], ◌∷◌, ◌++◌, length, take, map, sum, refl, sym, ◌∙◌, ap, subst, arith, IsTrue, IsFalse, IfSome, Option, Some, None, All}
+use Rattle.std.proofs.Common.{◌≡◌, ℕ, zero, suc, ◌+◌, ◌<◌, ◌≤◌, inl, inr, min, Bool, false, ◌||◌, List, [], ◌∷◌, ◌++◌, length, take, map, sum, refl, sym, ◌∙◌, ap, subst, arith, IsTrue, IsFalse, IfSome, Option, Some, None, Result, Ok, Err, All}
 use Rattle.std.specs.Prelude.{nat_lt, nat_le}
 use Rattle.std.specs.List.{slice_get}
-use Rattle.std.proofs.lemmas.Bool.{false≢true, cases_lt, or_left, or_right, le-leb, lt-leb, le-ltb, lt-ltb}
+use Rattle.std.proofs.lemmas.Bool.{cases_lt, or_left, or_right, le-leb, lt-leb, le-ltb, lt-ltb}
 use Rattle.std.proofs.lemmas.List.{length-append, map-append, take-append-le, take_all}
 use Rattle.std.proofs.lemmas.List.Sums.{sum_by-append}
 use Rattle.std.proofs.lemmas.List.Elements.{All-contains}
 use Rattle.std.proofs.lemmas.Option.{slice_get_within}
+use Rattle.mx_base.specs.Blame.Blame.{Input}
 use Rattle.mx_base.specs.declared.file.File.{File}
 use Rattle.compile_model.specs.declared.job.Job.{Job}
 use Rattle.compile_model.specs.Planned.{most_jobs, most_sent, sent_size}
@@ -18,11 +19,14 @@ use Rattle.build_plan.specs.declared.error.PlanError.{PlanError}
 use Rattle.build_plan.specs.declared.error.PlanError.TheVariants.{TooLarge}
 use Rattle.build_plan.specs.declared.found.Found.{Found}
 use Rattle.build_plan.specs.Dependencies.{is_apart, version_by}
-use Rattle.build_plan.specs.Faults.{is_memory_error, is_read_error, of_store}
+use Rattle.build_plan.specs.Blame.{blame_of}
+use Rattle.build_plan.specs.Refusals.{of_store}
+use Rattle.build_plan.specs.Stages.{MakesJobs}
+use Rattle.build_plan.specs.Stages.MakesJobs.{passes_size, makes}
 use Rattle.build_plan.specs.Found.{AreSources, IsFound}
-use Rattle.build_plan.specs.Jobs.{AllFit, AreFirstJobs, IsJobAt, is_too_large, job_with, places_in, most_bytes, most_files, most_plan_bytes, source_bytes}
+use Rattle.build_plan.specs.Jobs.{AllFit, IsJobAt, is_too_large, job_with, places_in, most_bytes, most_files, most_plan_bytes, source_bytes}
 use Rattle.build_plan.specs.Needs.{apps_of}
-use Rattle.build_plan.specs.Scenes.{Fits, IsKnownAt, IsPostWith, Misses, Passes, RefusesJob, RefusesJobs, job_from}
+use Rattle.build_plan.specs.Scenes.{Fits, IsKnownAt, IsPostWith, Misses, Passes, RefusesJob, job_from}
 use Rattle.build_plan.specs.Sources.{bytes_in, sources_of}
 use Rattle.build_plan.proofs.ManagerLemmas.{job_from_sources}
 
@@ -76,9 +80,9 @@ all_fit_more jobs job fit last =
 
 -- ---- refusals
 
-pub refuses_jobs : (files : List File) (settings : Settings) (rows : List Row) (places order : List ℕ) (jobs : List Job) (room : ℕ) (error : PlanError) → length jobs < length order → ((k : ℕ) (job : Job) → slice_get jobs k ≡ Some job → IsJobAt files settings rows places order k job) → AllFit jobs → room + source_bytes jobs ≡ most_plan_bytes → RefusesJob files settings rows places order (length jobs) room error → RefusesJobs files settings rows places order error
+pub refuses_jobs : (files : List File) (settings : Settings) (rows : List Row) (places order : List ℕ) (jobs : List Job) (room : ℕ) (error : PlanError) → length jobs < length order → ((k : ℕ) (job : Job) → slice_get jobs k ≡ Some job → IsJobAt files settings rows places order k job) → AllFit jobs → room + source_bytes jobs ≡ most_plan_bytes → RefusesJob files settings rows places order (length jobs) room error → MakesJobs files settings rows places order (Err error)
 refuses_jobs files settings rows places order jobs room error within each fit left (job, is, passes, told) =
-    (jobs, job, record { few = omega (arith, within, length-append jobs (job ∷ [])); each = each_more (IsJobAt files settings rows places order) jobs job each is }, fit, passes_limit jobs job room left passes, told)
+    subst (λ (e : PlanError). MakesJobs files settings rows places order (Err e)) (sym told) (passes_size jobs job (record { few = omega (arith, within, length-append jobs (job ∷ [])); each = each_more (IsJobAt files settings rows places order) jobs job each is }) fit (passes_limit jobs job room left passes))
 
 -- a job that passes a limit is refused
 pub refuses_missed : (files : List File) (settings : Settings) (rows : List Row) (places order : List ℕ) (row : Row) (at room : ℕ) (error : PlanError) → error ≡ TooLarge row.app → Misses files settings rows places order row at room → RefusesJob files settings rows places order at room error
@@ -150,9 +154,9 @@ module _ (settings : Settings) (rows : List Row) (places order : List ℕ) (all 
   if_many (Some files) room error many is meant = (_, post_job files settings rows places order all at row found reached with_found meant, inl many, is)
 
 -- the store's own faults are no refusals
-pub if_store_failed : (told : Option (List File)) (settings : Settings) (rows : List Row) (places order : List ℕ) (at room : ℕ) (fault : StoreFault) (error : PlanError) → error ≡ of_store fault → IsFalse (is_read_error error) → IsFalse (is_memory_error error) → IfSome told (λ files. RefusesJob files settings rows places order at room error)
-if_store_failed told settings rows places order at room Failed error is no_read no_memory = absurd (false≢true (sym no_read ∙ ap is_read_error is))
-if_store_failed told settings rows places order at room OutOfMemory error is no_read no_memory = absurd (false≢true (sym no_memory ∙ ap is_memory_error is))
+pub store_failed : (fault : StoreFault) → blame_of (of_store fault) ≡ Input → ⊥
+store_failed Failed input = cc
+store_failed OutOfMemory input = cc
 
 pub if_refused_missed : (told : Option (List File)) (settings : Settings) (rows : List Row) (places order : List ℕ) (row : Row) (at room : ℕ) (error : PlanError) → error ≡ TooLarge row.app → IfSome told (λ files. Misses files settings rows places order row at room) → IfSome told (λ files. RefusesJob files settings rows places order at room error)
 if_refused_missed None settings rows places order row at room error is missed = tt
@@ -163,15 +167,15 @@ if_refused_sent None settings rows places order row at room error job is app lar
 if_refused_sent (Some files) settings rows places order row at room error job is app large stands =
     (job, stands, inr (inr (inr (inr large))), is ∙ ap (λ (name : List ℕ). TooLarge name) (sym app))
 
-pub if_refuses_jobs : (told : Option (List File)) (settings : Settings) (rows : List Row) (places order : List ℕ) (jobs : List Job) (at room : ℕ) (error : PlanError) → at < length order → length jobs ≡ at → IfSome told (λ files. (k : ℕ) (job : Job) → slice_get jobs k ≡ Some job → IsJobAt files settings rows places order k job) → AllFit jobs → room + source_bytes jobs ≡ most_plan_bytes → IfSome told (λ files. RefusesJob files settings rows places order at room error) → IfSome told (λ files. RefusesJobs files settings rows places order error)
+pub if_refuses_jobs : (told : Option (List File)) (settings : Settings) (rows : List Row) (places order : List ℕ) (jobs : List Job) (at room : ℕ) (error : PlanError) → at < length order → length jobs ≡ at → IfSome told (λ files. (k : ℕ) (job : Job) → slice_get jobs k ≡ Some job → IsJobAt files settings rows places order k job) → AllFit jobs → room + source_bytes jobs ≡ most_plan_bytes → IfSome told (λ files. RefusesJob files settings rows places order at room error) → IfSome told (λ files. MakesJobs files settings rows places order (Err error))
 if_refuses_jobs None settings rows places order jobs at room error within long each fit left refused = tt
 if_refuses_jobs (Some files) settings rows places order jobs at room error within long each fit left refused =
     refuses_jobs files settings rows places order jobs room error (omega (arith, within, long)) each fit left
     (subst (λ (n : ℕ). RefusesJob files settings rows places order n room error) (sym long) refused)
 
-pub if_first_jobs : (told : Option (List File)) (settings : Settings) (rows : List Row) (places order : List ℕ) (jobs : List Job) → length jobs ≤ length order → IfSome told (λ files. (k : ℕ) (job : Job) → slice_get jobs k ≡ Some job → IsJobAt files settings rows places order k job) → IfSome told (λ files. AreFirstJobs files settings rows places order jobs)
-if_first_jobs None settings rows places order jobs few each = tt
-if_first_jobs (Some files) settings rows places order jobs few each = record { few = few; each = each }
+pub if_makes : (told : Option (List File)) (settings : Settings) (rows : List Row) (places order : List ℕ) (jobs : List Job) → length jobs ≡ length order → AllFit jobs → IfSome told (λ files. (k : ℕ) (job : Job) → slice_get jobs k ≡ Some job → IsJobAt files settings rows places order k job) → IfSome told (λ files. MakesJobs files settings rows places order (Ok jobs))
+if_makes None settings rows places order jobs all fit each = tt
+if_makes (Some files) settings rows places order jobs all fit each = makes (record { few = omega (arith, all); each = each }) all fit
 
 -- one job more
 pub if_jobs_more : (told : Option (List File)) (settings : Settings) (rows : List Row) (places order : List ℕ) (jobs new : List Job) (at : ℕ) (job : Job) → new ≡ jobs ++ job ∷ [] → length jobs ≡ at → IfSome told (λ files. (k : ℕ) (j : Job) → slice_get jobs k ≡ Some j → IsJobAt files settings rows places order k j) → IfSome told (λ files. IsJobAt files settings rows places order at job) → IfSome told (λ files. (k : ℕ) (j : Job) → slice_get new k ≡ Some j → IsJobAt files settings rows places order k j)

@@ -13,6 +13,8 @@ pub mod PlanLemmas
 pub mod PlannedLemmas
 pub mod Positions
 pub mod PostLemmas
+pub mod ReadLemmas
+pub mod RootLemmas
 pub mod SceneLemmas
 pub mod SearchLemmas
 pub mod SourceLemmas

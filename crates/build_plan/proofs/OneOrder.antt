@@ -24,7 +24,9 @@ use Rattle.build_plan.specs.Needs.{graph_of, apps_of}
 use Rattle.build_plan.specs.ChildLaws.{OneProject}
 use Rattle.build_plan.proofs.ListLemmas.{Agree, begins, one_at, same_filter, same_list}
 use Rattle.build_plan.proofs.OneRoot.{one_found}
-use Rattle.build_plan.proofs.Stages.{Orders, circles, orders, MakesJobs, passes_size, makes}
+use Rattle.build_plan.specs.Stages.{MakesJobs}
+use Rattle.build_plan.specs.Stages.MakesJobs.{passes_size, makes}
+use Rattle.build_plan.proofs.Stages.{Orders, circles, orders}
 use Rattle.build_plan.proofs.Steps.{HasOne}
 
 module _ (rows : List Row) (env : List ℕ) where

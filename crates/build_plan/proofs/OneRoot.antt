@@ -15,20 +15,21 @@ use Rattle.dep_options.specs.declared.decl.Decl.{Decl}
 use Rattle.dep_options.specs.declared.decl.DepSource.{DepSource}
 use Rattle.dep_options.specs.declared.decl.DepSource.TheVariants.{Path}
 use Rattle.dep_rows.specs.declared.row.Row.{Row}
+use Rattle.dep_rows.specs.Listed.{Listed}
 use Rattle.dep_rows.specs.Rows.{AnswersOnce}
 use Rattle.dep_rows.proofs.Outcomes.{one_list, rows_or_limit, rows_or_fault, fault_or_limit, one_fault}
 use Rattle.project_file.specs.declared.project.Project.{Project}
 use Rattle.project_file.specs.Files.{IsLoaded}
-use Rattle.build_plan.specs.declared.children.ChildFault.{ChildFault}
 use Rattle.build_plan.specs.declared.error.DivergedLine.{DivergedLine}
 use Rattle.build_plan.specs.declared.error.PlanError.{PlanError}
 use Rattle.build_plan.specs.declared.error.PlanError.TheVariants as refused
 use Rattle.build_plan.specs.Dependencies.{AreChildren, AreVersions, HasVersion, version_by}
-use Rattle.build_plan.specs.Faults.{of_child}
 use Rattle.build_plan.specs.Lines.{AreLines, IsLine, line_of}
 use Rattle.build_plan.specs.ChildLaws.{OneProject, once}
 use Rattle.build_plan.proofs.ListLemmas.{one_at, same_zip}
-use Rattle.build_plan.proofs.Stages.{ListsRows, meets, passes, lists, LivesTogether, diverges, lives}
+use Rattle.build_plan.specs.Stages.{ListsRows, LivesTogether}
+use Rattle.build_plan.specs.Stages.ListsRows.{meets, passes, lists}
+use Rattle.build_plan.specs.Stages.LivesTogether.{diverges, lives}
 use Rattle.build_plan.proofs.Steps.{HasOne, same_ok}
 
 one_path : (source : DepSource) (dir other : List ℕ) → source ≡ Path dir → source ≡ Path other → dir ≡ other
@@ -44,18 +45,18 @@ module _ (one : OneProject) (files : List File) where
   children_once : AnswersOnce (AreChildren files)
   children_once app winner answer other says tells = once one says tells
 
-  rows_same : {root : List Decl} {a b : Result (List Row × List ℕ) PlanError} → ListsRows files root a → ListsRows files root b → a ≡ b
-  rows_same {root = root} (meets {fault = d} met) (meets {fault = e} also) = ap (λ (f : ChildFault). Err (of_child f)) (one_fault (AreChildren files) children_once root d e met also)
-  rows_same {root = root} (meets {fault = d} met) (passes many) = absurd (fault_or_limit (AreChildren files) children_once root d met many)
-  rows_same {root = root} (meets {fault = d} met) (lists rows winners are few) = absurd (rows_or_fault (AreChildren files) children_once root rows winners d are met)
-  rows_same {root = root} (passes many) (meets {fault = d} met) = absurd (fault_or_limit (AreChildren files) children_once root d met many)
+  rows_same : {root : List Decl} {a b : Result Listed PlanError} → ListsRows files root a → ListsRows files root b → a ≡ b
+  rows_same {root = root} (meets {error = d} met) (meets {error = e} also) = ap (λ (e : PlanError). Err e) (one_fault (AreChildren files) children_once root d e met also)
+  rows_same {root = root} (meets {error = d} met) (passes many) = absurd (fault_or_limit (AreChildren files) children_once root d met many)
+  rows_same {root = root} (meets {error = d} met) (lists listed are few) = absurd (rows_or_fault (AreChildren files) children_once root listed.rows listed.winners d are met)
+  rows_same {root = root} (passes many) (meets {error = d} met) = absurd (fault_or_limit (AreChildren files) children_once root d met many)
   rows_same (passes many) (passes also) = refl
-  rows_same {root = root} (passes many) (lists rows winners are few) = absurd (rows_or_limit (AreChildren files) children_once root rows winners are few many)
-  rows_same {root = root} (lists rows winners are few) (meets {fault = d} met) = absurd (rows_or_fault (AreChildren files) children_once root rows winners d are met)
-  rows_same {root = root} (lists rows winners are few) (passes many) = absurd (rows_or_limit (AreChildren files) children_once root rows winners are few many)
-  rows_same {root = root} (lists rows winners are few) (lists others other_winners also less) =
-      let same = one_list (AreChildren files) children_once root rows others winners other_winners are also in
-      ap₂ (λ (rs : List Row) (ws : List ℕ). Ok (rs, ws)) same.0 same.1
+  rows_same {root = root} (passes many) (lists listed are few) = absurd (rows_or_limit (AreChildren files) children_once root listed.rows listed.winners are few many)
+  rows_same {root = root} (lists listed are few) (meets {error = d} met) = absurd (rows_or_fault (AreChildren files) children_once root listed.rows listed.winners d are met)
+  rows_same {root = root} (lists listed are few) (passes many) = absurd (rows_or_limit (AreChildren files) children_once root listed.rows listed.winners are few many)
+  rows_same {root = root} (lists listed are few) (lists others also less) =
+      let same = one_list (AreChildren files) children_once root listed.rows others.rows listed.winners others.winners are also in
+      ap₂ (λ (rs : List Row) (ws : List ℕ). Ok (record { rows = rs; winners = ws })) same.0 same.1
 
   pub rows_one : (root : List Decl) → HasOne (ListsRows files root)
   rows_one root a b p q = rows_same p q
@@ -95,7 +96,7 @@ module _ (one : OneProject) (files : List File) where
       clash versions others (d ∷ ds) known also are some none =
           none d.rule d.winner d.other (by_parts rows winners versions others (all_parts versions others known also) d.rule d.winner d.other (are.only 0 d (omega arith)))
 
-      together_same : {a b : Result (Unit {0}) PlanError} → LivesTogether files rows winners a → LivesTogether files rows winners b → a ≡ b
+      together_same : {a b : Result Listed PlanError} → LivesTogether files (record { rows = rows; winners = winners }) a → LivesTogether files (record { rows = rows; winners = winners }) b → a ≡ b
       together_same (diverges versions list {lines = lines} known are some said) (diverges others other_list {lines = other_lines} also_known also more tells) =
           let same : list ≡ other_list = one_divergence_list rows winners versions list other_list are (also_divergences versions others other_list (all_parts versions others known also_known) also) in
           ap (λ (ls : List DivergedLine). Err (refused.Diverged ls)) (same_lines list lines other_lines said (subst (λ (ds : List Divergence). AreLines rows ds other_lines) (sym same) tells))
@@ -103,5 +104,5 @@ module _ (one : OneProject) (files : List File) where
       together_same (lives versions known none) (diverges others list also_known are some said) = absurd (clash others versions list also_known known are some none)
       together_same (lives versions known none) (lives others also_known also) = refl
 
-      pub together_one : HasOne (LivesTogether files rows winners)
+      pub together_one : HasOne (LivesTogether files (record { rows = rows; winners = winners }))
       together_one a b p q = together_same p q

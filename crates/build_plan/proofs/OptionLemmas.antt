@@ -1,6 +1,6 @@
 -- Terms put at the end of a list.
 use Rattle.std.proofs.Common.{◌≡◌, List, [], ◌∷◌, ◌++◌, refl, ◌∙◌, ap, ap₂}
-use Rattle.elixir_terms.specs.declared.term.Term.{Term}
+use Rattle.term_values.specs.declared.term.Term.{Term}
 
 together : (p : List Term) (a b c d : Term) → (((p ++ a ∷ []) ++ b ∷ []) ++ c ∷ []) ++ d ∷ [] ≡ p ++ a ∷ b ∷ c ∷ d ∷ []
 together [] a b c d = refl

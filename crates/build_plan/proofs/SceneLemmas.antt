@@ -1,5 +1,5 @@
 -- What the environment reaches, and its jobs.
-use Rattle.std.proofs.Common.{◌≡◌, ℕ, ◌<◌, List, length, get_or, All, sym, ◌∙◌, ap, subst, arith, Option, Some, None, IfSome}
+use Rattle.std.proofs.Common.{◌≡◌, ℕ, ◌<◌, List, length, get_or, All, sym, ◌∙◌, ap, subst, arith, Option, Some, None, Result, Err, IfSome}
 use Rattle.std.specs.List.{AllZip}
 use Rattle.std.proofs.lemmas.List.{length-map}
 use Rattle.std.proofs.lemmas.List.Elements.{Contains-get_or}
@@ -16,10 +16,10 @@ use Rattle.project_file.specs.declared.settings.Settings.{Settings}
 use Rattle.build_plan.specs.declared.error.PlanError.{PlanError}
 use Rattle.build_plan.specs.declared.found.Found.{Found}
 use Rattle.build_plan.specs.Found.{IsFoundAt}
-use Rattle.build_plan.specs.Jobs.{AllFit, AreFirstJobs}
 use Rattle.build_plan.specs.Needs.{direct_needs, graph_of}
-use Rattle.build_plan.specs.Scenes.{AreStands, HasJobs, HasNoJobs, IsCycleAmong, IsScene, RefusesJobs}
-use Rattle.build_plan.specs.Scenes.HasNoJobs.{cycle, too_large}
+use Rattle.build_plan.specs.Scenes.{AreStands, IsScene}
+use Rattle.build_plan.specs.Stages.{OrdersGraph, MakesJobs, HasJobs}
+use Rattle.build_plan.specs.Stages.HasJobs.{circles, orders}
 
 module _ (rows : List Row) (env places : List ℕ) (reached : AreReached rows env places) where
   pub places_within : All (λ place. place < length rows) places
@@ -43,24 +43,12 @@ module _ (rows : List Row) (env places : List ℕ) (reached : AreReached rows en
     known = known;
   }
 
-  pub if_has_jobs : (told : Option (List File)) (settings : Settings) (graph : List (List ℕ)) (order : List ℕ) (jobs : List Job) → graph ≡ graph_of rows places → IsOrderOf graph order → IfSome told (λ files. AreFirstJobs files settings rows places order jobs) → length jobs ≡ length order → AllFit jobs → IfSome told (λ files. HasJobs files settings rows env jobs)
-  if_has_jobs None settings graph order jobs is is_order first all fit = tt
-  if_has_jobs (Some files) settings graph order jobs is is_order first all fit = record {
-    places = places;
-    order = order;
-    reached = reached;
-    is_order = subst (λ (g : List (List ℕ)). IsOrderOf g order) is is_order;
-    first = first;
-    all = all;
-    fit = fit;
-  }
+  pub if_made : (told : Option (List File)) (settings : Settings) (graph : List (List ℕ)) (order : List ℕ) (answer : Result (List Job) PlanError) → graph ≡ graph_of rows places → IsOrderOf graph order → IfSome told (λ files. MakesJobs files settings rows places order answer) → IfSome told (λ files. HasJobs files settings rows env answer)
+  if_made None settings graph order answer is is_order made = tt
+  if_made (Some files) settings graph order answer is is_order made =
+      orders places order reached (subst (λ (g : List (List ℕ)). IsOrderOf g order) is is_order) made
 
-  pub if_too_large : (told : Option (List File)) (settings : Settings) (graph : List (List ℕ)) (order : List ℕ) (error : PlanError) → graph ≡ graph_of rows places → IsOrderOf graph order → IfSome told (λ files. RefusesJobs files settings rows places order error) → IfSome told (λ files. HasNoJobs files settings rows env error)
-  if_too_large None settings graph order error is is_order refused = tt
-  if_too_large (Some files) settings graph order error is is_order refused =
-      too_large places order reached (subst (λ (g : List (List ℕ)). IsOrderOf g order) is is_order) refused
-
-  pub if_cycle : (told : Option (List File)) (settings : Settings) (graph : List (List ℕ)) (error : PlanError) → graph ≡ graph_of rows places → IsCycleAmong rows places graph error → IfSome told (λ files. HasNoJobs files settings rows env error)
+  pub if_cycle : (told : Option (List File)) (settings : Settings) (graph : List (List ℕ)) (error : PlanError) → graph ≡ graph_of rows places → OrdersGraph rows places graph (Err error) → IfSome told (λ files. HasJobs files settings rows env (Err error))
   if_cycle None settings graph error is (nodes, around, told) = tt
   if_cycle (Some files) settings graph error is (nodes, around, told) =
-      subst (HasNoJobs files settings rows env) (sym told) (cycle places nodes reached (subst (λ (g : List (List ℕ)). IsCycleOf g nodes) is around))
+      subst (λ (e : PlanError). HasJobs files settings rows env (Err e)) (sym told) (circles places nodes reached (subst (λ (g : List (List ℕ)). IsCycleOf g nodes) is around))

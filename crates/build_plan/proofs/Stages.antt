@@ -11,23 +11,26 @@ use Rattle.dep_options.specs.declared.decl.Decl.{Decl}
 use Rattle.dep_order.specs.Cycle.{IsCycleOf}
 use Rattle.dep_order.specs.Listing.{IsOrderOf}
 use Rattle.dep_rows.specs.declared.row.Row.{Row}
+use Rattle.dep_rows.specs.Listed.{Listed}
 use Rattle.dep_rows.specs.Rows.{AreRows, Meets, PassesLimit, most_rows}
 use Rattle.project_file.specs.declared.error.ProjectError.{ProjectError}
 use Rattle.project_file.specs.declared.error.SettingsError.{SettingsError}
 use Rattle.project_file.specs.declared.project.Project.{Project}
 use Rattle.project_file.specs.declared.settings.Settings.{Settings}
 use Rattle.project_file.specs.Files.{IsLoaded, AreSettings, manifest_at}
-use Rattle.build_plan.specs.declared.children.ChildFault.{ChildFault}
 use Rattle.build_plan.specs.declared.error.DivergedLine.{DivergedLine}
 use Rattle.build_plan.specs.declared.error.PlanError.{PlanError}
 use Rattle.build_plan.specs.declared.error.PlanError.TheVariants as refused
 use Rattle.build_plan.specs.Dependencies.{AreChildren, AreVersions}
-use Rattle.build_plan.specs.Faults.{of_child}
 use Rattle.build_plan.specs.Jobs.{AreFirstJobs, AllFit, is_too_large}
 use Rattle.build_plan.specs.Lines.{AreLines}
 use Rattle.build_plan.specs.Needs.{graph_of, apps_of}
 use Rattle.build_plan.specs.Plan.{IsPlan}
 use Rattle.build_plan.specs.Plan.IsPlan.{settings, no_project, project, dependency, too_many, diverged, cycle, too_large, planned}
+use Rattle.build_plan.specs.Stages.{ListsRows, LivesTogether, MakesJobs}
+use Rattle.build_plan.specs.Stages.ListsRows.{meets, passes, lists}
+use Rattle.build_plan.specs.Stages.LivesTogether.{diverges, lives}
+use Rattle.build_plan.specs.Stages.MakesJobs.{passes_size, makes}
 use Rattle.build_plan.proofs.Steps.{Becomes, Then, stops, goes_on}
 
 abbrev pub settings_answer : Result Settings SettingsError → Result Settings PlanError
@@ -39,32 +42,16 @@ root_answer (Ok None) = Err refused.NoProject
 root_answer (Ok (Some root)) = Ok root
 root_answer (Err fault) = Err (refused.Project (manifest_at []) fault)
 
--- the rows of a root and their winners
-pub data ListsRows (files : List File) (root : List Decl) : Result (List Row × List ℕ) PlanError → Type 0 where
-  meets : {fault : ChildFault} → Meets (AreChildren files) root fault → ListsRows files root (Err (of_child fault))
-  passes : PassesLimit (AreChildren files) root → ListsRows files root (Err refused.TooManyRows)
-  lists : (rows : List Row) (winners : List ℕ) → AreRows (AreChildren files) root rows winners → length rows ≤ most_rows → ListsRows files root (Ok (rows, winners))
-
--- the rows live together
-pub data LivesTogether (files : List File) (rows : List Row) (winners : List ℕ) : Result (Unit {0}) PlanError → Type 0 where
-  diverges : (versions : List (Option Version)) (divergences : List Divergence) {lines : List DivergedLine} → AreVersions files rows winners versions → AreDivergences rows winners versions divergences → 0 < length divergences → AreLines rows divergences lines → LivesTogether files rows winners (Err (refused.Diverged lines))
-  lives : (versions : List (Option Version)) → AreVersions files rows winners versions → NoneDiverges rows winners versions → LivesTogether files rows winners (Ok tt)
-
 -- the winners that are reached, and their order
 pub data Orders (rows : List Row) (env : List ℕ) : Result (List ℕ × List ℕ) PlanError → Type 0 where
   circles : (places nodes : List ℕ) → AreReached rows env places → IsCycleOf (graph_of rows places) nodes → Orders rows env (Err (refused.Cycle (apps_of rows places nodes)))
   orders : (places order : List ℕ) → AreReached rows env places → IsOrderOf (graph_of rows places) order → Orders rows env (Ok (places, order))
 
--- the jobs in that order
-pub data MakesJobs (files : List File) (settings : Settings) (rows : List Row) (places order : List ℕ) : Result (List Job) PlanError → Type 0 where
-  passes_size : (jobs : List Job) (job : Job) → AreFirstJobs files settings rows places order (jobs ++ job ∷ []) → AllFit jobs → IsTrue (is_too_large jobs job) → MakesJobs files settings rows places order (Err (refused.TooLarge job.app))
-  makes : {jobs : List Job} → AreFirstJobs files settings rows places order jobs → length jobs ≡ length order → AllFit jobs → MakesJobs files settings rows places order (Ok jobs)
+abbrev pub FromOrder : List File → Settings → Listed → List ℕ → Result (List Job) PlanError → Type 0
+FromOrder files set listed env = Then (Orders listed.rows env) (λ ordered. MakesJobs files set listed.rows ordered.0 ordered.1)
 
-abbrev pub FromOrder : List File → Settings → List Row × List ℕ → List ℕ → Result (List Job) PlanError → Type 0
-FromOrder files set listed env = Then (Orders listed.0 env) (λ ordered. MakesJobs files set listed.0 ordered.0 ordered.1)
-
-abbrev pub FromRows : List File → Settings → List ℕ → List Row × List ℕ → Result (List Job) PlanError → Type 0
-FromRows files set env listed = Then (LivesTogether files listed.0 listed.1) (λ live. FromOrder files set listed env)
+abbrev pub FromRows : List File → Settings → List ℕ → Listed → Result (List Job) PlanError → Type 0
+FromRows files set env listed = Then (LivesTogether files listed) (λ live. FromOrder files set listed env)
 
 abbrev pub FromRoot : List File → List ℕ → Settings → Project → Result (List Job) PlanError → Type 0
 FromRoot files env set root = Then (ListsRows files root.decls) (FromRows files set env)
@@ -85,16 +72,16 @@ staged (project set {fault = fault} said why) = goes_on set (Ok set, said, refl)
 staged {files = files} {env = env} (dependency set root is met) = from_root files env set root is.set is.loaded (stops (meets met))
 staged {files = files} {env = env} (too_many set root is many) = from_root files env set root is.set is.loaded (stops (passes many))
 staged {files = files} {env = env} (diverged set root rows winners versions divergences is listed are some said) =
-    from_root files env set root is.set is.loaded (goes_on (rows, winners) (lists rows winners listed.listed listed.few) (stops (diverges versions divergences listed.known are some said)))
+    from_root files env set root is.set is.loaded (goes_on (record { rows = rows; winners = winners }) (lists (record { rows = rows; winners = winners }) listed.listed listed.few) (stops (diverges versions divergences listed.known are some said)))
 staged {files = files} {env = env} (cycle set root rows places nodes is converge around) =
     from_root files env set root is.set is.loaded
-    (goes_on (rows, converge.winners) (lists rows converge.winners converge.listed.listed converge.listed.few)
-    (goes_on tt (lives converge.versions converge.listed.known converge.together) (stops (circles places nodes converge.reached around))))
+    (goes_on (record { rows = rows; winners = converge.winners }) (lists (record { rows = rows; winners = converge.winners }) converge.listed.listed converge.listed.few)
+    (goes_on (record { rows = rows; winners = converge.winners }) (lives converge.versions converge.listed.known converge.together) (stops (circles places nodes converge.reached around))))
 staged {files = files} {env = env} (too_large set root rows places order jobs job is converge ordered first fit large) =
     from_root files env set root is.set is.loaded
-    (goes_on (rows, converge.winners) (lists rows converge.winners converge.listed.listed converge.listed.few)
-    (goes_on tt (lives converge.versions converge.listed.known converge.together) (goes_on (places, order) (orders places order converge.reached ordered) (passes_size jobs job first fit large))))
+    (goes_on (record { rows = rows; winners = converge.winners }) (lists (record { rows = rows; winners = converge.winners }) converge.listed.listed converge.listed.few)
+    (goes_on (record { rows = rows; winners = converge.winners }) (lives converge.versions converge.listed.known converge.together) (goes_on (places, order) (orders places order converge.reached ordered) (passes_size jobs job first fit large))))
 staged {files = files} {env = env} (planned set root rows places order is converge ordered first whole fit) =
     from_root files env set root is.set is.loaded
-    (goes_on (rows, converge.winners) (lists rows converge.winners converge.listed.listed converge.listed.few)
-    (goes_on tt (lives converge.versions converge.listed.known converge.together) (goes_on (places, order) (orders places order converge.reached ordered) (makes first whole fit))))
+    (goes_on (record { rows = rows; winners = converge.winners }) (lists (record { rows = rows; winners = converge.winners }) converge.listed.listed converge.listed.few)
+    (goes_on (record { rows = rows; winners = converge.winners }) (lives converge.versions converge.listed.known converge.together) (goes_on (places, order) (orders places order converge.reached ordered) (makes first whole fit))))

@@ -1,5 +1,6 @@
 -- What an app declares in turn is one thing.
 use Rattle.std.proofs.Common.{◌≡◌, ℕ, true, false, List, filter, Option, Some, None, Result, Ok, Err, IfSome, IsTrue, IsFalse, refl, sym, ◌∙◌, ap, subst}
+use Rattle.mx_base.specs.Blame.Blame.{Input}
 use Rattle.mx_base.specs.declared.file.File.{File}
 use Rattle.elixir_terms.proofs.RefusalLaws.{refusal_one}
 use Rattle.elixir_terms.proofs.SpelledLemmas.{spelled_not_refused}
@@ -15,11 +16,11 @@ use Rattle.project_file.specs.declared.error.ProjectError.{ProjectError}
 use Rattle.project_file.specs.declared.project.Project.{Project}
 use Rattle.project_file.specs.Files.{IsLoaded, manifest_at}
 use Rattle.project_file.proofs.OneLemmas.{project_law}
-use Rattle.build_plan.specs.declared.children.ChildFault.{ChildFault}
-use Rattle.build_plan.specs.declared.children.ChildFault.TheVariants.{PathMissing, Project as Refused}
+use Rattle.build_plan.specs.declared.error.PlanError.{PlanError}
+use Rattle.build_plan.specs.declared.error.PlanError.TheVariants.{PathMissing, Project as Refused}
+use Rattle.build_plan.specs.Blame.{blame_of}
 use Rattle.build_plan.specs.Dependencies.{AreChildren, declared_by, has_files}
 use Rattle.build_plan.specs.Dependencies.AreChildren.{unlocked, missing, refused, declared}
-use Rattle.build_plan.specs.Faults.{is_failed, is_memory}
 
 -- the manifest in a folder says one thing
 abbrev pub OneProject : Type 0
@@ -39,7 +40,7 @@ module _ (one : OneProject) (files : List File) (source : DepSource) where
   loaded_once dir other answer found is also says tells =
       one files other answer found (subst (λ (d : List ℕ). IsLoaded files d answer) (one_folder source dir other is also) says) tells
 
-  same_refusal : (dir other : List ℕ) (fault error : ProjectError) → source ≡ Path dir → source ≡ Path other → IsLoaded files dir (Err fault) → IsLoaded files other (Err error) → ◌≡◌ {A = Result (List Decl) ChildFault} (Err (Refused (manifest_at dir) fault)) (Err (Refused (manifest_at other) error))
+  same_refusal : (dir other : List ℕ) (fault error : ProjectError) → source ≡ Path dir → source ≡ Path other → IsLoaded files dir (Err fault) → IsLoaded files other (Err error) → ◌≡◌ {A = Result (List Decl) PlanError} (Err (Refused (manifest_at dir) fault)) (Err (Refused (manifest_at other) error))
   same_refusal dir other fault error is also says tells =
       let folder = one_folder source dir other is also in
       let reads = loaded_once dir other (Err fault) (Err error) is also says tells in
@@ -53,7 +54,7 @@ module _ (one : OneProject) (files : List File) (source : DepSource) where
   same_project dir other first found is also says tells = let reads = loaded_once dir other (Ok first) (Ok found) is also says tells in cc
 
 -- each winner has one answer at most
-pub once : OneProject → {files : List File} {app : List ℕ} {winner : Decl} {answer other : Result (List Decl) ChildFault} → AreChildren files app winner answer → AreChildren files app winner other → answer ≡ other
+pub once : OneProject → {files : List File} {app : List ℕ} {winner : Decl} {answer other : Result (List Decl) PlanError} → AreChildren files app winner answer → AreChildren files app winner other → answer ≡ other
 once one (unlocked name is) (unlocked other also) = refl
 once one {winner = winner} (unlocked name is) (missing dir also gone) = absurd (one_kind winner.source name dir is also)
 once one {winner = winner} (unlocked name is) (refused dir also has reads) = absurd (one_kind winner.source name dir is also)
@@ -79,12 +80,12 @@ pub children_once : (told : Option (List File)) → IfSome told (λ files. Answe
 children_once None = tt
 children_once (Some files) = λ app winner answer other says tells. once one_project says tells
 
--- a manifest is never refused because the store failed, or for want of memory
-fault_inside : {files : List File} {app : List ℕ} {winner : Decl} {fault : ChildFault} → AreChildren files app winner (Err fault) → IsFalse (is_failed fault) × IsFalse (is_memory fault)
-fault_inside (unlocked name is) = (refl, refl)
-fault_inside (missing dir is gone) = (refl, refl)
-fault_inside (refused dir is has reads) = (refl, refl)
+-- what is told of a winner is a refusal
+fault_inside : {files : List File} {app : List ℕ} {winner : Decl} {error : PlanError} → AreChildren files app winner (Err error) → blame_of error ≡ Input
+fault_inside (unlocked name is) = refl
+fault_inside (missing dir is gone) = refl
+fault_inside (refused dir is has reads) = refl
 
-pub fault_is_told : (told : Option (List File)) (app : List ℕ) (winner : Decl) (fault : ChildFault) → IfSome told (λ files. AreChildren files app winner (Err fault) → IsFalse (is_failed fault) × IsFalse (is_memory fault))
-fault_is_told None app winner fault = tt
-fault_is_told (Some files) app winner fault = fault_inside
+pub fault_is_told : (told : Option (List File)) (app : List ℕ) (winner : Decl) (error : PlanError) → IfSome told (λ files. AreChildren files app winner (Err error) → blame_of error ≡ Input)
+fault_is_told None app winner error = tt
+fault_is_told (Some files) app winner error = fault_inside

@@ -13,8 +13,8 @@ use Rattle.project_file.specs.declared.project.Project.{Project}
 use Rattle.project_file.specs.Files.{IsLoaded, manifest_at}
 use Rattle.dep_rows.specs.declared.row.Row.{Row}
 use Rattle.converger.specs.Reach.{admits}
-use Rattle.build_plan.specs.declared.children.ChildFault.{ChildFault}
-use Rattle.build_plan.specs.declared.children.ChildFault.TheVariants.{PathMissing, Project as Refused, NotLocked}
+use Rattle.build_plan.specs.declared.error.PlanError.{PlanError}
+use Rattle.build_plan.specs.declared.error.PlanError.TheVariants.{PathMissing, Project as Refused, NotLocked}
 
 -- the version of a dependency, 0.0.0 without a manifest
 abbrev pub version_by : Option Project → List ℕ
@@ -39,7 +39,7 @@ has_files files dir = is_apart dir && not (is_empty (paths_below dir files))
 
 -- what an app with this winner declares in turn, or why that isn't known: the declarations of its manifest
 -- that are for the winner's environment
-pub data AreChildren (files : List File) (app : List ℕ) (winner : Decl) : Result (List Decl) ChildFault → Type 0 where
+pub data AreChildren (files : List File) (app : List ℕ) (winner : Decl) : Result (List Decl) PlanError → Type 0 where
   unlocked : (name : List ℕ) → winner.source ≡ Hex name → AreChildren files app winner (Err (NotLocked app))
   missing : (dir : List ℕ) → winner.source ≡ Path dir → IsFalse (has_files files dir) → AreChildren files app winner (Err (PathMissing app dir))
   refused : (dir : List ℕ) {fault : ProjectError} → winner.source ≡ Path dir → IsTrue (has_files files dir) → IsLoaded files dir (Err fault) → AreChildren files app winner (Err (Refused (manifest_at dir) fault))

@@ -1,11 +1,12 @@
 -- What was found in the folder of a dependency.
 use Rattle.std.specs.Prelude.{◌≡◌, ◌⊎◌, ℕ, ◌<◌, List, length, Option, Some, Ok, IsTrue, IsFalse, slice_get, MatchOption}
-use Rattle.std.specs.List.{All}
+use Rattle.std.specs.List.{All, AllZip}
 use Rattle.mx_base.specs.declared.file.File.{File}
 use Rattle.mx_base.specs.Order.{ArePathsInOrder, bytes_at}
 use Rattle.tree_store.specs.Files.{paths_below, is_in_build}
 use Rattle.dep_options.specs.declared.decl.DepSource.TheVariants.{Path}
 use Rattle.dep_rows.specs.declared.row.Row.{Row}
+use Rattle.dep_rows.specs.Listed.{Listed, IsWithinLimit}
 use Rattle.project_file.specs.Files.{IsLoaded, manifest_at}
 use Rattle.project_file.specs.Manifest.{is_version}
 use Rattle.build_plan.specs.declared.found.Found.{Found}
@@ -32,6 +33,11 @@ pub record IsFoundAt (rows : List Row) (place : ℕ) (found : Found) : Type 0 wh
   pub stands : slice_get rows place ≡ Some row
   pub source : row.decl.source ≡ Path found.dir
   pub sound : IsSound found
+
+-- these were found for the winners, whose rows are well formed and within the limit
+pub record AreFoundFor (listed : Listed) (found : List Found) : Type 0 where
+  pub within : IsWithinLimit listed
+  pub at : AllZip (IsFoundAt listed.rows) listed.winners found
 
 -- the sources of a dependency: all of them, or they are more than a dependency may have or than there is room for
 abbrev pub AreSources : List File → List ℕ → ℕ → Option (List File) → Type 0

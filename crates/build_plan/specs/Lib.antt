@@ -1,7 +1,6 @@
-pub mod ChildFaults
+pub mod Blame
 pub mod ChildLaws
 pub mod Dependencies
-pub mod Faults
 pub mod Found
 pub mod Jobs
 pub mod Kept
@@ -9,5 +8,7 @@ pub mod Lines
 pub mod Needs
 pub mod Options
 pub mod Plan
+pub mod Refusals
 pub mod Scenes
 pub mod Sources
+pub mod Stages

@@ -1,8 +1,8 @@
 -- The options text of a job: all that its declaration says of how it is compiled, as a printed term.
 use Rattle.std.specs.Prelude.{ℕ, Bool, true, false, List, [], ◌∷◌, map, codes}
-use Rattle.elixir_terms.specs.declared.term.Term.{Term}
-use Rattle.elixir_terms.specs.declared.term.Term.TheVariants.{Atom, Str, List as Elements, Tuple}
-use Rattle.elixir_terms.specs.Printed.{printed}
+use Rattle.term_values.specs.declared.term.Term.{Term}
+use Rattle.term_values.specs.declared.term.Term.TheVariants.{Atom, Str, List as Elements, Tuple}
+use Rattle.term_print.specs.Printed.{printed}
 use Rattle.mx_base.specs.declared.variable.Variable.{Variable}
 use Rattle.compile_model.specs.declared.how.How.{How}
 use Rattle.compile_model.specs.declared.how.How.TheVariants.{Nothing, Unit as ByUnit, Program}

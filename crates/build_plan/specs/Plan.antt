@@ -17,12 +17,10 @@ use Rattle.project_file.specs.declared.error.SettingsError.{SettingsError}
 use Rattle.project_file.specs.declared.project.Project.{Project}
 use Rattle.project_file.specs.declared.settings.Settings.{Settings}
 use Rattle.project_file.specs.Files.{IsLoaded, AreSettings, manifest_at}
-use Rattle.build_plan.specs.declared.children.ChildFault.{ChildFault}
 use Rattle.build_plan.specs.declared.error.DivergedLine.{DivergedLine}
 use Rattle.build_plan.specs.declared.error.PlanError.{PlanError}
 use Rattle.build_plan.specs.declared.error.PlanError.TheVariants as refused
 use Rattle.build_plan.specs.Dependencies.{AreChildren, AreVersions}
-use Rattle.build_plan.specs.Faults.{of_child}
 use Rattle.build_plan.specs.Jobs.{AreFirstJobs, AllFit, is_too_large}
 use Rattle.build_plan.specs.Lines.{AreLines}
 use Rattle.build_plan.specs.Needs.{graph_of, apps_of}
@@ -38,11 +36,6 @@ pub record AreListed (files : List File) (root : List Decl) (rows : List Row) (w
   pub few : length rows ≤ most_rows
   pub known : AreVersions files rows winners versions
 
--- why the rows of a root can't be had: a dependency is refused, or there are too many
-abbrev pub RefusesRows : List File → List Decl → PlanError → Type 0
-RefusesRows files root error =
-    ((fault : ChildFault) × Meets (AreChildren files) root fault × (error ≡ of_child fault)) ⊎ (PassesLimit (AreChildren files) root × (error ≡ refused.TooManyRows))
-
 -- rows that live together, and the winners that the environment reaches
 pub record Converge (files : List File) (env : List ℕ) (root : List Decl) (rows : List Row) (places : List ℕ) : Type 0 where
   pub winners : List ℕ
@@ -57,7 +50,7 @@ pub data IsPlan (files : List File) (env : List ℕ) : Result (List Job) PlanErr
   settings : {error : SettingsError} → AreSettings files (Err error) → IsPlan files env (Err (refused.Settings error))
   no_project : (settings : Settings) → AreSettings files (Ok settings) → IsLoaded files [] (Ok None) → IsPlan files env (Err refused.NoProject)
   project : (settings : Settings) {fault : ProjectError} → AreSettings files (Ok settings) → IsLoaded files [] (Err fault) → IsPlan files env (Err (refused.Project (manifest_at []) fault))
-  dependency : (settings : Settings) (root : Project) {fault : ChildFault} → IsRoot files settings root → Meets (AreChildren files) root.decls fault → IsPlan files env (Err (of_child fault))
+  dependency : (settings : Settings) (root : Project) {error : PlanError} → IsRoot files settings root → Meets (AreChildren files) root.decls error → IsPlan files env (Err error)
   too_many : (settings : Settings) (root : Project) → IsRoot files settings root → PassesLimit (AreChildren files) root.decls → IsPlan files env (Err refused.TooManyRows)
   diverged : (settings : Settings) (root : Project) (rows : List Row) (winners : List ℕ) (versions : List (Option Version)) (divergences : List Divergence) {lines : List DivergedLine} → IsRoot files settings root → AreListed files root.decls rows winners versions → AreDivergences rows winners versions divergences → 0 < length divergences → AreLines rows divergences lines → IsPlan files env (Err (refused.Diverged lines))
   cycle : (settings : Settings) (root : Project) (rows : List Row) (places nodes : List ℕ) → IsRoot files settings root → Converge files env root.decls rows places → IsCycleOf (graph_of rows places) nodes → IsPlan files env (Err (refused.Cycle (apps_of rows places nodes)))

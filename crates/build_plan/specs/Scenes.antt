@@ -1,5 +1,5 @@
 -- What is known of a plan before its jobs are made, and what a job is made of.
-use Rattle.std.specs.Prelude.{◌≡◌, ◌⊎◌, ℕ, ◌<◌, ◌≤◌, List, [], ◌∷◌, ◌++◌, length, position, Option, Some, None, Ok, Err, IsTrue, slice_get, slice_index, nat_eq}
+use Rattle.std.specs.Prelude.{◌≡◌, ◌⊎◌, ℕ, ◌<◌, ◌≤◌, List, [], ◌∷◌, ◌++◌, length, position, Option, Some, Result, Ok, Err, IsTrue, slice_get, slice_index, nat_eq}
 use Rattle.std.specs.List.{All, AllPairs, AllZip, Contains}
 use Rattle.semver.specs.declared.Version.{Version}
 use Rattle.mx_base.specs.declared.file.File.{File}
@@ -134,52 +134,7 @@ abbrev pub RefusesJob : List File → Settings → List Row → List ℕ → Lis
 RefusesJob files settings rows places order at room error =
     (job : Job) × IsJobAt files settings rows places order at job × Passes at room job × (error ≡ TooLarge job.app)
 
--- the first app past a limit is told
-abbrev pub RefusesJobs : List File → Settings → List Row → List ℕ → List ℕ → PlanError → Type 0
-RefusesJobs files settings rows places order error =
-    (jobs : List Job) × (job : Job) × AreFirstJobs files settings rows places order (jobs ++ job ∷ []) × AllFit jobs × IsTrue (is_too_large jobs job) × (error ≡ TooLarge job.app)
-
--- the jobs of what an environment reaches
-pub record HasJobs (files : List File) (settings : Settings) (rows : List Row) (env : List ℕ) (jobs : List Job) : Type 0 where
-  pub places : List ℕ
-  pub order : List ℕ
-  pub reached : AreReached rows env places
-  pub is_order : IsOrderOf (graph_of rows places) order
-  pub first : AreFirstJobs files settings rows places order jobs
-  pub all : length jobs ≡ length order
-  pub fit : AllFit jobs
-
--- why they can't be had: a cycle, or a job that passes a limit
-pub data HasNoJobs (files : List File) (settings : Settings) (rows : List Row) (env : List ℕ) : PlanError → Type 0 where
-  cycle : (places nodes : List ℕ) → AreReached rows env places → IsCycleOf (graph_of rows places) nodes → HasNoJobs files settings rows env (Cycle (apps_of rows places nodes))
-  too_large : (places order : List ℕ) {error : PlanError} → AreReached rows env places → IsOrderOf (graph_of rows places) order → RefusesJobs files settings rows places order error → HasNoJobs files settings rows env error
-
--- the rows live together, with the versions that the files say
-pub record Match (files : List File) (rows : List Row) (winners : List ℕ) : Type 0 where
-  pub versions : List (Option Version)
-  pub known : AreVersions files rows winners versions
-  pub together : NoneDiverges rows winners versions
-
--- these are the divergences of the rows
-pub record Diverge (files : List File) (rows : List Row) (winners : List ℕ) (error : PlanError) : Type 0 where
-  pub versions : List (Option Version)
-  pub divergences : List Divergence
-  pub lines : List DivergedLine
-  pub known : AreVersions files rows winners versions
-  pub are : AreDivergences rows winners versions divergences
-  pub some : 0 < length divergences
-  pub told : AreLines rows divergences lines
-  pub is : error ≡ Diverged lines
-
--- the settings are refused
-abbrev pub RefusesSettings : List File → PlanError → Type 0
-RefusesSettings files error = (fault : SettingsError) × AreSettings files (Err fault) × (error ≡ refused.Settings fault)
-
--- the root has no manifest, or one that is refused
-abbrev pub RefusesRoot : List File → PlanError → Type 0
-RefusesRoot files error =
-    (IsLoaded files [] (Ok None) × (error ≡ refused.NoProject)) ⊎ ((fault : ProjectError) × IsLoaded files [] (Err fault) × (error ≡ refused.Project (manifest_at []) fault))
-
--- the apps of a cycle of the graph
-abbrev pub IsCycleAmong : List Row → List ℕ → List (List ℕ) → PlanError → Type 0
-IsCycleAmong rows places graph error = (nodes : List ℕ) × IsCycleOf graph nodes × (error ≡ Cycle (apps_of rows places nodes))
+-- the job at a place of the order, or the app whose job passes a limit
+abbrev pub MakesJob : List File → Settings → List Row → List ℕ → List ℕ → ℕ → ℕ → Result Job PlanError → Type 0
+MakesJob files settings rows places order at room (Ok job) = IsJobAt files settings rows places order at job
+MakesJob files settings rows places order at room (Err error) = RefusesJob files settings rows places order at room error

@@ -1,30 +1,25 @@
 // All declarations of a project, and what is found in the folders of its dependencies.
-ghost use Rattle.std.specs.Prelude.{◌≡◌, IfOk, IfErr, IfSome, IsFalse};
+ghost use Rattle.std.specs.Prelude.{◌≡◌, IfOk};
 ghost use Rattle.std.specs.List.{All, AllZip};
-ghost use Rattle.mx_base.specs.Causes.{Counted};
-ghost use Rattle.dep_rows.specs.Listed.{IsWithinLimit};
-ghost use Rattle.dep_rows.specs.Rows.{AreRows};
-ghost use Rattle.build_plan.specs.Dependencies.{AreChildren};
-ghost use Rattle.dep_rows.specs.Children.{fails};
-ghost use Rattle.build_plan.specs.ChildFaults.{RefusesWinner};
-ghost use Rattle.build_plan.specs.Faults.{is_failed, is_memory, is_read, is_read_error, is_memory_error};
-ghost use Rattle.build_plan.specs.Found.{IsFound, IsFoundAt};
-ghost use Rattle.build_plan.specs.Kept.{AreKept};
-ghost use Rattle.build_plan.specs.Plan.{RefusesRows};
+ghost use Rattle.mx_base.specs.Blame.{AnswersBy, fails};
+ghost use Rattle.tree_store.specs.Known.{Told, OnlyReads};
+ghost use Rattle.build_plan.specs.Blame.{blame_of};
+ghost use Rattle.build_plan.specs.Found.{AreFoundFor, IsFound, IsFoundAt};
+ghost use Rattle.build_plan.specs.Kept.{AreKept, FindsAll};
+ghost use Rattle.build_plan.specs.Stages.{ListsRows};
 
-use crate::children::ChildFault;
 use crate::error::PlanError;
 use crate::found::Found;
 use crate::manifests::Manifests;
 use dep_options::Decl;
-use dep_rows::{Rows, RowsError, rows};
+use dep_rows::{Rows, rows};
 use project_file::one_project;
 use std::alloc::Global;
 use std::collections::BTreeMap;
 use tree_store::Store;
 
 /// The declarations of a project, and what is found in the folders of the winners, in their order.
-#[derive(Debug, Drop)]
+#[derive(Drop)]
 pub(crate) struct Inventory {
     pub rows: Rows,
     pub found: Vec<Found>,
@@ -36,15 +31,10 @@ pub(crate) fn dependencies<S: Store>(
     store: &mut S,
     root: &[Decl],
 ) -> Result<Inventory, PlanError>
-    ensures rows { IfOk result (λ all. IfSome (S.sources store.old) (λ files. AreRows (AreChildren files) root.now all.rows.rows all.rows.winners)) }
-    ensures within { IfOk result (λ all. IsWithinLimit all.rows) }
-    ensures at { IfOk result (λ all. AllZip (IsFoundAt all.rows.rows) all.rows.winners all.found.items) }
-    ensures found { IfOk result (λ all. IfSome (S.sources store.old) (λ files. All (IsFound files) all.found.items)) }
-    ensures refused { IfErr result (λ error. IsFalse (is_read_error error) → IsFalse (is_memory_error error) → IfSome (S.sources store.old) (λ files. RefusesRows files root.now error)) }
-    ensures sources { S.sources store.new ≡ S.sources store.old }
-    ensures same { S.slot store.new ≡ S.slot store.old }
-    ensures returned { S.folder_faults store.new ≡ S.folder_faults store.old }
-    ensures cause { Counted (S.faults store.old) (S.faults store.new) (is_read result) }
+    ensures answer { AnswersBy (λ all. all.rows) blame_of result (Told (S.known store.old) (λ files. ListsRows files root.now)) }
+    ensures whole { IfOk result (λ all. AreFoundFor all.rows all.found.items) }
+    ensures found { IfOk result (λ all. Told (S.known store.old) (λ files. All (IsFound files)) all.found.items) }
+    ensures reads { OnlyReads (S.known store.old) (S.known store.new) (fails blame_of result) }
 {
     let mut found = BTreeMap::new(alloc);
     let mut manifests = Manifests {
@@ -60,17 +50,12 @@ fn take_stock<S: Store>(
     manifests: &mut Manifests<'_, S>,
     root: &[Decl],
 ) -> Result<Inventory, PlanError>
-    requires { AreKept (S.sources manifests.old.store.now) manifests.old.found.now }
-    ensures rows { IfOk result (λ all. IfSome (S.sources manifests.old.store.now) (λ files. AreRows (AreChildren files) root.now all.rows.rows all.rows.winners)) }
-    ensures within { IfOk result (λ all. IsWithinLimit all.rows) }
-    ensures at { IfOk result (λ all. AllZip (IsFoundAt all.rows.rows) all.rows.winners all.found.items) }
-    ensures found { IfOk result (λ all. IfSome (S.sources manifests.old.store.now) (λ files. All (IsFound files) all.found.items)) }
-    ensures refused { IfErr result (λ error. IsFalse (is_read_error error) → IsFalse (is_memory_error error) → IfSome (S.sources manifests.old.store.now) (λ files. RefusesRows files root.now error)) }
+    requires { AreKept (S.known manifests.old.store.now).sources manifests.old.found.now }
+    ensures answer { AnswersBy (λ all. all.rows) blame_of result (Told (S.known manifests.old.store.now) (λ files. ListsRows files root.now)) }
+    ensures whole { IfOk result (λ all. AreFoundFor all.rows all.found.items) }
+    ensures found { IfOk result (λ all. Told (S.known manifests.old.store.now) (λ files. All (IsFound files)) all.found.items) }
     ensures same_reference { manifests.new.store.ghost_name ≡ manifests.old.store.ghost_name }
-    ensures sources { S.sources manifests.new.store.now ≡ S.sources manifests.old.store.now }
-    ensures same { S.slot manifests.new.store.now ≡ S.slot manifests.old.store.now }
-    ensures returned { S.folder_faults manifests.new.store.now ≡ S.folder_faults manifests.old.store.now }
-    ensures cause { Counted (S.faults manifests.old.store.now) (S.faults manifests.new.store.now) (is_read result) }
+    ensures reads { OnlyReads (S.known manifests.old.store.now) (S.known manifests.new.store.now) (fails blame_of result) }
 {
     one_project();
     let rows = rows(alloc, root, manifests)?;
@@ -83,16 +68,12 @@ fn found_for<S: Store>(
     alloc: Global,
     manifests: &mut Manifests<'_, S>,
     rows: &Rows,
-) -> Result<Vec<Found>, ChildFault>
-    requires { AreKept (S.sources manifests.old.store.now) manifests.old.found.now }
+) -> Result<Vec<Found>, PlanError>
+    requires { AreKept (S.known manifests.old.store.now).sources manifests.old.found.now }
+    ensures answer { AnswersBy (λ all. all.items) blame_of result (Told (S.known manifests.old.store.now) (λ files. FindsAll files rows.now)) }
     ensures at { IfOk result (λ all. AllZip (IsFoundAt rows.now.rows) rows.now.winners all.items) }
-    ensures found { IfOk result (λ all. IfSome (S.sources manifests.old.store.now) (λ files. All (IsFound files) all.items)) }
-    ensures refused { IfErr result (λ fault. IsFalse (is_failed fault) → IsFalse (is_memory fault) → IfSome (S.sources manifests.old.store.now) (λ files. RefusesWinner files rows.now.rows rows.now.winners fault)) }
     ensures same_reference { manifests.new.store.ghost_name ≡ manifests.old.store.ghost_name }
-    ensures sources { S.sources manifests.new.store.now ≡ S.sources manifests.old.store.now }
-    ensures same { S.slot manifests.new.store.now ≡ S.slot manifests.old.store.now }
-    ensures returned { S.folder_faults manifests.new.store.now ≡ S.folder_faults manifests.old.store.now }
-    ensures cause { Counted (S.faults manifests.old.store.now) (S.faults manifests.new.store.now) (fails is_failed result) }
+    ensures reads { OnlyReads (S.known manifests.old.store.now) (S.known manifests.new.store.now) (fails blame_of result) }
 {
     let all = rows.rows();
     let mut found = Vec::new(alloc);
@@ -101,36 +82,4 @@ fn found_for<S: Store>(
         found.push(manifests.take(alloc, &row.app, &row.decl)?)?;
     }
     Ok(found)
-}
-
-impl From<RowsError<ChildFault>> for PlanError {
-    ghost use Rattle.std.specs.Prelude.{◌≡◌};
-    ghost use Rattle.build_plan.specs.ChildFaults.{of_rows};
-
-    ghost from_gives = { λ error e. e ≡ of_rows error };
-
-    fn from(error: RowsError<ChildFault>) -> PlanError {
-        match error {
-            RowsError::Children(fault) => PlanError::from(fault),
-            RowsError::TooManyRows => PlanError::TooManyRows,
-            RowsError::OutOfMemory => PlanError::OutOfMemory,
-        }
-    }
-}
-
-impl From<ChildFault> for PlanError {
-    ghost use Rattle.std.specs.Prelude.{◌≡◌};
-    ghost use Rattle.build_plan.specs.Faults.{of_child};
-
-    ghost from_gives = { λ fault e. e ≡ of_child fault };
-
-    fn from(fault: ChildFault) -> PlanError {
-        match fault {
-            ChildFault::Read => PlanError::Read,
-            ChildFault::PathMissing { app, dir } => PlanError::PathMissing { app, dir },
-            ChildFault::Project { path, fault } => PlanError::Project { path, fault },
-            ChildFault::NotLocked(app) => PlanError::NotLocked(app),
-            ChildFault::OutOfMemory => PlanError::OutOfMemory,
-        }
-    }
 }

@@ -1,13 +1,16 @@
 // Why a project has no plan.
+ghost use Rattle.std.specs.Prelude.{◌≡◌};
+ghost use Rattle.build_plan.specs.Refusals.{of_project, of_settings};
 
 use converger::Rule;
+use dep_rows::RowsError;
 use mx_base::{AppName, ListOf, Names, RelPath};
 use project_file::{ProjectError, SettingsError};
 use std::alloc::{AllocError, AllocFailed};
 use tree_store::StoreFault;
 
 /// Where the two declarations of a divergence stand.
-#[derive(Debug, Drop)]
+#[derive(Drop)]
 pub struct DivergedLine {
     pub rule: Rule,
     pub app: AppName,
@@ -25,7 +28,7 @@ pub struct DivergedLine {
 pub type DivergedLines = ListOf<DivergedLine>;
 
 /// Why a project has no plan: what is met first.
-#[derive(Debug, Drop)]
+#[derive(Drop)]
 pub enum PlanError {
     /// The store failed, and counted it. This says nothing of the files.
     Read,
@@ -76,7 +79,7 @@ impl<T: Drop> From<AllocFailed<T>> for PlanError {
 
 impl From<StoreFault> for PlanError {
     ghost use Rattle.std.specs.Prelude.{◌≡◌};
-    ghost use Rattle.build_plan.specs.Faults.{of_store};
+    ghost use Rattle.build_plan.specs.Refusals.{of_store};
 
     ghost from_gives = { λ fault e. e ≡ of_store fault };
 
@@ -85,5 +88,42 @@ impl From<StoreFault> for PlanError {
             StoreFault::Failed => PlanError::Read,
             StoreFault::OutOfMemory => PlanError::OutOfMemory,
         }
+    }
+}
+
+impl From<RowsError<PlanError>> for PlanError {
+    ghost use Rattle.std.specs.Prelude.{◌≡◌};
+    ghost use Rattle.build_plan.specs.Refusals.{of_rows};
+
+    ghost from_gives = { λ error e. e ≡ of_rows error };
+
+    fn from(error: RowsError<PlanError>) -> PlanError {
+        match error {
+            RowsError::Children(error) => error,
+            RowsError::TooManyRows => PlanError::TooManyRows,
+            RowsError::OutOfMemory => PlanError::OutOfMemory,
+        }
+    }
+}
+
+/// What settings that are refused are for a plan.
+pub(crate) fn of_settings(fault: SettingsError) -> PlanError
+    ensures { result ≡ of_settings fault }
+{
+    match fault {
+        SettingsError::Read => PlanError::Read,
+        SettingsError::OutOfMemory => PlanError::OutOfMemory,
+        fault => PlanError::Settings(fault),
+    }
+}
+
+/// What the manifest at this path, which is refused, is for a plan.
+pub(crate) fn of_project(path: RelPath, fault: ProjectError) -> PlanError
+    ensures { result ≡ of_project path fault }
+{
+    match fault {
+        ProjectError::Read => PlanError::Read,
+        ProjectError::OutOfMemory => PlanError::OutOfMemory,
+        fault => PlanError::Project { path, fault },
     }
 }

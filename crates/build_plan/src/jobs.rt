@@ -1,16 +1,19 @@
 // The jobs of a plan.
-ghost use Rattle.std.specs.Prelude.{◌≡◌, ◌<◌, ◌≤◌, List, length, IfOk, IfErr, IfSome, IsFalse, MatchOption};
+ghost use Rattle.std.specs.Prelude.{◌≡◌, ◌<◌, ◌≤◌, List, length, IfOk, IfSome, IsFalse, MatchOption};
 ghost use Rattle.std.specs.List.{All};
-ghost use Rattle.mx_base.specs.Causes.{Counted};
+ghost use Rattle.mx_base.specs.Blame.{Answers, AnswersBy, fails, is_outside};
+ghost use Rattle.mx_base.specs.Blame.Blame.{Input};
 ghost use Rattle.mx_base.specs.declared.file.File.{File};
 ghost use Rattle.compile_model.specs.Planned.{ArePlanned, most_jobs};
-ghost use Rattle.tree_store.specs.Faults.{is_failed};
+ghost use Rattle.tree_store.specs.Blame.{blame_of as store_blame};
+ghost use Rattle.tree_store.specs.Known.{Told, OnlyReads};
+ghost use Rattle.build_plan.specs.Blame.{blame_of};
 ghost use Rattle.build_plan.specs.Dependencies.{version_by};
-ghost use Rattle.build_plan.specs.Faults.{is_read, is_read_error, is_memory_error};
 ghost use Rattle.build_plan.specs.Found.{IsFound};
-ghost use Rattle.build_plan.specs.Jobs.{AllFit, AreFirstJobs, IsJobAt, places_in};
+ghost use Rattle.build_plan.specs.Jobs.{AllFit, IsJobAt, places_in};
 ghost use Rattle.build_plan.specs.Needs.{apps_of};
-ghost use Rattle.build_plan.specs.Scenes.{AreStands, Fits, IsKnownAt, IsPostWith, HasRoom, IsScene, Misses, RefusesJob, RefusesJobs, StandsBefore, job_from, manager_among};
+ghost use Rattle.build_plan.specs.Scenes.{AreStands, Fits, IsKnownAt, IsPostWith, HasRoom, IsScene, Misses, MakesJob, StandsBefore, job_from, manager_among};
+ghost use Rattle.build_plan.specs.Stages.{MakesJobs};
 
 use crate::error::PlanError;
 use crate::found::Found;
@@ -35,16 +38,11 @@ pub(crate) fn jobs<S: Store>(
     scene: &Scene<'_>,
 ) -> Result<Vec<Job>, PlanError>
     requires scene { IsScene scene.now.rows.now scene.now.winners.now scene.now.found.now scene.now.places.now scene.now.graph.now scene.now.order.now scene.now.stands.now }
-    requires meant { IfSome (S.sources store.old) (λ files. All (IsFound files) scene.now.found.now) }
-    ensures jobs { IfOk result (λ jobs. IfSome (S.sources store.old) (λ files. AreFirstJobs files scene.now.settings.now scene.now.rows.now scene.now.places.now scene.now.order.now jobs.items)) }
-    ensures all { IfOk result (λ jobs. length jobs.items ≡ length scene.now.order.now) }
+    requires meant { IfSome (S.known store.old).sources (λ files. All (IsFound files) scene.now.found.now) }
+    ensures answer { AnswersBy (λ jobs. jobs.items) blame_of result (Told (S.known store.old) (λ files. MakesJobs files scene.now.settings.now scene.now.rows.now scene.now.places.now scene.now.order.now)) }
     ensures fit { IfOk result (λ jobs. AllFit jobs.items) }
     ensures planned { IfOk result (λ jobs. ArePlanned jobs.items) }
-    ensures refused { IfErr result (λ error. IsFalse (is_read_error error) → IsFalse (is_memory_error error) → IfSome (S.sources store.old) (λ files. RefusesJobs files scene.now.settings.now scene.now.rows.now scene.now.places.now scene.now.order.now error)) }
-    ensures sources { S.sources store.new ≡ S.sources store.old }
-    ensures same { S.slot store.new ≡ S.slot store.old }
-    ensures returned { S.folder_faults store.new ≡ S.folder_faults store.old }
-    ensures cause { Counted (S.faults store.old) (S.faults store.new) (is_read result) }
+    ensures reads { OnlyReads (S.known store.old) (S.known store.new) (fails blame_of result) }
 {
     let mut jobs = Vec::new(alloc);
     let mut room = MOST_PLAN_BYTES;
@@ -65,16 +63,12 @@ fn job<S: Store>(
     room: usize,
 ) -> Result<Job, PlanError>
     requires scene { IsScene scene.now.rows.now scene.now.winners.now scene.now.found.now scene.now.places.now scene.now.graph.now scene.now.order.now scene.now.stands.now }
-    requires meant { IfSome (S.sources store.old) (λ files. All (IsFound files) scene.now.found.now) }
+    requires meant { IfSome (S.known store.old).sources (λ files. All (IsFound files) scene.now.found.now) }
     requires at { at < length scene.now.order.now }
-    ensures job { IfOk result (λ job. IfSome (S.sources store.old) (λ files. IsJobAt files scene.now.settings.now scene.now.rows.now scene.now.places.now scene.now.order.now at job)) }
+    ensures answer { Answers blame_of result (Told (S.known store.old) (λ files. MakesJob files scene.now.settings.now scene.now.rows.now scene.now.places.now scene.now.order.now at room)) }
     ensures known { IfOk result (IsKnownAt scene.now.rows.now scene.now.places.now scene.now.order.now at) }
     ensures fits { IfOk result (Fits at room) }
-    ensures refused { IfErr result (λ error. IsFalse (is_read_error error) → IsFalse (is_memory_error error) → IfSome (S.sources store.old) (λ files. RefusesJob files scene.now.settings.now scene.now.rows.now scene.now.places.now scene.now.order.now at room error)) }
-    ensures sources { S.sources store.new ≡ S.sources store.old }
-    ensures same { S.slot store.new ≡ S.slot store.old }
-    ensures returned { S.folder_faults store.new ≡ S.folder_faults store.old }
-    ensures cause { Counted (S.faults store.old) (S.faults store.new) (is_read result) }
+    ensures reads { OnlyReads (S.known store.old) (S.known store.new) (fails blame_of result) }
 {
     let post = scene.post_at(alloc, at)?;
     if at >= MOST_JOBS {
@@ -90,8 +84,8 @@ fn job<S: Store>(
 }
 
 fn too_large(row: &Row) -> PlanError
-    ensures app { IsFalse (is_memory_error result) → result ≡ PlanError.TooLarge row.now.app }
-    ensures own { IsFalse (is_read_error result) }
+    ensures app { blame_of result ≡ Input → result ≡ PlanError.TooLarge row.now.app }
+    ensures alone { IsFalse (is_outside (blame_of result)) }
 {
     match row.app.clone() {
         Ok(app) => PlanError::TooLarge(app),
@@ -109,17 +103,14 @@ fn job_of<S: Store>(
     room: usize,
 ) -> Result<Option<Job>, StoreFault>
     requires scene { IsScene scene.now.rows.now scene.now.winners.now scene.now.found.now scene.now.places.now scene.now.graph.now scene.now.order.now scene.now.stands.now }
-    requires meant { IfSome (S.sources store.old) (λ files. All (IsFound files) scene.now.found.now) }
+    requires meant { IfSome (S.known store.old).sources (λ files. All (IsFound files) scene.now.found.now) }
     requires post { IsPostWith scene.now.rows.now scene.now.places.now scene.now.order.now scene.now.found.now at post.now.row.now post.now.found.now post.now.reached.items }
     requires few { at < most_jobs }
-    ensures job { IfOk result (λ job. IfSome (S.sources store.old) (λ files. MatchOption job (Misses files scene.now.settings.now scene.now.rows.now scene.now.places.now scene.now.order.now post.now.row.now at room) (IsJobAt files scene.now.settings.now scene.now.rows.now scene.now.places.now scene.now.order.now at))) }
+    ensures job { IfOk result (λ job. IfSome (S.known store.old).sources (λ files. MatchOption job (Misses files scene.now.settings.now scene.now.rows.now scene.now.places.now scene.now.order.now post.now.row.now at room) (IsJobAt files scene.now.settings.now scene.now.rows.now scene.now.places.now scene.now.order.now at))) }
     ensures known { IfOk result (λ job. IfSome job (IsKnownAt scene.now.rows.now scene.now.places.now scene.now.order.now at)) }
     ensures app { IfOk result (λ job. IfSome job (λ job. job.app ≡ post.now.row.now.app)) }
     ensures fits { IfOk result (λ job. IfSome job (HasRoom room)) }
-    ensures sources { S.sources store.new ≡ S.sources store.old }
-    ensures same { S.slot store.new ≡ S.slot store.old }
-    ensures returned { S.folder_faults store.new ≡ S.folder_faults store.old }
-    ensures cause { Counted (S.faults store.old) (S.faults store.new) (is_failed result) }
+    ensures reads { OnlyReads (S.known store.old) (S.known store.new) (fails store_blame result) }
 {
     match sources(alloc, store, post.found, room.min(MOST_BYTES))? {
         Some(sources) => Ok(Some(described(alloc, scene, post, at, sources)?)),

@@ -5,7 +5,6 @@
 //! that is met first; nothing is written.
 #![tactic(auto)]
 
-mod children;
 mod dependencies;
 mod error;
 mod found;
@@ -22,7 +21,6 @@ mod root;
 mod sources;
 mod versions;
 
-pub use children::ChildFault;
 pub use error::{DivergedLine, DivergedLines, PlanError};
 pub use laws::one_plan;
 pub use planning::plan;

@@ -1,14 +1,14 @@
 // The manifests of dependencies, each of which is read once.
-ghost use Rattle.std.specs.Prelude.{◌≡◌, List, Err, IfOk, IfErr, IfSome, IsFalse};
+ghost use Rattle.std.specs.Prelude.{◌≡◌, List};
 ghost use Rattle.mx_base.specs.declared.file.File.{File};
-ghost use Rattle.mx_base.specs.Causes.{Counted};
-ghost use Rattle.dep_rows.specs.Children.{fails};
+ghost use Rattle.mx_base.specs.Blame.{Answers, fails};
+ghost use Rattle.tree_store.specs.Known.{OnlyReads};
+ghost use Rattle.build_plan.specs.Blame.{blame_of};
 ghost use Rattle.build_plan.specs.Dependencies.{AreChildren};
-ghost use Rattle.build_plan.specs.Faults.{is_failed, is_memory};
-ghost use Rattle.build_plan.specs.Kept.{AreKept, IsFoundIn, MadeOver};
+ghost use Rattle.build_plan.specs.Kept.{AreKept, Finds, IsFoundIn, MadeOver, made_over};
 ghost use Rattle.build_plan.specs.ChildLaws.{children_once, fault_is_told};
 
-use crate::children::ChildFault;
+use crate::error::PlanError;
 use crate::found::{Found, find};
 use dep_options::{Decl, DepSource};
 use dep_rows::Children;
@@ -31,20 +31,15 @@ impl<S: Store> Manifests<'_, S> {
         alloc: Global,
         app: &AppName,
         winner: &Decl,
-    ) -> Result<Found, ChildFault>
-        requires { AreKept (S.sources self.old.store.now) self.old.found.now }
-        ensures at { IfOk result (λ found. winner.now.source ≡ DepSource.Path found.dir) }
-        ensures found { IfOk result (λ found. IsFoundIn (S.sources self.old.store.now) found.dir found) }
-        ensures refused { IfErr result (λ fault. IsFalse (is_failed fault) → IsFalse (is_memory fault) → IfSome (S.sources self.old.store.now) (λ files. AreChildren files app.now winner.now (Err fault))) }
-        ensures kept { AreKept (S.sources self.old.store.now) self.new.found.now }
+    ) -> Result<Found, PlanError>
+        requires { AreKept (S.known self.old.store.now).sources self.old.found.now }
+        ensures answer { Answers blame_of result (Finds (S.known self.old.store.now).sources app.now winner.now) }
+        ensures kept { AreKept (S.known self.old.store.now).sources self.new.found.now }
         ensures same_reference { self.new.store.ghost_name ≡ self.old.store.ghost_name }
-        ensures sources { S.sources self.new.store.now ≡ S.sources self.old.store.now }
-        ensures same { S.slot self.new.store.now ≡ S.slot self.old.store.now }
-        ensures returned { S.folder_faults self.new.store.now ≡ S.folder_faults self.old.store.now }
-        ensures cause { Counted (S.faults self.old.store.now) (S.faults self.new.store.now) (fails is_failed result) }
+        ensures reads { OnlyReads (S.known self.old.store.now) (S.known self.new.store.now) (fails blame_of result) }
     {
         match &winner.source {
-            DepSource::Hex { .. } => Err(ChildFault::NotLocked(app.clone()?)),
+            DepSource::Hex { .. } => Err(PlanError::NotLocked(app.clone()?)),
             DepSource::Path { dir } => match self.found.remove(dir) {
                 Some(found) => Ok(found),
                 None => find(alloc, self.store, app, dir),
@@ -54,9 +49,9 @@ impl<S: Store> Manifests<'_, S> {
 
     /// Keeps what was found in a folder.
     fn keep(&mut self, found: Found) -> Result<(), AllocError>
-        requires kept { AreKept (S.sources self.old.store.now) self.old.found.now }
-        requires found { IsFoundIn (S.sources self.old.store.now) found.dir found }
-        ensures kept { AreKept (S.sources self.old.store.now) self.new.found.now }
+        requires kept { AreKept (S.known self.old.store.now).sources self.old.found.now }
+        requires found { IsFoundIn (S.known self.old.store.now).sources found.dir found }
+        ensures kept { AreKept (S.known self.old.store.now).sources self.new.found.now }
         ensures same_reference { self.new.store.ghost_name ≡ self.old.store.ghost_name }
         ensures store { self.new.store.now ≡ self.old.store.now }
     {
@@ -74,36 +69,34 @@ impl<S> Drop for Manifests<'_, S> {
 }
 
 impl<S: Store> Children for Manifests<'_, S> {
-    type Fault = ChildFault;
+    type Fault = PlanError;
 
     ghost Known = { List File };
 
     ghost children_of = { AreChildren };
 
-    ghost meaning = { λ manifests. S.sources manifests.store.now };
+    ghost meaning = { λ manifests. (S.known manifests.store.now).sources };
 
-    ghost faults = { λ manifests. S.faults manifests.store.now };
+    ghost faults = { λ manifests. (S.known manifests.store.now).faults };
 
-    ghost is_outside = { is_failed };
-
-    ghost is_memory = { is_memory };
+    ghost blame = { blame_of };
 
     ghost Basis = { MadeOver };
 
-    ghost made_over = { λ manifests. record { reference = manifests.store.ghost_name; sources = S.sources manifests.store.now; slot = S.slot manifests.store.now; folder_faults = S.folder_faults manifests.store.now } };
+    ghost made_over = { λ manifests. made_over manifests.store.ghost_name (S.known manifests.store.now) };
 
-    ghost stands = { λ manifests. AreKept (S.sources manifests.store.now) manifests.found.now };
+    ghost stands = { λ manifests. AreKept (S.known manifests.store.now).sources manifests.found.now };
 
-    ghost one = { λ manifests. children_once (S.sources manifests.store.now) };
+    ghost one = { λ manifests. children_once (S.known manifests.store.now).sources };
 
-    ghost told = { λ manifests app winner fault. fault_is_told (S.sources manifests.store.now) app winner fault };
+    ghost told = { λ manifests app winner error. fault_is_told (S.known manifests.store.now).sources app winner error };
 
     fn children(
         &mut self,
         alloc: Global,
         app: &AppName,
         winner: &Decl,
-    ) -> Result<Vec<Decl>, ChildFault> {
+    ) -> Result<Vec<Decl>, PlanError> {
         let found = self.take(alloc, app, winner)?;
         let decls = found.declared(alloc, &winner.env)?;
         self.keep(found)?;

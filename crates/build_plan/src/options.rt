@@ -1,13 +1,14 @@
 // The options text of a job.
 ghost use Rattle.std.specs.Prelude.{◌≡◌, [], ◌∷◌, ◌++◌, map, IfOk, OnOk};
-ghost use Rattle.elixir_terms.specs.declared.term.Term.TheVariants as term;
+ghost use Rattle.term_values.specs.declared.term.Term.TheVariants as term;
 ghost use Rattle.build_plan.specs.Options.{names_terms, compiler_terms, keyword, truth, manager_name, compile_term, compiler_term, variable_term, options_term, options_text};
 
 use compile_model::How;
 use dep_options::{CompileBy, Decl, Manager};
-use elixir_terms::{Term, Terms, print};
+use elixir_terms::print;
 use mx_base::{Bytes, Text, Variable, Variables};
 use std::alloc::{AllocError, Global};
+use term_values::{Term, Terms};
 
 /// All that a declaration says of how it is compiled, with the version, the manager and the compiler of its app.
 pub(crate) fn options_text(

@@ -1,15 +1,15 @@
 // The plan of a project.
-ghost use Rattle.std.specs.Prelude.{◌≡◌, List, Ok, Err, IfOk, IfErr, IfSome, IsFalse};
-ghost use Rattle.std.specs.List.{All, AllPairs, AllZip};
-ghost use Rattle.mx_base.specs.Causes.{Counted};
+ghost use Rattle.std.specs.Prelude.{◌≡◌, List, IfOk, IfSome, IsFalse};
+ghost use Rattle.std.specs.List.{All};
+ghost use Rattle.mx_base.specs.Blame.{AnswersBy, fails};
 ghost use Rattle.mx_base.specs.declared.file.File.{File};
 ghost use Rattle.compile_model.specs.Planned.{ArePlanned};
-ghost use Rattle.dep_order.specs.Listing.{IsOrderOf};
-ghost use Rattle.dep_rows.specs.Listed.{IsWithinLimit};
-ghost use Rattle.build_plan.specs.Faults.{is_read, is_read_error, is_memory_error};
-ghost use Rattle.build_plan.specs.Found.{IsFound, IsFoundAt};
-ghost use Rattle.build_plan.specs.Plan.{IsPlan};
-ghost use Rattle.build_plan.specs.Scenes.{Diverge, HasJobs, HasNoJobs, IsCycleAmong, Match};
+ghost use Rattle.tree_store.specs.Known.{Told, OnlyReads};
+ghost use Rattle.build_plan.specs.Blame.{blame_of};
+ghost use Rattle.build_plan.specs.Found.{AreFoundFor, IsFound};
+ghost use Rattle.build_plan.specs.Jobs.{AllFit};
+ghost use Rattle.build_plan.specs.Plan.{IsPlan, IsRoot};
+ghost use Rattle.build_plan.specs.Stages.{HasJobs, LivesTogether, OrdersGraph};
 
 use crate::dependencies::dependencies;
 use crate::error::PlanError;
@@ -25,7 +25,7 @@ use converger::{ConvergeError, Converged, converge, for_env};
 use dep_order::{Graph, OrderError, order};
 use dep_rows::{Row, Rows};
 use mx_base::AppName;
-use project_file::Settings;
+use project_file::{Project, Settings};
 use std::alloc::Global;
 use tree_store::Store;
 
@@ -38,34 +38,45 @@ use tree_store::Store;
 /// `TooLarge`. `Read` comes where the store failed, `OutOfMemory` where there was not enough memory.
 pub fn plan<S: Store>(alloc: Global, store: &mut S, env: &AppName) -> Result<Plan, PlanError>
     ensures env { IfOk result (λ plan. plan.env ≡ env.now) }
-    ensures plan { IfOk result (λ plan. IfSome (S.sources store.old) (λ files. IsPlan files env.now (Ok plan.jobs))) }
     ensures planned { IfOk result (λ plan. ArePlanned plan.jobs) }
-    ensures refused { IfErr result (λ error. IsFalse (is_read_error error) → IsFalse (is_memory_error error) → IfSome (S.sources store.old) (λ files. IsPlan files env.now (Err error))) }
+    ensures fit { IfOk result (λ plan. AllFit plan.jobs) }
+    ensures answer { AnswersBy (λ plan. plan.jobs) blame_of result (Told (S.known store.old) (λ files. IsPlan files env.now)) }
     // Nothing is written.
-    ensures sources { S.sources store.new ≡ S.sources store.old }
-    ensures same { S.slot store.new ≡ S.slot store.old }
-    ensures returned { S.folder_faults store.new ≡ S.folder_faults store.old }
-    ensures cause { Counted (S.faults store.old) (S.faults store.new) (is_read result) }
+    ensures reads { OnlyReads (S.known store.old) (S.known store.new) (fails blame_of result) }
 {
     let settings = settings(alloc, store)?;
     let root = root(alloc, store)?;
-    let all = dependencies(alloc, store, root.decls.as_slice())?;
-    let converged = converged(alloc, all.rows, &all.found)?;
-    let jobs = jobs_for(alloc, store, &settings, &converged, &all.found, env)?;
+    let jobs = jobs_of_root(alloc, store, &settings, &root, env)?;
     Ok(Plan {
         env: env.clone()?,
         jobs: Jobs::from_vec(jobs),
     })
 }
 
+/// The jobs of a project with these settings and this manifest.
+fn jobs_of_root<S: Store>(
+    alloc: Global,
+    store: &mut S,
+    settings: &Settings,
+    root: &Project,
+    env: &AppName,
+) -> Result<Vec<Job>, PlanError>
+    ensures answer { AnswersBy (λ jobs. jobs.items) blame_of result (Told (S.known store.old) (λ files answer. IsRoot files settings.now root.now → IsPlan files env.now answer)) }
+    ensures planned { IfOk result (λ jobs. ArePlanned jobs.items) }
+    ensures fit { IfOk result (λ jobs. AllFit jobs.items) }
+    ensures reads { OnlyReads (S.known store.old) (S.known store.new) (fails blame_of result) }
+{
+    let all = dependencies(alloc, store, root.decls.as_slice())?;
+    let converged = converged(alloc, all.rows, &all.found)?;
+    jobs_for(alloc, store, settings, &converged, &all.found, env)
+}
+
 /// The rows, where they live together.
 fn converged(alloc: Global, rows: Rows, found: &[Found]) -> Result<Converged, PlanError>
-    requires within { IsWithinLimit rows }
-    requires founds { AllZip (IsFoundAt rows.rows) rows.winners found.now }
+    requires { AreFoundFor rows found.now }
     ensures rows { IfOk result (λ converged. converged.rows ≡ rows) }
-    ensures together { IfOk result (λ _. (files : List File) → All (IsFound files) found.now → Match files rows.rows rows.winners) }
-    ensures refused { IfErr result (λ error. IsFalse (is_memory_error error) → (files : List File) → All (IsFound files) found.now → Diverge files rows.rows rows.winners error) }
-    ensures own { IsFalse (is_read result) }
+    ensures answer { (files : List File) → All (IsFound files) found.now → AnswersBy (λ converged. converged.rows) blame_of result (LivesTogether files rows) }
+    ensures alone { IsFalse (fails blame_of result) }
 {
     let versions = versions(alloc, found)?;
     let copies = rows_copied(alloc, rows.rows())?;
@@ -90,16 +101,12 @@ fn jobs_for<S: Store>(
     found: &[Found],
     env: &AppName,
 ) -> Result<Vec<Job>, PlanError>
-    requires within { IsWithinLimit converged.now.rows }
-    requires founds { AllZip (IsFoundAt converged.now.rows.rows) converged.now.rows.winners found.now }
-    requires meant { IfSome (S.sources store.old) (λ files. All (IsFound files) found.now) }
-    ensures jobs { IfOk result (λ jobs. IfSome (S.sources store.old) (λ files. HasJobs files settings.now converged.now.rows.rows env.now jobs.items)) }
+    requires found { AreFoundFor converged.now.rows found.now }
+    requires meant { IfSome (S.known store.old).sources (λ files. All (IsFound files) found.now) }
+    ensures answer { AnswersBy (λ jobs. jobs.items) blame_of result (Told (S.known store.old) (λ files. HasJobs files settings.now converged.now.rows.rows env.now)) }
     ensures planned { IfOk result (λ jobs. ArePlanned jobs.items) }
-    ensures refused { IfErr result (λ error. IsFalse (is_read_error error) → IsFalse (is_memory_error error) → IfSome (S.sources store.old) (λ files. HasNoJobs files settings.now converged.now.rows.rows env.now error)) }
-    ensures sources { S.sources store.new ≡ S.sources store.old }
-    ensures same { S.slot store.new ≡ S.slot store.old }
-    ensures returned { S.folder_faults store.new ≡ S.folder_faults store.old }
-    ensures cause { Counted (S.faults store.old) (S.faults store.new) (is_read result) }
+    ensures fit { IfOk result (λ jobs. AllFit jobs.items) }
+    ensures reads { OnlyReads (S.known store.old) (S.known store.new) (fails blame_of result) }
 {
     let rows = converged.rows().rows();
     let places = for_env(alloc, converged, env)?;
@@ -126,9 +133,8 @@ fn order_of(
     places: &[u32],
     graph: &Graph,
 ) -> Result<Vec<usize>, PlanError>
-    ensures ok { IfOk result (λ order. IsOrderOf graph.now order.items) }
-    ensures refused { IfErr result (λ error. IsFalse (is_memory_error error) → IsCycleAmong rows.now places.now graph.now error) }
-    ensures own { IsFalse (is_read result) }
+    ensures answer { AnswersBy (λ order. order.items) blame_of result (OrdersGraph rows.now places.now graph.now) }
+    ensures alone { IsFalse (fails blame_of result) }
 {
     match order(alloc, graph) {
         Ok(order) => Ok(order),

@@ -1,25 +1,20 @@
 // The settings and the manifest of the root.
-ghost use Rattle.std.specs.Prelude.{◌≡◌, [], Ok, Some, IfOk, IfErr, IfSome, IsFalse};
-ghost use Rattle.mx_base.specs.Causes.{Counted};
-ghost use Rattle.project_file.specs.Files.{AreSettings, IsLoaded};
-ghost use Rattle.build_plan.specs.Faults.{is_read, is_read_error, is_memory_error, of_project, of_settings};
-ghost use Rattle.build_plan.specs.Scenes.{RefusesRoot, RefusesSettings};
+ghost use Rattle.mx_base.specs.Blame.{Answers, fails};
+ghost use Rattle.tree_store.specs.Known.{Told, OnlyReads};
+ghost use Rattle.build_plan.specs.Blame.{blame_of};
+ghost use Rattle.build_plan.specs.Stages.{HasRoot, SetsUp};
 
-use crate::error::PlanError;
+use crate::error::{PlanError, of_project, of_settings};
 use crate::found::MANIFEST;
 use mx_base::RelPath;
-use project_file::{Project, ProjectError, Settings, SettingsError, load_project, load_settings};
+use project_file::{Project, Settings, load_project, load_settings};
 use std::alloc::Global;
 use tree_store::Store;
 
 /// Reads the settings of a project.
 pub(crate) fn settings<S: Store>(alloc: Global, store: &mut S) -> Result<Settings, PlanError>
-    ensures set { IfOk result (λ settings. IfSome (S.sources store.old) (λ files. AreSettings files (Ok settings))) }
-    ensures refused { IfErr result (λ error. IsFalse (is_read_error error) → IsFalse (is_memory_error error) → IfSome (S.sources store.old) (λ files. RefusesSettings files error)) }
-    ensures sources { S.sources store.new ≡ S.sources store.old }
-    ensures same { S.slot store.new ≡ S.slot store.old }
-    ensures returned { S.folder_faults store.new ≡ S.folder_faults store.old }
-    ensures cause { Counted (S.faults store.old) (S.faults store.new) (is_read result) }
+    ensures answer { Answers blame_of result (Told (S.known store.old) SetsUp) }
+    ensures reads { OnlyReads (S.known store.old) (S.known store.new) (fails blame_of result) }
 {
     match load_settings(alloc, store) {
         Ok(settings) => Ok(settings),
@@ -27,24 +22,10 @@ pub(crate) fn settings<S: Store>(alloc: Global, store: &mut S) -> Result<Setting
     }
 }
 
-fn of_settings(fault: SettingsError) -> PlanError
-    ensures { result ≡ of_settings fault }
-{
-    match fault {
-        SettingsError::Read => PlanError::Read,
-        SettingsError::OutOfMemory => PlanError::OutOfMemory,
-        fault => PlanError::Settings(fault),
-    }
-}
-
 /// Reads the manifest of the root.
 pub(crate) fn root<S: Store>(alloc: Global, store: &mut S) -> Result<Project, PlanError>
-    ensures loaded { IfOk result (λ root. IfSome (S.sources store.old) (λ files. IsLoaded files [] (Ok (Some root)))) }
-    ensures refused { IfErr result (λ error. IsFalse (is_read_error error) → IsFalse (is_memory_error error) → IfSome (S.sources store.old) (λ files. RefusesRoot files error)) }
-    ensures sources { S.sources store.new ≡ S.sources store.old }
-    ensures same { S.slot store.new ≡ S.slot store.old }
-    ensures returned { S.folder_faults store.new ≡ S.folder_faults store.old }
-    ensures cause { Counted (S.faults store.old) (S.faults store.new) (is_read result) }
+    ensures answer { Answers blame_of result (Told (S.known store.old) HasRoot) }
+    ensures reads { OnlyReads (S.known store.old) (S.known store.new) (fails blame_of result) }
 {
     let dir = RelPath::root(alloc);
     let path = dir.child(alloc, MANIFEST)?;
@@ -52,15 +33,5 @@ pub(crate) fn root<S: Store>(alloc: Global, store: &mut S) -> Result<Project, Pl
         Ok(Some(root)) => Ok(root),
         Ok(None) => Err(PlanError::NoProject),
         Err(fault) => Err(of_project(path, fault)),
-    }
-}
-
-fn of_project(path: RelPath, fault: ProjectError) -> PlanError
-    ensures { result ≡ of_project path fault }
-{
-    match fault {
-        ProjectError::Read => PlanError::Read,
-        ProjectError::OutOfMemory => PlanError::OutOfMemory,
-        fault => PlanError::Project { path, fault },
     }
 }

@@ -1,10 +1,11 @@
 // The source files of a dependency.
 ghost use Rattle.std.specs.Prelude.{◌≡◌, ◌≤◌, length, codes, IfOk, IfSome, IsFalse};
-ghost use Rattle.mx_base.specs.Causes.{Counted};
+ghost use Rattle.mx_base.specs.Blame.{fails};
 ghost use Rattle.mx_base.specs.Order.{bytes_at};
 ghost use Rattle.mx_base.specs.Path.{child_of};
-ghost use Rattle.tree_store.specs.Faults.{is_failed};
+ghost use Rattle.tree_store.specs.Blame.{blame_of};
 ghost use Rattle.tree_store.specs.Files.{is_in_build};
+ghost use Rattle.tree_store.specs.Known.{OnlyReads};
 ghost use Rattle.build_plan.specs.Found.{AreSources, IsFound, IsSound};
 ghost use Rattle.build_plan.specs.Jobs.{most_files};
 ghost use Rattle.build_plan.specs.Sources.{bytes_in, is_source, source_at};
@@ -27,12 +28,9 @@ pub(crate) fn sources<S: Store>(
     room: usize,
 ) -> Result<Option<Files>, StoreFault>
     requires { IsSound found.now }
-    ensures read { IfOk result (λ sources. IfSome (S.sources store.old) (λ files. IsFound files found.now → AreSources files found.now.dir room sources)) }
+    ensures read { IfOk result (λ sources. IfSome (S.known store.old).sources (λ files. IsFound files found.now → AreSources files found.now.dir room sources)) }
     ensures fits { IfOk result (λ sources. IfSome sources (λ all. (length all ≤ most_files) × (bytes_in all ≤ room))) }
-    ensures sources { S.sources store.new ≡ S.sources store.old }
-    ensures same { S.slot store.new ≡ S.slot store.old }
-    ensures returned { S.folder_faults store.new ≡ S.folder_faults store.old }
-    ensures cause { Counted (S.faults store.old) (S.faults store.new) (is_failed result) }
+    ensures reads { OnlyReads (S.known store.old) (S.known store.new) (fails blame_of result) }
 {
     let mut sources = Vec::new(alloc);
     let mut left = room;
@@ -58,12 +56,9 @@ fn source<S: Store>(
     path: &RelPath,
 ) -> Result<Option<File>, StoreFault>
     requires { IsFalse (is_in_build path.now) }
-    ensures source { IfOk result (λ source. IfSome (S.sources store.old) (λ files. IsFound files found.now → source ≡ source_at found.now.dir files path.now)) }
+    ensures source { IfOk result (λ source. IfSome (S.known store.old).sources (λ files. IsFound files found.now → source ≡ source_at found.now.dir files path.now)) }
     ensures place { IfOk result (λ source. IfSome source (λ file. path.now ≡ child_of found.now.dir file.path)) }
-    ensures sources { S.sources store.new ≡ S.sources store.old }
-    ensures same { S.slot store.new ≡ S.slot store.old }
-    ensures returned { S.folder_faults store.new ≡ S.folder_faults store.old }
-    ensures cause { Counted (S.faults store.old) (S.faults store.new) (is_failed result) }
+    ensures reads { OnlyReads (S.known store.old) (S.known store.new) (fails blame_of result) }
 {
     let Some(rest) = path.from_folder(alloc, &found.dir)? else {
         return Ok(None);
@@ -87,11 +82,8 @@ fn bytes<S: Store>(
 ) -> Result<Option<Bytes>, StoreFault>
     requires outside { IsFalse (is_in_build path.now) }
     requires place { path.now ≡ child_of found.now.dir rest.now }
-    ensures bytes { IfOk result (λ bytes. IfSome (S.sources store.old) (λ files. IsFound files found.now → bytes ≡ bytes_at path.now files)) }
-    ensures sources { S.sources store.new ≡ S.sources store.old }
-    ensures same { S.slot store.new ≡ S.slot store.old }
-    ensures returned { S.folder_faults store.new ≡ S.folder_faults store.old }
-    ensures cause { Counted (S.faults store.old) (S.faults store.new) (is_failed result) }
+    ensures bytes { IfOk result (λ bytes. IfSome (S.known store.old).sources (λ files. IsFound files found.now → bytes ≡ bytes_at path.now files)) }
+    ensures reads { OnlyReads (S.known store.old) (S.known store.new) (fails blame_of result) }
 {
     if rest.as_str() == MANIFEST {
         Ok(found.text.clone()?)

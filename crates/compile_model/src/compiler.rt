@@ -22,7 +22,7 @@ pub struct Input<'a> {
 }
 
 /// Why there is no outcome.
-#[derive(Clone, Copy, Debug, PartialEq, Eq)]
+#[derive(Clone, Copy, PartialEq, Eq)]
 pub enum CompileFault {
     /// The compiler died, which its count of deaths shows.
     Died,

@@ -13,7 +13,7 @@ use std::alloc::{AllocError, Global};
 
 /// Copies sources into one output file, and never dies. A source `fail` makes a job fail with its text, and
 /// a source `warn` is the text of a job that is built.
-#[derive(Clone, Copy, Debug)]
+#[derive(Clone, Copy)]
 pub struct EchoCompiler;
 
 impl Meaning for EchoCompiler {

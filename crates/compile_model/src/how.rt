@@ -6,7 +6,7 @@ use std::alloc::AllocError;
 pub type Texts = ListOf<Text>;
 
 /// How a dependency is compiled.
-#[derive(Debug, Drop)]
+#[derive(Drop)]
 pub enum How {
     /// Not at all: it has no outputs.
     Nothing,

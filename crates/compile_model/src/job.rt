@@ -6,7 +6,7 @@ use mx_base::{AppName, Bytes, Files, ListOf, Names, RelPath, Text, Variables};
 pub type Places = ListOf<u32>;
 
 /// Where the sources of a dependency come from.
-#[derive(Debug, Drop)]
+#[derive(Drop)]
 pub enum Origin {
     /// A folder of the project.
     Path,
@@ -15,7 +15,7 @@ pub enum Origin {
 }
 
 /// A dependency that is to be compiled.
-#[derive(Debug, Drop)]
+#[derive(Drop)]
 pub struct Job {
     pub app: AppName,
     pub version: Text,
@@ -39,7 +39,7 @@ pub struct Job {
 pub type Jobs = ListOf<Job>;
 
 /// What is compiled for an environment.
-#[derive(Debug, Drop)]
+#[derive(Drop)]
 pub struct Plan {
     pub env: AppName,
     pub jobs: Jobs,

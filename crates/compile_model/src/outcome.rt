@@ -2,7 +2,7 @@
 use mx_base::{Bytes, Files, Shared};
 
 /// What a compiler answers for a job.
-#[derive(Debug, Drop)]
+#[derive(Drop)]
 pub struct Outcome {
     /// 0 where the job was built.
     pub status: u32,
@@ -13,7 +13,7 @@ pub struct Outcome {
 }
 
 /// What became of a job.
-#[derive(Debug, Drop)]
+#[derive(Drop)]
 pub enum Fate {
     Built(Shared<Outcome>),
     Failed(Shared<Outcome>),

@@ -15,7 +15,7 @@ use mx_base::Shared;
 use std::alloc::{AllocError, AllocFailed, Global};
 
 /// Why the jobs were not all compiled.
-#[derive(Clone, Copy, Debug, PartialEq, Eq)]
+#[derive(Clone, Copy, PartialEq, Eq)]
 pub enum SeqFault {
     /// The compiler died at the job of this place.
     Died { place: usize },

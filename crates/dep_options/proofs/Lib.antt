@@ -1,4 +1,5 @@
 pub mod OneLemmas
+pub mod SomeLemmas
 pub mod OptionLemmas
 pub mod DeclLemmas
 pub mod Copies

@@ -1,13 +1,13 @@
 -- One answer for the terms of a manifest.
 use Rattle.std.proofs.Common.{◌≡◌, ℕ, Bool, true, false, List, [], ◌∷◌, Option, Some, None, Result, Ok, Err, refl, sym, ◌∙◌, ap, subst}
-use Rattle.elixir_terms.specs.declared.term.Term.{Term}
+use Rattle.term_values.specs.declared.term.Term.{Term}
 use Rattle.version_req.specs.Condition.{Alternatives}
 use Rattle.version_req.specs.Grammar.{Spells}
 use Rattle.dep_options.specs.declared.decl.Decl.{Decl}
 use Rattle.dep_options.specs.declared.error.OptionCause.{OptionCause}
 use Rattle.dep_options.specs.declared.error.OptionError.{OptionError}
 use Rattle.dep_options.specs.Options.{first_fault}
-use Rattle.elixir_terms.specs.Views.{list_of}
+use Rattle.term_values.specs.Views.{list_of}
 use Rattle.dep_options.specs.Decls.{Written, written_of, IsRequirement, IsBadRequirement, has_source, decl_of, IsDecl, shape, requirement, option, source, good, AreDeclsFrom, end, refused, later, more, AreDecls, no_list, items}
 
 -- no text spells two requirements
@@ -50,10 +50,10 @@ clash_source o w x e f lacks has = differ (has_source x) (subst (λ (v : Written
     differ : (b : Bool) → b ≡ false → b ≡ true → ⊥
     differ b e f = cc
 
-same_decl : OneRequirement → (base : List ℕ) (o : Option Written) (w x : Written) (r s : Option Alternatives) → o ≡ Some w → o ≡ Some x → IsRequirement w.requirement r → IsRequirement x.requirement s → decl_of base w r ≡ decl_of base x s
+same_decl : OneRequirement → (base : List ℕ) (o : Option Written) (w x : Written) (r s : Option Alternatives) → o ≡ Some w → o ≡ Some x → IsRequirement w.requirement r → IsRequirement x.requirement s → decl_of base w.app r w.options ≡ decl_of base x.app s x.options
 same_decl one base o w x r s e f p q =
-    ap (λ (v : Written). decl_of base v r) (one_written o w x e f)
-    ∙ ap (decl_of base x) (same_requirement one x.requirement r s (subst (λ (v : Written). IsRequirement v.requirement r) (one_written o w x e f) p) q)
+    ap (λ (v : Written). decl_of base v.app r v.options) (one_written o w x e f)
+    ∙ ap (λ (a : Option Alternatives). decl_of base x.app a x.options) (same_requirement one x.requirement r s (subst (λ (v : Written). IsRequirement v.requirement r) (one_written o w x e f) p) q)
 
 one_decl : OneRequirement → {base : List ℕ} {t : Term} {a b : Result Decl OptionCause} → IsDecl base t a → IsDecl base t b → a ≡ b
 one_decl one (shape e) (shape f) = refl

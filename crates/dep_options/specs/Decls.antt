@@ -1,6 +1,8 @@
 -- What the declarations of a manifest declare.
-use Rattle.std.specs.Prelude.{◌≡◌, ℕ, suc, Bool, true, false, ◌||◌, List, [], ◌∷◌, Option, Some, None, is_some, option_map, option_and_then, Result, Ok, Err, codes}
-use Rattle.elixir_terms.specs.declared.term.Term.{Term}
+use Rattle.std.specs.Prelude.{◌≡◌, ℕ, suc, Bool, true, false, ◌||◌, List, [], ◌∷◌, Option, Some, None, is_some, option_map, option_and_then, Result, Ok, Err, IsTrue, if◌then◌else◌, codes, refl}
+use Rattle.term_values.specs.declared.term.Term.{Term}
+use Rattle.mx_base.specs.Join.{joined}
+use Rattle.mx_base.specs.declared.path_join.PathError.{PathError}
 use Rattle.version_req.specs.Condition.{Alternatives}
 use Rattle.version_req.specs.Grammar.{Spells}
 use Rattle.dep_options.specs.declared.decl.Decl.{Decl}
@@ -10,8 +12,8 @@ use Rattle.dep_options.specs.declared.decl.CompileBy.TheVariants as by
 use Rattle.dep_options.specs.declared.error.OptionCause.{OptionCause}
 use Rattle.dep_options.specs.declared.error.OptionCause.TheVariants.{Shape, BadRequirement, NoSource}
 use Rattle.dep_options.specs.declared.error.OptionError.{OptionError}
-use Rattle.dep_options.specs.Options.{first_of, first_fault, given, truth_of, environments_of, compile_of, folder_of, package_of, manager_of, variables_of}
-use Rattle.elixir_terms.specs.Views.{string_of, list_of, tuple_of, keywords_of, Named}
+use Rattle.dep_options.specs.Options.{first_of, first_fault, said, given, is_dep_folder, is_dep_source, open_folder, truth_of, environments_of, compile_of, folder_of, package_of, manager_of, variables_of}
+use Rattle.term_values.specs.Views.{string_of, list_of, tuple_of, keywords_of, Named}
 use Rattle.dep_options.specs.Views.{app_of}
 
 -- what stands in a declaration
@@ -61,29 +63,47 @@ abbrev source_at : Option (List ℕ) → List ℕ → DepSource
 source_at (Some dir) name = Path dir
 source_at None name = Hex name
 
--- the source that the options say
-abbrev pub source_of : List ℕ → Written → DepSource
-source_of base w = source_at (option_and_then (folder_of base) (first_of (codes "path") w.options)) (given (codes "hex") package_of w.app w.options)
+-- the source of an app that these options say
+abbrev pub source_of : List ℕ → List ℕ → List Named → DepSource
+source_of base app options = source_at (said (codes "path") (folder_of base) options) (given (codes "hex") package_of app options)
+
+-- a folder that the options say is one that a dependency may lie in
+pub placed_at : (path : Option Term) (base name : List ℕ) → IsTrue (is_dep_source (source_at (option_and_then (folder_of base) path) name))
+placed_at None base name = refl
+placed_at (Some t) base name = by_text (string_of t)
+  where
+    by_test : (dir : List ℕ) (fits : Bool) → is_dep_folder dir ≡ fits → IsTrue (is_dep_source (source_at (if fits then Some dir else None) name))
+    by_test dir true is = is
+    by_test dir false is = refl
+
+    by_path : (path : Result (List ℕ) PathError) → IsTrue (is_dep_source (source_at (open_folder path) name))
+    by_path (Ok dir) = by_test dir (is_dep_folder dir) refl
+    by_path (Err e) = refl
+
+    by_text : (text : Option (List ℕ)) → IsTrue (is_dep_source (source_at (option_and_then (λ x. open_folder (joined base x)) text) name))
+    by_text None = refl
+    by_text (Some text) = by_path (joined base text)
 
 -- whether a declaration says where its dependency comes from
 abbrev pub has_source : Written → Bool
 has_source w = is_some w.requirement || (is_some (first_of (codes "path") w.options) || is_some (first_of (codes "hex") w.options))
 
--- the declaration that is written: each option as it is given, or its default
-abbrev pub decl_of : List ℕ → Written → Option Alternatives → Decl
-decl_of base w requirement = record {
-  app = w.app;
+-- the declaration of an app that is written: each option as it is given, or its default
+abbrev pub decl_of : List ℕ → List ℕ → Option Alternatives → List Named → Decl
+decl_of base app requirement options = record {
+  app = app;
   requirement = requirement;
-  source = source_of base w;
-  only = given (codes "only") (λ t. option_map (λ names. Some names) (environments_of t)) None w.options;
-  env = given (codes "env") app_of (codes "prod") w.options;
-  optional = given (codes "optional") truth_of false w.options;
-  override_ = given (codes "override") truth_of false w.options;
-  compile = given (codes "compile") compile_of by.Manager w.options;
-  manager = given (codes "manager") (λ t. option_map (λ m. Some m) (manager_of t)) None w.options;
-  runtime = given (codes "runtime") truth_of true w.options;
-  app_file = given (codes "app") truth_of true w.options;
-  system_env = given (codes "system_env") variables_of [] w.options;
+  source = source_of base app options;
+  only = said (codes "only") environments_of options;
+  env = given (codes "env") app_of (codes "prod") options;
+  optional = given (codes "optional") truth_of false options;
+  override_ = given (codes "override") truth_of false options;
+  compile = given (codes "compile") compile_of by.Manager options;
+  manager = said (codes "manager") manager_of options;
+  runtime = given (codes "runtime") truth_of true options;
+  app_file = given (codes "app") truth_of true options;
+  system_env = given (codes "system_env") variables_of [] options;
+  placed = placed_at (first_of (codes "path") options) base (given (codes "hex") package_of app options);
 }
 
 -- what a term declares, or why it is refused: the shape, the requirement, the options from the left, the source
@@ -92,7 +112,7 @@ pub data IsDecl : List ℕ → Term → Result Decl OptionCause → Type 0 where
   requirement : {base : List ℕ} {t : Term} (w : Written) → written_of t ≡ Some w → IsBadRequirement w.requirement → IsDecl base t (Err BadRequirement)
   option : {base : List ℕ} {t : Term} (w : Written) (requirement : Option Alternatives) {cause : OptionCause} → written_of t ≡ Some w → IsRequirement w.requirement requirement → first_fault base [] w.options ≡ Some cause → IsDecl base t (Err cause)
   source : {base : List ℕ} {t : Term} (w : Written) (requirement : Option Alternatives) → written_of t ≡ Some w → IsRequirement w.requirement requirement → first_fault base [] w.options ≡ None → has_source w ≡ false → IsDecl base t (Err NoSource)
-  good : {base : List ℕ} {t : Term} (w : Written) (requirement : Option Alternatives) → written_of t ≡ Some w → IsRequirement w.requirement requirement → first_fault base [] w.options ≡ None → has_source w ≡ true → IsDecl base t (Ok (decl_of base w requirement))
+  good : {base : List ℕ} {t : Term} (w : Written) (requirement : Option Alternatives) → written_of t ≡ Some w → IsRequirement w.requirement requirement → first_fault base [] w.options ≡ None → has_source w ≡ true → IsDecl base t (Ok (decl_of base w.app requirement w.options))
 
 -- declarations from this place on, or the first that is refused
 pub data AreDeclsFrom : ℕ → List ℕ → List Term → Result (List Decl) OptionError → Type 0 where

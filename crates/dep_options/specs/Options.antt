@@ -1,34 +1,23 @@
 -- The options of a declaration, as a table by name.
-use Rattle.std.specs.Prelude.{ℕ, Bool, true, false, not, ◌||◌, ◌==◌, List, [], ◌∷◌, Option, Some, None, is_some, option_and_then, Result, Ok, Err, if◌then◌else◌, codes, bytes_eq}
+use Rattle.std.specs.Prelude.{ℕ, Bool, true, false, not, ◌&&◌, ◌||◌, ◌==◌, List, [], ◌∷◌, ◌++◌, Option, Some, None, is_some, option_and_then, Result, Ok, Err, if◌then◌else◌, codes, bytes_eq}
 use Rattle.std.specs.List.{list_any}
-use Rattle.elixir_terms.specs.declared.term.Term.{Term}
-use Rattle.elixir_terms.specs.Grammar.{Pair}
+use Rattle.term_values.specs.declared.term.Term.{Term}
 use Rattle.mx_base.specs.Join.{joined}
 use Rattle.mx_base.specs.Path.{first_segment}
 use Rattle.mx_base.specs.declared.path_join.PathError.{PathError}
 use Rattle.dep_options.specs.declared.decl.CompileBy.{CompileBy}
 use Rattle.dep_options.specs.declared.decl.CompileBy.TheVariants as by
+use Rattle.dep_options.specs.declared.decl.DepSource.{DepSource}
+use Rattle.dep_options.specs.declared.decl.DepSource.TheVariants.{Hex, Path}
 use Rattle.dep_options.specs.declared.decl.Manager.{Manager}
 use Rattle.dep_options.specs.declared.decl.Manager.TheVariants as manager
+use Rattle.dep_options.specs.declared.kind.Kind.{Kind}
+use Rattle.dep_options.specs.declared.kind.Kind.TheVariants.{Environments, Environment, Truth, Compiling, Folder, Package, Registry, Managing, VariableList, Unsupported}
 use Rattle.mx_base.specs.declared.variable.Variable.{Variable}
 use Rattle.dep_options.specs.declared.error.OptionCause.{OptionCause}
 use Rattle.dep_options.specs.declared.error.OptionCause.TheVariants.{UnknownOption, UnsupportedSource, BadValue}
-use Rattle.elixir_terms.specs.Views.{atom_of, string_of, list_of, map_of, pair_of, all_of, Named}
+use Rattle.term_values.specs.Views.{Pair, atom_of, string_of, list_of, map_of, pair_of, all_of, Named}
 use Rattle.dep_options.specs.Views.{if_app, app_of}
-
--- what an option takes: `Environments` one or a list of them, `Registry` the name of the one that there is, and
--- `Unsupported` asks for a source that isn't supported
-pub data Kind : Type 0 where
-  Environments : Kind
-  Environment : Kind
-  Truth : Kind
-  Compiling : Kind
-  Folder : Kind
-  Package : Kind
-  Registry : Kind
-  Managing : Kind
-  VariableList : Kind
-  Unsupported : Kind
 
 -- the options by name
 abbrev pub options : List (List ℕ × Kind)
@@ -88,9 +77,18 @@ compile_of t = or_else (option_and_then nothing_if (truth_of t)) (option_and_the
 abbrev pub is_kept_apart : List ℕ → Bool
 is_kept_apart segment = bytes_eq segment (codes "_build") || (bytes_eq segment (codes "deps") || bytes_eq segment (codes "hex"))
 
--- the folder that a text led to, unless it is kept apart
-abbrev open_folder : Result (List ℕ) PathError → Option (List ℕ)
-open_folder (Ok dir) = if is_kept_apart (first_segment dir) then None else Some dir
+-- a folder that a dependency may lie in: not the root, and not one that is kept apart
+abbrev pub is_dep_folder : List ℕ → Bool
+is_dep_folder dir = not (bytes_eq dir []) && not (is_kept_apart (first_segment dir))
+
+-- a folder that a dependency comes from is such a one
+abbrev pub is_dep_source : DepSource → Bool
+is_dep_source (Hex name) = true
+is_dep_source (Path dir) = is_dep_folder dir
+
+-- the folder that a text led to, where a dependency may lie in it
+abbrev pub open_folder : Result (List ℕ) PathError → Option (List ℕ)
+open_folder (Ok dir) = if is_dep_folder dir then Some dir else None
 open_folder (Err e) = None
 
 -- a text that leads from the declaring folder to a folder of the project
@@ -101,9 +99,10 @@ folder_of base t = option_and_then (λ text. open_folder (joined base text)) (st
 abbrev pub package_of : Term → Option (List ℕ)
 package_of t = or_else (app_of t) (option_and_then if_app (string_of t))
 
--- the one registry
-abbrev pub is_registry : List ℕ → Bool
-is_registry text = bytes_eq text (codes "hexpm")
+-- another registry than the one that there is
+abbrev is_other_registry : Option (List ℕ) → Bool
+is_other_registry None = false
+is_other_registry (Some text) = not (bytes_eq text (codes "hexpm"))
 
 -- the manager of this name
 abbrev manager_in : List ℕ → Option Manager
@@ -126,11 +125,13 @@ variable name value = None
 abbrev pub variable_of : Pair → Option Variable
 variable_of pair = variable (string_of pair.0) (string_of pair.1)
 
+-- a tuple of two strings
+abbrev pub tuple_variable_of : Term → Option Variable
+tuple_variable_of t = option_and_then variable_of (pair_of t)
+
 -- a list of tuples of two strings, or a map of strings to strings
 abbrev pub variables_of : Term → Option (List Variable)
-variables_of t =
-    or_else (option_and_then (all_of (λ item. option_and_then variable_of (pair_of item))) (list_of t))
-    (option_and_then (all_of variable_of) (map_of t))
+variables_of t = or_else (option_and_then (all_of tuple_variable_of) (list_of t)) (option_and_then (all_of variable_of) (map_of t))
 
 -- whether an option of the kind may have the value
 abbrev pub fits : List ℕ → Kind → Term → Bool
@@ -148,7 +149,7 @@ fits base Unsupported t = true
 -- whether the value asks for a source that is not supported
 abbrev pub is_unsupported : Kind → Term → Bool
 is_unsupported Unsupported t = true
-is_unsupported Registry t = is_some (option_and_then (λ text. if is_registry text then None else Some text) (string_of t))
+is_unsupported Registry t = is_other_registry (string_of t)
 is_unsupported kind t = false
 
 -- what is wrong with an option of the kind
@@ -172,8 +173,17 @@ has_name name before = list_any (λ option. bytes_eq name option.0) before
 abbrev pub first_fault : List ℕ → List Named → List Named → Option OptionCause
 first_fault base before [] = None
 first_fault base before (option ∷ rest) =
-    or_else (if has_name option.0 before then None else fault_of base option) (first_fault base (option ∷ before) rest)
+    or_else (if has_name option.0 before then None else fault_of base option) (first_fault base (before ++ option ∷ []) rest)
+
+-- what is there, or else the default
+abbrev pub option_or : {A : Type 0} → Option A → A → A
+option_or (Some a) default = a
+option_or None default = default
+
+-- what an option that is there gives
+abbrev pub said : {A : Type 0} → List ℕ → (Term → Option A) → List Named → Option A
+said name read written = option_and_then read (first_of name written)
 
 -- what an option that is there gives, or else what stands for it
 abbrev pub given : {A : Type 0} → List ℕ → (Term → Option A) → A → List Named → A
-given name read default written = elim (option_and_then read (first_of name written)) [ Some a ↦ a | None ↦ default ]
+given name read default written = option_or (said name read written) default

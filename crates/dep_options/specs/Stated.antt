@@ -3,7 +3,7 @@ use Rattle.std.specs.Prelude.{ℕ, List, Option, option_map}
 use Rattle.std.specs.Option.{option_copied}
 use Rattle.dep_options.specs.declared.stated.Stated.{Stated}
 use Rattle.dep_options.specs.Decls.{Written}
-use Rattle.elixir_terms.specs.Views.{Named, named}
+use Rattle.term_values.specs.Views.{Named, named}
 
 -- what is written behind the references
 abbrev pub written_by : Stated → Written

@@ -1,7 +1,7 @@
 -- Names of apps in terms.
 use Rattle.std.specs.Prelude.{ℕ, List, Option, Some, None, option_and_then, if◌then◌else◌}
-use Rattle.elixir_terms.specs.declared.term.Term.{Term}
-use Rattle.elixir_terms.specs.Views.{atom_of}
+use Rattle.term_values.specs.declared.term.Term.{Term}
+use Rattle.term_values.specs.Views.{atom_of}
 use Rattle.mx_base.specs.AppName.{is_app_name}
 
 -- the name, where an app may have it

@@ -1,11 +1,13 @@
 // What a manifest declares.
+ghost use Rattle.std.specs.Prelude.{IsTrue};
+ghost use Rattle.dep_options.specs.Options.{is_dep_source};
 
 use mx_base::{AppName, Names, RelPath, Text, Variables};
 use std::alloc::AllocError;
 use version_req::Requirement;
 
 /// A declared dependency.
-#[derive(Debug, Drop)]
+#[derive(Drop)]
 pub struct Decl {
     pub app: AppName,
     pub requirement: Option<Requirement>,
@@ -23,6 +25,8 @@ pub struct Decl {
     /// Whether its app file is read.
     pub app_file: bool,
     pub system_env: Variables,
+    /// A folder that it comes from is no root and not the tool's own.
+    pub ghost placed: { IsTrue (is_dep_source source) },
 }
 
 impl Clone for Decl {
@@ -49,11 +53,11 @@ impl Clone for Decl {
 }
 
 /// Where a dependency comes from.
-#[derive(Debug, PartialEq, Eq, Drop)]
+#[derive(PartialEq, Eq, Drop)]
 pub enum DepSource {
     /// A package of the registry.
     Hex { package: AppName },
-    /// A folder of the project, which is not the root and doesn't lie in `_build`, `deps` or `hex`.
+    /// A folder of the project. That of a `Decl` is not the root and doesn't lie in `_build`, `deps` or `hex`.
     Path { dir: RelPath },
 }
 
@@ -73,7 +77,7 @@ impl Clone for DepSource {
 }
 
 /// How a dependency is compiled.
-#[derive(Debug, PartialEq, Eq, Drop)]
+#[derive(PartialEq, Eq, Drop)]
 pub enum CompileBy {
     /// As its manager does.
     Manager,
@@ -98,7 +102,7 @@ impl Clone for CompileBy {
 }
 
 /// The build tool of a dependency.
-#[derive(Clone, Copy, Debug, PartialEq, Eq, Drop)]
+#[derive(Clone, Copy, Drop)]
 pub enum Manager {
     Mix,
     Rebar3,

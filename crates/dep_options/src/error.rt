@@ -4,7 +4,7 @@ use mx_base::Text;
 use std::alloc::{AllocError, AllocFailed};
 
 /// The first declaration that is refused, and why.
-#[derive(Debug, Drop)]
+#[derive(Drop)]
 pub struct OptionError {
     /// The place of the declaration, from 0; and 0 where there is no list of declarations.
     pub index: u64,
@@ -12,7 +12,7 @@ pub struct OptionError {
 }
 
 /// Why a declaration is refused: the first of these that holds, the options from the left.
-#[derive(Debug, Drop)]
+#[derive(Drop)]
 pub enum OptionCause {
     /// It is no `{app, requirement}`, `{app, options}` or `{app, requirement, options}`, or the term is no list.
     Shape,

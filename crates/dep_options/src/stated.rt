@@ -1,15 +1,15 @@
 // What stands in a declaration.
 ghost use Rattle.std.specs.Prelude.{◌≡◌, IfOk, option_map, option_and_then, map};
 ghost use Rattle.std.specs.Option.{option_copied};
-ghost use Rattle.elixir_terms.specs.Views.{keywords_of};
+ghost use Rattle.term_values.specs.Views.{keywords_of};
 ghost use Rattle.dep_options.specs.Views.{app_of};
 ghost use Rattle.dep_options.specs.Decls.{written_of};
 ghost use Rattle.dep_options.specs.Stated.{written_by, written_as};
 
 use crate::values::app_of;
-use elixir_terms::Term;
 use mx_base::{AppName, Bytes, Text};
 use std::alloc::{AllocError, Global};
+use term_values::Term;
 
 /// A term of the shape of a declaration, where nothing but the app was read yet.
 #[derive(Drop)]

@@ -2,17 +2,16 @@
 ghost use Rattle.std.specs.Prelude.{◌≡◌, not, ◌==◌, IfOk, if◌then◌else◌};
 ghost use Rattle.std.specs.List.{list_any};
 ghost use Rattle.mx_base.specs.AppName.{is_app_name};
-ghost use Rattle.elixir_terms.specs.Views.{all_of};
+ghost use Rattle.term_values.specs.Views.{all_of};
 ghost use Rattle.dep_options.specs.Views.{app_of};
-ghost use Rattle.dep_options.specs.Options.{truth_of, environments_of, compile_of, folder_of, package_of, manager_of, variable_of, variables_of};
-ghost use Rattle.dep_options.specs.Values.{tuple_variable_of};
+ghost use Rattle.dep_options.specs.Options.{truth_of, environments_of, compile_of, folder_of, package_of, manager_of, variable_of, tuple_variable_of, variables_of};
 
 use crate::decl::{CompileBy, Manager};
-use crate::kept_apart::is_kept_apart;
+use crate::kept_apart::is_dep_folder;
 use crate::word::is_word;
-use elixir_terms::Term;
 use mx_base::{AppName, ListOf, NameError, Names, PathError, RelPath, Text, Variable, Variables};
 use std::alloc::{AllocError, Global};
+use term_values::Term;
 
 // The name of an app, where the text is one.
 fn name_of(alloc: Global, text: &[u8]) -> Result<Option<AppName>, AllocError>
@@ -126,8 +125,8 @@ pub(crate) fn folder_of(
         return Ok(None);
     };
     match RelPath::join(alloc, base, text.as_slice()) {
-        Ok(dir) if is_kept_apart(&dir) => Ok(None),
-        Ok(dir) => Ok(Some(dir)),
+        Ok(dir) if is_dep_folder(&dir) => Ok(Some(dir)),
+        Ok(_) => Ok(None),
         Err(PathError::OutOfMemory) => Err(AllocError),
         Err(_) => Ok(None),
     }

@@ -1,11 +1,11 @@
 pub mod Places
+pub mod Positions
 pub mod Ordered
-pub mod Names
+pub mod WinnerOf
 pub mod Winners
 pub mod Blocks
 pub mod Standing
 pub mod OneList
 pub mod Outcomes
 pub mod Asking
-pub mod Apps
 pub mod Growth

@@ -1,16 +1,16 @@
 -- The winners of rows that go on.
-use Rattle.std.proofs.Common.{◌≡◌, ℕ, zero, suc, ◌<◌, ◌≤◌, ◌⊎◌, inl, inr, Bool, true, false, not, ◌&&◌, cond, List, [], ◌∷◌, ◌++◌, length, get_or, slice_get, Some, All, Contains, IsTrue, refl, sym, ◌∙◌, ap, subst, arith, append-nil, append_assoc, nat_eq}
-use Rattle.std.specs.Cmp.Lexicographic.{pointwise}
+use Rattle.std.proofs.Common.{◌≡◌, ℕ, zero, suc, ◌<◌, ◌≤◌, ◌⊎◌, inl, inr, Bool, true, false, ◌&&◌, cond, List, [], ◌∷◌, ◌++◌, length, get_or, slice_get, Option, Some, None, All, Contains, IsTrue, refl, sym, ◌∙◌, ap, subst, arith, append-nil, append_assoc}
+use Rattle.std.specs.Option.{is_none}
 use Rattle.std.proofs.lemmas.Bool.{and_parts, and_from, or_cases, or_parts, both_ways, false≢true}
 use Rattle.std.proofs.lemmas.List.{length-append}
 use Rattle.std.proofs.lemmas.List.Elements.{All-push, All-weaker, Contains-append_left, Contains-push}
 use Rattle.std.proofs.lemmas.List.Quantifiers.{all_pairs_push}
 use Rattle.std.proofs.lemmas.Option.{none-some, same_Some, slice_get_within}
 use Rattle.dep_rows.specs.declared.row.Row.{Row}
-use Rattle.dep_rows.specs.Growing.{has_required, next_winner, next_winners}
-use Rattle.dep_rows.specs.Rows.{IsWinner, AreWinners}
+use Rattle.dep_rows.specs.Growing.{next_winner, next_winners}
+use Rattle.dep_rows.specs.Rows.{IsWinner, AreWinners, winner_of}
 use Rattle.dep_rows.proofs.Places.{get_longer, get_shorter, get_end, get_cases, get_one}
-use Rattle.dep_rows.proofs.Names.{same_name, tests_same}
+use Rattle.dep_rows.proofs.WinnerOf.{winner_is, no_winner}
 
 pub wins_longer : (rows more : List Row) (place : ℕ) (row : Row) → IsWinner rows place row → IsWinner (rows ++ more) place row
 wins_longer rows more place row wins =
@@ -27,36 +27,6 @@ wins_shorter rows more place row within wins = record {
   required = wins.required;
   first = λ other earlier before stands. wins.first other earlier before (get_longer rows more other earlier stands);
 }
-
--- a required row of the app among the rows
-pub record HasRequired (rows : List Row) (app : List ℕ) : Type 0 where
-  pub place : ℕ
-  pub row : Row
-  pub stands : slice_get rows place ≡ Some row
-  pub required : IsTrue row.required
-  pub same : row.app ≡ app
-
-pub some_required : (rows : List Row) (app : List ℕ) → has_required rows app ≡ true → HasRequired rows app
-some_required [] app h = absurd (false≢true h)
-some_required (row ∷ rows) app h =
-    elim (or_cases (row.required && pointwise nat_eq row.app app) (has_required rows app) h) [
-      | inl here ↦
-          let parts = and_parts row.required (pointwise nat_eq row.app app) here in
-          record { place = 0; row = row; stands = refl; required = parts.0; same = same_name row.app app parts.1 }
-      | inr there ↦
-          let found = some_required rows app there in
-          record { place = suc found.place; row = found.row; stands = found.stands; required = found.required; same = found.same }
-    ]
-
-pub none_required : (rows : List Row) (app : List ℕ) → has_required rows app ≡ false → (place : ℕ) (found : Row) → slice_get rows place ≡ Some found → IsTrue found.required → found.app ≡ app → ⊥
-none_required [] app none place found stands required same = none-some found stands
-none_required (row ∷ rows) app none zero found stands required same =
-    let parts = or_parts (row.required && pointwise nat_eq row.app app) (has_required rows app) none in
-    let is : found ≡ row = sym (same_Some row found stands) in
-    both_ways _ parts.0 (and_from _ _ (subst (λ (r : Row). IsTrue r.required) is required) (tests_same row.app app (subst (λ (r : Row). r.app ≡ app) is same)))
-none_required (row ∷ rows) app none (suc place) found stands required same =
-    let parts = or_parts (row.required && pointwise nat_eq row.app app) (has_required rows app) none in
-    none_required rows app parts.1 place found stands required same
 
 abbrev pub Wins : List Row → ℕ → Type 0
 Wins rows place = (row : Row) × IsWinner rows place row
@@ -85,7 +55,7 @@ wins_cases rows last place row wins =
           inr (record { at = omega (arith, at, zeroth); is = one.1 })
     ]
 
-push_winner : (rows : List Row) (winners : List ℕ) (row : Row) → IsTrue row.required → has_required rows row.app ≡ false → AreWinners rows winners → AreWinners (rows ++ row ∷ []) (winners ++ length rows ∷ [])
+push_winner : (rows : List Row) (winners : List ℕ) (row : Row) → IsTrue row.required → winner_of rows row.app ≡ None → AreWinners rows winners → AreWinners (rows ++ row ∷ []) (winners ++ length rows ∷ [])
 push_winner rows winners row required fresh are = record {
   in_order = all_pairs_push (λ earlier later. earlier < later) winners (length rows) are.in_order (winner_within rows winners are);
   only = All-push (Wins (rows ++ row ∷ [])) winners (length rows) (longer_wins rows winners row are) (
@@ -93,7 +63,7 @@ push_winner rows winners row required fresh are = record {
     record {
       stands = get_end rows row;
       required = required;
-      first = λ other earlier before stands needed same. none_required rows row.app fresh other earlier (get_shorter rows (row ∷ []) other earlier before stands) needed same;
+      first = λ other earlier before stands needed same. no_winner rows row.app fresh other earlier (get_shorter rows (row ∷ []) other earlier before stands) needed same;
     },
   );
   all = λ place other wins.
@@ -103,7 +73,11 @@ push_winner rows winners row required fresh are = record {
       ];
 }
 
-push_other : (rows : List Row) (winners : List ℕ) (row : Row) → (IsTrue row.required → has_required rows row.app ≡ true) → AreWinners rows winners → AreWinners (rows ++ row ∷ []) winners
+some_winner : (o : Option ℕ) → is_none o ≡ false → (place : ℕ) × (o ≡ Some place)
+some_winner None h = cc
+some_winner (Some place) h = (place, refl)
+
+push_other : (rows : List Row) (winners : List ℕ) (row : Row) → (IsTrue row.required → is_none (winner_of rows row.app) ≡ false) → AreWinners rows winners → AreWinners (rows ++ row ∷ []) winners
 push_other rows winners row known are = record {
   in_order = are.in_order;
   only = longer_wins rows winners row are;
@@ -112,25 +86,26 @@ push_other rows winners row known are = record {
         | inl before ↦ are.all place other before
         | inr last ↦
             let required : IsTrue row.required = subst (λ (r : Row). IsTrue r.required) (sym last.is) wins.required in
-            let found = some_required rows row.app (known required) in
-            let within = slice_get_within rows found.place found.row found.stands in
+            let found = some_winner (winner_of rows row.app) (known required) in
+            let w = winner_is rows row.app found.0 found.1 in
+            let within = slice_get_within rows found.0 w.row w.wins.stands in
             let at = last.at in
-            let same : found.row.app ≡ other.app = found.same ∙ ap (λ (r : Row). r.app) last.is in
-            absurd (wins.first found.place found.row (omega (arith, within, at)) (get_longer rows (row ∷ []) found.place found.row found.stands) found.required same)
+            let same : w.row.app ≡ other.app = w.named ∙ ap (λ (r : Row). r.app) last.is in
+            absurd (wins.first found.0 w.row (omega (arith, within, at)) (get_longer rows (row ∷ []) found.0 w.row w.wins.stands) w.wins.required same)
       ];
 }
 
 -- the winners with the next row
 pub winners_push : (rows : List Row) (winners : List ℕ) (row : Row) → AreWinners rows winners → AreWinners (rows ++ row ∷ []) (winners ++ next_winner rows row)
-winners_push rows winners row are = at row.required (has_required rows row.app) refl refl where
-  stay : (IsTrue row.required → has_required rows row.app ≡ true) → AreWinners (rows ++ row ∷ []) (winners ++ [])
+winners_push rows winners row are = at row.required (winner_of rows row.app) refl refl where
+  stay : (IsTrue row.required → is_none (winner_of rows row.app) ≡ false) → AreWinners (rows ++ row ∷ []) (winners ++ [])
   stay known = subst (λ (ws : List ℕ). AreWinners (rows ++ row ∷ []) ws) (sym (append-nil winners)) (push_other rows winners row known are)
 
-  at : (required known : Bool) → row.required ≡ required → has_required rows row.app ≡ known → AreWinners (rows ++ row ∷ []) (winners ++ cond (required && not known) (length rows ∷ []) [])
-  at true false is_required is_known = push_winner rows winners row is_required is_known are
-  at true true is_required is_known = stay (λ h. is_known)
-  at false false is_required is_known = stay (λ h. absurd (both_ways _ is_required h))
-  at false true is_required is_known = stay (λ h. is_known)
+  at : (required : Bool) (known : Option ℕ) → row.required ≡ required → winner_of rows row.app ≡ known → AreWinners (rows ++ row ∷ []) (winners ++ cond (required && is_none known) (length rows ∷ []) [])
+  at true None is_required is_known = push_winner rows winners row is_required is_known are
+  at true (Some other) is_required is_known = stay (λ h. ap is_none is_known)
+  at false None is_required is_known = stay (λ h. absurd (both_ways _ is_required h))
+  at false (Some other) is_required is_known = stay (λ h. ap is_none is_known)
 
 -- the winners with all the rows that come next
 pub winners_more : (rows : List Row) (winners : List ℕ) (more : List Row) → AreWinners rows winners → AreWinners (rows ++ more) (winners ++ next_winners rows more)
@@ -156,7 +131,7 @@ next_few false n = omega arith
 pub few_winners : (rows more : List Row) → length (next_winners rows more) ≤ length more
 few_winners rows [] = omega arith
 few_winners rows (row ∷ more) =
-    let one = next_few (row.required && not (has_required rows row.app)) (length rows) in
+    let one = next_few (row.required && is_none (winner_of rows row.app)) (length rows) in
     let rest = few_winners (rows ++ row ∷ []) more in
     let long = length-append (next_winner rows row) (next_winners (rows ++ row ∷ []) more) in
     omega (arith, one, rest, long)

@@ -1,5 +1,5 @@
 -- The rows of a project: its own declarations and those of its dependencies, in one list.
-use Rattle.std.specs.Prelude.{◌≡◌, ◌≢◌, ℕ, suc, ◌+◌, ◌<◌, ◌≤◌, not, ◌||◌, is_none, List, [], ◌∷◌, ◌++◌, length, Option, Some, None, Result, Ok, Err, IsTrue, slice_get}
+use Rattle.std.specs.Prelude.{◌≡◌, ◌≢◌, ℕ, suc, ◌+◌, ◌<◌, ◌≤◌, Bool, not, ◌||◌, ◌&&◌, is_none, bytes_eq, position, List, [], ◌∷◌, ◌++◌, length, Option, Some, None, Result, Ok, Err, IsTrue, slice_get}
 use Rattle.std.specs.List.{All, AllPairs, Contains}
 use Rattle.dep_options.specs.declared.decl.Decl.{Decl}
 use Rattle.dep_rows.specs.declared.row.Row.{Row}
@@ -22,6 +22,14 @@ pub record IsWinner (rows : List Row) (place : ℕ) (row : Row) : Type 0 where
   pub stands : slice_get rows place ≡ Some row
   pub required : IsTrue row.required
   pub first : (other : ℕ) (earlier : Row) → other < place → slice_get rows other ≡ Some earlier → IsTrue earlier.required → earlier.app ≢ row.app
+
+-- whether the row is a required one of the app
+abbrev pub is_required_of : List ℕ → Row → Bool
+is_required_of app row = row.required && bytes_eq app row.app
+
+-- the place of an app's winner, where it has one
+unfoldable pub winner_of : List Row → List ℕ → Option ℕ
+winner_of rows app = position (is_required_of app) rows
 
 -- the places of all winners, in order
 pub record AreWinners (rows : List Row) (winners : List ℕ) : Type 0 where

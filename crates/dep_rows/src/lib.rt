@@ -4,7 +4,6 @@
 //! rows that the root and the children of its winners make, and otherwise the first fault that is met or the limit.
 #![tactic(auto)]
 
-mod app_key;
 mod children;
 mod decls;
 mod error;

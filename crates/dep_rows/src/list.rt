@@ -1,36 +1,51 @@
 // The rows of a project, and which of them win.
 ghost use Rattle.std.specs.Prelude.{◌≡◌, ◌≤◌, length};
 ghost use Rattle.dep_rows.specs.Listed.{Listed, IsWithinLimit};
-ghost use Rattle.dep_rows.specs.Rows.{AreWellFormed, most_rows};
+ghost use Rattle.dep_rows.specs.Rows.{AreWellFormed, most_rows, winner_of};
 
+use crate::listing::Listing;
 use crate::row::{Places, Row, RowList};
+use mx_base::AppName;
+use std::collections::BTreeMap;
 use std::marker::Model;
 
 /// The rows of a project, and the places of their winners. It has at most 65,536 rows.
-#[derive(Debug, Drop)]
+#[derive(Drop)]
 pub struct Rows {
     rows: RowList,
     winners: Places,
+    by_app: BTreeMap<AppName, u32>,
 }
 
 impl Model for Rows {
     ghost use Rattle.dep_rows.specs.Listed.{Listed, IsWithinLimit};
+    ghost use Rattle.dep_rows.specs.Growing.{KnowsWinners};
 
     ghost Value = { Listed };
 
     ghost view = { λ list. record { rows = list.rows; winners = list.winners } };
 
-    ghost invariant = { λ list. IsWithinLimit (record { rows = list.rows; winners = list.winners }) };
+    ghost invariant = { λ list.
+        IsWithinLimit (record { rows = list.rows; winners = list.winners }) × KnowsWinners list.by_app list.rows };
 }
 
 impl Rows {
-    pub(crate) fn new(rows: RowList, winners: Places) -> Rows
-        requires well_formed { AreWellFormed rows winners }
-        requires few { length rows ≤ most_rows }
-        ensures value { result ≡ record { rows = rows; winners = winners } }
+    pub(crate) fn of(listing: Listing) -> Rows
+        requires well_formed { AreWellFormed listing.rows.items listing.winners.items }
+        requires few { length listing.rows.items ≤ most_rows }
+        ensures value { result ≡ record { rows = listing.rows.items; winners = listing.winners.items } }
         ensures within { IsWithinLimit result }
     {
-        Rows { rows, winners }
+        let Listing {
+            rows,
+            winners,
+            by_app,
+        } = listing;
+        Rows {
+            rows: RowList::from_vec(rows),
+            winners: Places::from_vec(winners),
+            by_app,
+        }
     }
 
     /// The rows in their order.
@@ -47,5 +62,12 @@ impl Rows {
         ensures within { IsWithinLimit self.now }
     {
         self.winners.as_slice()
+    }
+
+    /// The place of the winner of an app.
+    pub fn winner_of(&self, app: &AppName) -> Option<u32>
+        ensures { result ≡ winner_of self.now.rows app.now }
+    {
+        self.by_app.get(app).copied()
     }
 }

@@ -1,94 +1,100 @@
 // Rows so far, and the winners among them.
-ghost use Rattle.std.specs.Prelude.{◌≡◌, ◌+◌, ◌<◌, ◌≤◌, [], ◌∷◌, ◌++◌, length, vec_len, OnOk, IfOk, not, ◌&&◌};
-ghost use Rattle.dep_rows.specs.Growing.{has_required, next_winner, next_winners, HasRequiredApps};
-ghost use Rattle.dep_rows.specs.Listed.{IsWithinLimit};
-ghost use Rattle.dep_rows.specs.Rows.{AreWellFormed, most_rows, row_of, rows_from};
+ghost use Rattle.std.specs.Prelude.{◌≡◌, ◌+◌, ◌<◌, ◌≤◌, [], ◌∷◌, ◌++◌, length, vec_len, OnOk, IfOk};
+ghost use Rattle.dep_rows.specs.Growing.{next_winner, next_winners, KnowsWinners};
+ghost use Rattle.dep_rows.specs.Rows.{most_rows, row_of, rows_from};
 
-use crate::app_key::AppKey;
-use crate::list::Rows;
-use crate::row::{Places, Row, RowList};
+use crate::row::Row;
 use dep_options::Decl;
-use indexmap::IndexSet;
+use mx_base::AppName;
 use std::alloc::{AllocError, Global};
+use std::collections::BTreeMap;
 
 /// How many rows there may be.
 pub(crate) const MOST_ROWS: usize = 65_536;
 
-/// Rows so far, the places of their winners, and the apps that have one.
+/// Rows so far, the places of their winners, and which of these is each app's.
 #[derive(Drop)]
 pub(crate) struct Listing {
     pub(crate) rows: Vec<Row>,
     pub(crate) winners: Vec<u32>,
-    pub(crate) apps: IndexSet<AppKey>,
+    pub(crate) by_app: BTreeMap<AppName, u32>,
+    ghost knows: { KnowsWinners by_app rows.items },
 }
 
 impl Listing {
     pub(crate) fn new(alloc: Global) -> Listing
         ensures rows { result.rows.items ≡ [] }
         ensures winners { result.winners.items ≡ [] }
-        ensures apps { HasRequiredApps result.apps result.rows.items }
     {
+        let rows = Vec::new(alloc);
+        let winners = Vec::new(alloc);
+        let by_app = BTreeMap::new(alloc);
         Listing {
-            rows: Vec::new(alloc),
-            winners: Vec::new(alloc),
-            apps: IndexSet::new(alloc),
+            rows,
+            winners,
+            by_app,
         }
     }
 
-    /// Adds the declarations of one manifest, that of the root where no row declares them.
-    pub(crate) fn add_all(&mut self, by: Option<u32>, decls: Vec<Decl>) -> Result<(), AllocError>
-        requires few { vec_len self.old.rows + vec_len decls ≤ most_rows }
-        requires apps { HasRequiredApps self.old.apps self.old.rows.items }
-        ensures rows { OnOk result (self.new.rows.items ≡ self.old.rows.items ++ rows_from by 0 decls.items) }
-        ensures winners { OnOk result (self.new.winners.items ≡ self.old.winners.items ++ next_winners self.old.rows.items (rows_from by 0 decls.items)) }
-        ensures apps { OnOk result (HasRequiredApps self.new.apps self.new.rows.items) }
+    /// With the declarations of one manifest, that of the root where no row declares them.
+    pub(crate) fn with_all(self, by: Option<u32>, decls: Vec<Decl>) -> Result<Listing, AllocError>
+        requires { vec_len self.rows + vec_len decls ≤ most_rows }
+        ensures rows { IfOk result (λ listing. listing.rows.items ≡ self.rows.items ++ rows_from by 0 decls.items) }
+        ensures winners { IfOk result (λ listing.
+            listing.winners.items ≡ self.winners.items ++ next_winners self.rows.items (rows_from by 0 decls.items)) }
     {
+        let mut listing = self;
         let mut index = 0;
         for decl in decls {
-            self.add(row_of(by, index, decl)?)?;
+            listing = listing.with(row_of(by, index, decl)?)?;
             index += 1;
         }
-        Ok(())
+        Ok(listing)
     }
 
-    pub(crate) fn into_rows(self) -> Rows
-        requires well_formed { AreWellFormed self.rows.items self.winners.items }
-        requires few { length self.rows.items ≤ most_rows }
-        ensures rows { result.rows ≡ self.rows.items }
-        ensures winners { result.winners ≡ self.winners.items }
-        ensures within { IsWithinLimit result }
+    fn with(self, row: Row) -> Result<Listing, AllocError>
+        requires { vec_len self.rows < most_rows }
+        ensures rows { IfOk result (λ listing. listing.rows.items ≡ self.rows.items ++ row ∷ []) }
+        ensures winners { IfOk result (λ listing.
+            listing.winners.items ≡ self.winners.items ++ next_winner self.rows.items row) }
     {
-        Rows::new(RowList::from_vec(self.rows), Places::from_vec(self.winners))
+        let Listing {
+            mut rows,
+            mut winners,
+            mut by_app,
+        } = self;
+        note(&rows, &row, &mut winners, &mut by_app)?;
+        rows.push(row)?;
+        Ok(Listing {
+            rows,
+            winners,
+            by_app,
+        })
     }
+}
 
-    fn add(&mut self, row: Row) -> Result<(), AllocError>
-        requires few { vec_len self.old.rows < most_rows }
-        requires apps { HasRequiredApps self.old.apps self.old.rows.items }
-        ensures rows { OnOk result (self.new.rows.items ≡ self.old.rows.items ++ row ∷ []) }
-        ensures winners { OnOk result (self.new.winners.items ≡ self.old.winners.items ++ next_winner self.old.rows.items row) }
-        ensures apps { OnOk result (HasRequiredApps self.new.apps self.new.rows.items) }
-    {
-        self.note(&row)?;
-        self.rows.push(row)?;
-        Ok(())
+/// Notes the row that comes after these, if it wins.
+fn note(
+    rows: &Vec<Row>,
+    row: &Row,
+    winners: &mut Vec<u32>,
+    by_app: &mut BTreeMap<AppName, u32>,
+) -> Result<(), AllocError>
+    requires few { vec_len rows.now < most_rows }
+    requires knows { KnowsWinners by_app.old rows.now.items }
+    ensures winners { OnOk result (winners.new.items ≡ winners.old.items ++ next_winner rows.now.items row.now) }
+    ensures knows { OnOk result (KnowsWinners by_app.new (rows.now.items ++ row.now ∷ [])) }
+{
+    if !row.required {
+        return Ok(());
     }
-
-    // Notes the winner, if the row that comes next is one.
-    fn note(&mut self, row: &Row) -> Result<(), AllocError>
-        requires few { vec_len self.old.rows < most_rows }
-        requires apps { HasRequiredApps self.old.apps self.old.rows.items }
-        ensures rows { self.new.rows.items ≡ self.old.rows.items }
-        ensures winners { OnOk result (self.new.winners.items ≡ self.old.winners.items ++ next_winner self.old.rows.items row.now) }
-        ensures apps { OnOk result (HasRequiredApps self.new.apps (self.old.rows.items ++ row.now ∷ [])) }
-    {
-        if !row.required {
-            return Ok(());
-        }
-        if self.apps.insert(AppKey::new(row.app.clone()?))? {
-            self.winners.push(self.rows.len() as u32)?;
-        }
-        Ok(())
+    if by_app.contains_key(&row.app) {
+        return Ok(());
     }
+    let place = rows.len() as u32;
+    by_app.insert(row.app.clone()?, place)?;
+    winners.push(place)?;
+    Ok(())
 }
 
 fn row_of(by: Option<u32>, index: u32, decl: Decl) -> Result<Row, AllocError>

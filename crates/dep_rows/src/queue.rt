@@ -1,9 +1,9 @@
 // Each winner, in the order of its place, is asked for its children, whose rows come at the end.
-ghost use Rattle.std.specs.Prelude.{◌≡◌, ◌≤◌, ◌<◌, IfOk, OnOk, IfErr, IfSome, vec_len};
+ghost use Rattle.std.specs.Prelude.{◌≡◌, ◌≤◌, ◌<◌, IfOk, IfErr, IfSome, vec_len};
 ghost use Rattle.mx_base.specs.Blame.{Answers, fails};
 ghost use Rattle.mx_base.specs.Causes.{Counted};
 ghost use Rattle.dep_rows.specs.Children.{rows_blame};
-ghost use Rattle.dep_rows.specs.Growing.{BringsIn, Hinders, HasRequiredApps};
+ghost use Rattle.dep_rows.specs.Growing.{BringsIn, Hinders};
 ghost use Rattle.dep_rows.specs.Listed.{IsWithinLimit};
 ghost use Rattle.dep_rows.specs.Refusal.{IsListing};
 ghost use Rattle.dep_rows.specs.Rows.{most_rows};
@@ -33,31 +33,29 @@ pub fn rows<C: Children>(
     if root.len() > MOST_ROWS {
         return Err(RowsError::TooManyRows);
     }
-    let mut listing = Listing::new(alloc);
-    listing.add_all(None, copied(alloc, root)?)?;
+    let decls = copied(alloc, root)?;
+    let mut listing = Listing::new(alloc).with_all(None, decls)?;
     let mut asked = 0;
     while asked < listing.winners.len() {
         let winner = listing.winners[asked];
-        bring_in(alloc, &mut listing, winner, children)?;
+        listing = bring_in(alloc, listing, winner, children)?;
         asked += 1;
     }
-    Ok(listing.into_rows())
+    Ok(Rows::of(listing))
 }
 
 /// Asks a winner for its children, and adds their rows.
 fn bring_in<C: Children>(
     alloc: Global,
-    listing: &mut Listing,
+    listing: Listing,
     winner: u32,
     children: &mut C,
-) -> Result<(), RowsError<C::Fault>>
-    requires within { winner < vec_len listing.old.rows }
-    requires few { vec_len listing.old.rows ≤ most_rows }
-    requires apps { HasRequiredApps listing.old.apps listing.old.rows.items }
+) -> Result<Listing, RowsError<C::Fault>>
+    requires within { winner < vec_len listing.rows }
+    requires few { vec_len listing.rows ≤ most_rows }
     requires stands { C.stands children.old }
-    ensures ok { OnOk result (BringsIn C.children_of (C.meaning children.old) winner listing.old.rows.items listing.new.rows.items listing.old.winners.items listing.new.winners.items) }
-    ensures apps { OnOk result (HasRequiredApps listing.new.apps listing.new.rows.items) }
-    ensures err { IfErr result (λ error. IfSome (C.meaning children.old) (λ known. Hinders C.blame (C.children_of known) listing.old.rows.items winner error)) }
+    ensures ok { IfOk result (λ longer. BringsIn C.children_of (C.meaning children.old) winner listing.rows.items longer.rows.items listing.winners.items longer.winners.items) }
+    ensures err { IfErr result (λ error. IfSome (C.meaning children.old) (λ known. Hinders C.blame (C.children_of known) listing.rows.items winner error)) }
     ensures meaning { C.meaning children.new ≡ C.meaning children.old }
     ensures made_over { C.made_over children.new ≡ C.made_over children.old }
     ensures stands { C.stands children.new }
@@ -71,6 +69,5 @@ fn bring_in<C: Children>(
     if decls.len() > MOST_ROWS - listing.rows.len() {
         return Err(RowsError::TooManyRows);
     }
-    listing.add_all(Some(winner), decls)?;
-    Ok(())
+    Ok(listing.with_all(Some(winner), decls)?)
 }

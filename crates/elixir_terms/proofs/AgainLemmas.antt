@@ -3,37 +3,38 @@ use Rattle.std.specs.Prelude.{option_and_then}
 use Rattle.std.proofs.Common.{◌≡◌, ◌≢◌, ℕ, suc, ◌+◌, ◌-◌, ◌≤◌, ◌⊎◌, inl, inr, Bool, true, false, cond, List, [], ◌∷◌, ◌++◌, Some, None, map, refl, sym, ap, ◌∙◌, subst, arith, append_assoc, ⊎_elim}
 use Rattle.std.proofs.lemmas.List.{append-nil, map-append}
 use Rattle.std.proofs.lemmas.Bool.{and_right, true≢false}
-use Rattle.elixir_terms.specs.declared.bracket.Bracket.{Bracket}
-use Rattle.elixir_terms.specs.declared.bracket.Bracket.TheVariants as bracket
+use Rattle.term_tokens.specs.declared.bracket.Bracket.{Bracket}
+use Rattle.term_tokens.specs.declared.bracket.Bracket.TheVariants as bracket
 use Rattle.elixir_terms.specs.declared.frame.Frame.{Frame}
 use Rattle.elixir_terms.specs.declared.frame.Hole.{Hole}
 use Rattle.elixir_terms.specs.declared.frame.Slot.{Slot}
 use Rattle.elixir_terms.specs.declared.frame.Slot.TheVariants as slot
 use Rattle.elixir_terms.specs.declared.state.State.{State}
 use Rattle.elixir_terms.specs.declared.state.State.TheVariants as state
-use Rattle.elixir_terms.specs.declared.term.Term.{Term}
-use Rattle.elixir_terms.specs.declared.term.Term.TheVariants as term
-use Rattle.elixir_terms.specs.declared.token.Token.{Token}
-use Rattle.elixir_terms.specs.declared.token.Token.TheVariants.{Atom, Int, Str, Words, Key, Open, Close, Comma, Arrow}
-use Rattle.elixir_terms.specs.Grammar.{IsTerm, atom, integer, string, words, brackets, Pair, enclosed, closing_of}
-use Rattle.elixir_terms.specs.Lexing.{past_blank}
-use Rattle.elixir_terms.specs.Local.{starts_with, is_plain, IsFree, IsFloat}
+use Rattle.term_values.specs.declared.term.Term.{Term}
+use Rattle.term_values.specs.declared.term.Term.TheVariants as term
+use Rattle.term_tokens.specs.declared.token.Token.{Token}
+use Rattle.term_tokens.specs.declared.token.Token.TheVariants.{Atom, Int, Str, Words, Key, Open, Close, Comma, Arrow}
+use Rattle.term_print.specs.Grammar.{IsTerm, atom, integer, string, words, brackets, enclosed, closing_of}
+use Rattle.term_values.specs.Views.{Pair}
+use Rattle.term_tokens.specs.Lexing.{past_blank}
+use Rattle.term_tokens.specs.Local.{starts_with, is_plain, IsFree, IsFloat}
 use Rattle.elixir_terms.specs.Codes.{keys_in}
 use Rattle.elixir_terms.specs.Machine.{with_entry, with_keyword, takes_key, takes_key_in, takes_part, part_slot, empty, placed, step, NewIn, NewInSlot, IsNew, KeysDiffer}
 use Rattle.elixir_terms.specs.Prefixes.{AreOpen, Leads, none as no_token, token as one_token}
 use Rattle.elixir_terms.specs.Refusals.{Pairs, none as no_pair, entry, keyword, KeyAhead, keyword as key_ahead, entry as term_ahead, IsEnded, IsOneOf, IsShallow, PairsShallow, more_pairs}
-use Rattle.elixir_terms.specs.Tokens.{Begins, Blanks, none}
+use Rattle.term_tokens.specs.Tokens.{Begins, Blanks, none}
 use Rattle.elixir_terms.specs.Within.{deepest, IsNone, Differ, Fits, AllFit, PairsFit}
 use Rattle.elixir_terms.specs.Within as fits
 use Rattle.elixir_terms.proofs.ApartLemmas.{StateApart, step_apart, allows, nil_from, differ_at, none_join, none_part, not_one}
-use Rattle.elixir_terms.proofs.BlankLemmas.{blanks_stop, blanks_meet}
+use Rattle.term_tokens.proofs.BlankLemmas.{blanks_stop, blanks_meet}
 use Rattle.elixir_terms.proofs.FitLemmas.{enclosed_differ}
 use Rattle.elixir_terms.proofs.KeptLemmas.{token_fits, KeywordsFit, FrameFits, StateFits, NextFits, step_fits, holes_all}
 use Rattle.elixir_terms.proofs.LiftLemmas.{lifted, runs_lifted, term_runs}
 use Rattle.elixir_terms.proofs.LimitLemmas.{fitting}
 use Rattle.elixir_terms.proofs.Meaning.{FilledIn, Filled, Wants}
 use Rattle.elixir_terms.proofs.OpenLemmas.{runs, start, runs_append, open_runs, after_some, cond_test}
-use Rattle.elixir_terms.proofs.OptionLemmas.{some_same}
+use Rattle.term_tokens.proofs.OptionLemmas.{some_same}
 use Rattle.elixir_terms.proofs.PlaceLemmas.{Inside, Past, Meets, within, there, behind, meets}
 use Rattle.elixir_terms.proofs.PrefixLemmas.{AllSound, start_sound, next_sound, token_shallow}
 use Rattle.elixir_terms.proofs.ShallowLemmas.{map_parts, enclosed_deep}
@@ -41,7 +42,7 @@ use Rattle.elixir_terms.proofs.ShutLemmas.{is_single, colon_first}
 use Rattle.elixir_terms.proofs.SoundLemmas.{HolesSound, StateSound, part_slot_sound}
 use Rattle.elixir_terms.proofs.StepForth.{plain_at}
 use Rattle.elixir_terms.proofs.StopLemmas.{Repeats, whole_last}
-use Rattle.elixir_terms.proofs.TokenLaws.{begins_one, begins_solid}
+use Rattle.term_tokens.proofs.TokenLaws.{begins_one, begins_solid}
 use Rattle.elixir_terms.proofs.TrailLemmas.{Stood, Trail, rests, steps, trail_runs}
 
 -- what fits in some levels fits in more
@@ -86,7 +87,7 @@ pub term_first : {word : List Token} {t : Term} → IsTerm word t → (tok : Tok
 term_first (atom {name = name}) = (Atom name, [], refl)
 term_first (integer {n = n}) = (Int n, [], refl)
 term_first (string {bytes = bytes}) = (Str bytes, [], refl)
-term_first (words {terms = terms}) = (Words terms, [], refl)
+term_first (words {kind = kind} {words = ws}) = (Words kind ws, [], refl)
 term_first (brackets {kind = kind} {inside = inside} reads encloses) = (Open kind, inside ++ Close (closing_of kind) ∷ [], refl)
 
 -- one that is a whole term is alone
@@ -121,7 +122,7 @@ single_last (x ∷ before) tok (brackets {kind = kind} {inside = inside} reads e
 single_last (x ∷ before) tok (atom {name = name}) e s = absurd (too_long (Atom name) x before tok e)
 single_last (x ∷ before) tok (integer {n = n}) e s = absurd (too_long (Int n) x before tok e)
 single_last (x ∷ before) tok (string {bytes = bytes}) e s = absurd (too_long (Str bytes) x before tok e)
-single_last (x ∷ before) tok (words {terms = terms}) e s = absurd (too_long (Words terms) x before tok e)
+single_last (x ∷ before) tok (words {kind = kind} {words = ws}) e s = absurd (too_long (Words kind ws) x before tok e)
 
 -- what is read in a map
 

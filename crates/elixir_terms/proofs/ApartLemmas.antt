@@ -2,20 +2,21 @@
 use Rattle.std.proofs.Common.{◌≡◌, ℕ, ◌+◌, ◌≤◌, Bool, true, false, cond, List, [], ◌∷◌, ◌++◌, Option, Some, None, map, refl, sym, ap, ◌∙◌, subst, arith, append_assoc, ⊎_elim}
 use Rattle.std.specs.Prelude.{option_map}
 use Rattle.std.proofs.lemmas.List.{append-nil, map-append}
-use Rattle.elixir_terms.specs.declared.bracket.Bracket.{Bracket}
-use Rattle.elixir_terms.specs.declared.bracket.Bracket.TheVariants as bracket
+use Rattle.term_tokens.specs.declared.bracket.Bracket.{Bracket}
+use Rattle.term_tokens.specs.declared.bracket.Bracket.TheVariants as bracket
 use Rattle.elixir_terms.specs.declared.frame.Frame.{Frame}
 use Rattle.elixir_terms.specs.declared.frame.Hole.{Hole}
 use Rattle.elixir_terms.specs.declared.frame.Slot.{Slot}
 use Rattle.elixir_terms.specs.declared.frame.Slot.TheVariants as slot
 use Rattle.elixir_terms.specs.declared.state.State.{State}
 use Rattle.elixir_terms.specs.declared.state.State.TheVariants as state
-use Rattle.elixir_terms.specs.declared.term.Term.{Term}
-use Rattle.elixir_terms.specs.declared.term.Term.TheVariants as term
-use Rattle.elixir_terms.specs.declared.token.Closing.{Closing}
-use Rattle.elixir_terms.specs.declared.token.Token.{Token}
-use Rattle.elixir_terms.specs.declared.token.Token.TheVariants.{Atom, Int, Str, Words, Key, Open, Close, Comma, Arrow}
-use Rattle.elixir_terms.specs.Grammar.{Pair, enclosed}
+use Rattle.term_values.specs.declared.term.Term.{Term}
+use Rattle.term_values.specs.declared.term.Term.TheVariants as term
+use Rattle.term_tokens.specs.declared.token.Closing.{Closing}
+use Rattle.term_tokens.specs.declared.token.Token.{Token}
+use Rattle.term_tokens.specs.declared.token.Token.TheVariants.{Atom, Int, Str, Words, Key, Open, Close, Comma, Arrow}
+use Rattle.term_print.specs.Grammar.{enclosed, word_list}
+use Rattle.term_values.specs.Views.{Pair}
 use Rattle.elixir_terms.specs.Levels.{cost_in}
 use Rattle.elixir_terms.specs.Codes.{keys_in}
 use Rattle.elixir_terms.specs.Machine.{is_none, is_closed_by, takes_key, takes_part, part_slot, empty, placed_in, placed, begun, closed, at_part, at_key, at_element, at_separator, at_arrow, step, NewIn, IsNew, KeysDiffer, BeginsWell, PartWell, ElementWell, Allows}
@@ -116,7 +117,7 @@ begun_apart : (tok : Token) (holes : List Hole) → HolesApart holes → NextApa
 begun_apart (Atom name) holes h = placed_apart (term.Atom name) holes h
 begun_apart (Int i) holes h = placed_apart (term.Int i) holes h
 begun_apart (Str bytes) holes h = placed_apart (term.Str bytes) holes h
-begun_apart (Words terms) holes h = placed_apart (term.List terms) holes h
+begun_apart (Words kind ws) holes h = placed_apart (word_list kind ws) holes h
 begun_apart (Open kind) holes h = λ n. (empty_apart kind, h)
 begun_apart (Key key) holes h = tt
 begun_apart (Close closing) holes h = tt
@@ -159,7 +160,7 @@ element_apart frame holes (Key key) d h = key_apart frame holes key d h
 element_apart frame holes (Atom name) d h = part_apart frame holes (Atom name) d h
 element_apart frame holes (Int i) d h = part_apart frame holes (Int i) d h
 element_apart frame holes (Str bytes) d h = part_apart frame holes (Str bytes) d h
-element_apart frame holes (Words terms) d h = part_apart frame holes (Words terms) d h
+element_apart frame holes (Words kind ws) d h = part_apart frame holes (Words kind ws) d h
 element_apart frame holes (Open kind) d h = part_apart frame holes (Open kind) d h
 element_apart frame holes Comma d h = part_apart frame holes Comma d h
 element_apart frame holes Arrow d h = part_apart frame holes Arrow d h
@@ -171,7 +172,7 @@ separator_apart frame holes (Key key) d h = tt
 separator_apart frame holes (Atom name) d h = tt
 separator_apart frame holes (Int i) d h = tt
 separator_apart frame holes (Str bytes) d h = tt
-separator_apart frame holes (Words terms) d h = tt
+separator_apart frame holes (Words kind ws) d h = tt
 separator_apart frame holes (Open kind) d h = tt
 separator_apart frame holes Arrow d h = tt
 
@@ -183,7 +184,7 @@ arrow_apart key frame holes (Key name) s h = tt
 arrow_apart key frame holes (Atom name) s h = tt
 arrow_apart key frame holes (Int i) s h = tt
 arrow_apart key frame holes (Str bytes) s h = tt
-arrow_apart key frame holes (Words terms) s h = tt
+arrow_apart key frame holes (Words kind ws) s h = tt
 arrow_apart key frame holes (Open kind) s h = tt
 
 step_apart_all : (s : State) (tok : Token) → StateApart s → NextApart (step s tok)
@@ -200,7 +201,7 @@ step_apart s next tok h e n = subst NextApart e (step_apart_all s tok h) n
 -- so the token is within the limits
 
 pub begins_allow : (tok : Token) (holes : List Hole) → begin_need tok holes ≤ deepest → BeginsWell tok holes
-begins_allow (Words terms) holes h = omega arith
+begins_allow (Words kind ws) holes h = omega arith
 begins_allow (Open kind) holes h = omega arith
 begins_allow (Atom name) holes h = tt
 begins_allow (Int i) holes h = tt
@@ -228,7 +229,7 @@ element_allow frame holes (Key key) left f h d n = n
 element_allow frame holes (Atom name) left f h d n = part_allow frame holes (Atom name) left f h n
 element_allow frame holes (Int i) left f h d n = part_allow frame holes (Int i) left f h n
 element_allow frame holes (Str bytes) left f h d n = part_allow frame holes (Str bytes) left f h n
-element_allow frame holes (Words terms) left f h d n = part_allow frame holes (Words terms) left f h n
+element_allow frame holes (Words kind ws) left f h d n = part_allow frame holes (Words kind ws) left f h n
 element_allow frame holes (Open kind) left f h d n = part_allow frame holes (Open kind) left f h n
 element_allow frame holes Comma left f h d n = part_allow frame holes Comma left f h n
 element_allow frame holes Arrow left f h d n = part_allow frame holes Arrow left f h n
@@ -242,7 +243,7 @@ allows (state.Separator frame holes) (Key key) f d n = tt
 allows (state.Separator frame holes) (Atom name) f d n = tt
 allows (state.Separator frame holes) (Int i) f d n = tt
 allows (state.Separator frame holes) (Str bytes) f d n = tt
-allows (state.Separator frame holes) (Words terms) f d n = tt
+allows (state.Separator frame holes) (Words kind ws) f d n = tt
 allows (state.Separator frame holes) (Open kind) f d n = tt
 allows (state.Separator frame holes) Arrow f d n = tt
 allows (state.Arrow key frame holes) tok f d n = let all = holes_all holes (1 + f.0) f.3 in omega arith

@@ -9,12 +9,12 @@ use Rattle.std.proofs.lemmas.Cmp.{nat_list_eq_equiv}
 use Rattle.std.proofs.lemmas.List.{append-nil, map-append}
 use Rattle.std.proofs.lemmas.Slice.Eq.{bytes_eq-Decides}
 use Rattle.mx_base.specs.Order.{text_cmp}
-use Rattle.elixir_terms.specs.declared.bracket.Bracket.TheVariants as bracket
+use Rattle.term_tokens.specs.declared.bracket.Bracket.TheVariants as bracket
 use Rattle.elixir_terms.specs.declared.frame.Frame.{Frame}
-use Rattle.elixir_terms.specs.declared.term.Term.{Term}
-use Rattle.elixir_terms.specs.declared.term.Term.TheVariants as term
+use Rattle.term_values.specs.declared.term.Term.{Term}
+use Rattle.term_values.specs.declared.term.Term.TheVariants as term
 use Rattle.elixir_terms.specs.Codes.{keys_in, has_code, HoldsCodes}
-use Rattle.elixir_terms.specs.Grammar.{Pair}
+use Rattle.term_values.specs.Views.{Pair}
 use Rattle.elixir_terms.specs.KeyCode.{term_code}
 use Rattle.elixir_terms.specs.Machine.{with_entry, with_keyword, NewIn}
 use Rattle.elixir_terms.specs.Within.{IsNone}

@@ -1,12 +1,13 @@
 -- How many brackets may be open.
 use Rattle.std.proofs.Common.{◌≡◌, ◌+◌, ◌<◌, ◌≤◌, List, [], ◌∷◌, length, refl, arith}
-use Rattle.elixir_terms.specs.declared.bracket.Bracket.{Bracket}
-use Rattle.elixir_terms.specs.declared.bracket.Bracket.TheVariants as bracket
+use Rattle.term_tokens.specs.declared.bracket.Bracket.{Bracket}
+use Rattle.term_tokens.specs.declared.bracket.Bracket.TheVariants as bracket
 use Rattle.elixir_terms.specs.declared.frame.Frame.{Frame}
 use Rattle.elixir_terms.specs.declared.frame.Hole.{Hole}
 use Rattle.elixir_terms.specs.declared.frame.Slot.{Slot}
 use Rattle.elixir_terms.specs.declared.frame.Slot.TheVariants as slot
-use Rattle.elixir_terms.specs.declared.token.Token.TheVariants.{Words}
+use Rattle.term_tokens.specs.declared.token.Token.TheVariants.{Words}
+use Rattle.term_tokens.specs.declared.token.WordKind.TheVariants.{Strings}
 use Rattle.elixir_terms.specs.Levels.{levels, cost_in}
 use Rattle.elixir_terms.specs.Machine.{PartWell, part_slot}
 use Rattle.elixir_terms.specs.Within.{deepest}
@@ -31,8 +32,8 @@ part_cost bracket.List = refl
 part_cost bracket.Tuple = refl
 part_cost bracket.Map = refl
 
-pub inside_well : (frame : Frame) (holes : List Hole) → 1 + levels holes < deepest → PartWell frame holes (Words [])
+pub inside_well : (frame : Frame) (holes : List Hole) → 1 + levels holes < deepest → PartWell frame holes (Words Strings [])
 inside_well frame holes h = let one = part_cost frame.bracket in (omega arith, omega arith)
 
-pub well_inside : (frame : Frame) (holes : List Hole) → PartWell frame holes (Words []) → 1 + levels holes < deepest
+pub well_inside : (frame : Frame) (holes : List Hole) → PartWell frame holes (Words Strings []) → 1 + levels holes < deepest
 well_inside frame holes h = let one = part_cost frame.bracket in let room = h.1 in omega arith

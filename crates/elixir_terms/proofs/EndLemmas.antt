@@ -9,16 +9,16 @@ use Rattle.elixir_terms.specs.declared.frame.Slot.{Slot}
 use Rattle.elixir_terms.specs.declared.frame.Slot.TheVariants as slot
 use Rattle.elixir_terms.specs.declared.state.State.{State}
 use Rattle.elixir_terms.specs.declared.state.State.TheVariants as state
-use Rattle.elixir_terms.specs.declared.term.Term.{Term}
-use Rattle.elixir_terms.specs.declared.term.Term.TheVariants as term
-use Rattle.elixir_terms.specs.declared.token.Closing.{Closing}
-use Rattle.elixir_terms.specs.declared.token.Token.{Token}
-use Rattle.elixir_terms.specs.declared.token.Token.TheVariants.{Int, Close, Arrow}
-use Rattle.elixir_terms.specs.Grammar.{enclosed, closing_of}
+use Rattle.term_values.specs.declared.term.Term.{Term}
+use Rattle.term_values.specs.declared.term.Term.TheVariants as term
+use Rattle.term_tokens.specs.declared.token.Closing.{Closing}
+use Rattle.term_tokens.specs.declared.token.Token.{Token}
+use Rattle.term_tokens.specs.declared.token.Token.TheVariants.{Int, Close, Arrow}
+use Rattle.term_print.specs.Grammar.{enclosed, closing_of}
 use Rattle.elixir_terms.specs.Levels.{keyword_cost, cost_in, levels}
 use Rattle.elixir_terms.specs.Machine.{with_item, with_entry, with_keyword}
-use Rattle.elixir_terms.specs.Numbers.{last, decimal, plain}
-use Rattle.elixir_terms.specs.Tokens.{closing, ends_integer, integer, closes, arrow, none, blank, AreTokens}
+use Rattle.term_tokens.specs.Numbers.{last, decimal, plain}
+use Rattle.term_tokens.specs.Tokens.{closing, ends_integer, integer, closes, arrow, none, blank, AreTokens}
 use Rattle.elixir_terms.specs.Refusals.{IsShallow, integer as shallow_integer}
 use Rattle.elixir_terms.proofs.Meaning.{FilledIn, Filled, Wants}
 use Rattle.elixir_terms.proofs.SoundLemmas.{Sound, SlotSound, HolesSound, StateSound}

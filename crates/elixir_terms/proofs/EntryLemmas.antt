@@ -2,36 +2,36 @@
 use Rattle.std.specs.Prelude.{option_and_then}
 use Rattle.std.proofs.Common.{◌≡◌, ℕ, ◌<◌, ◌≤◌, ◌⊎◌, inl, inr, true, cond, List, [], ◌∷◌, ◌++◌, Some, None, length, refl, sym, ap, ◌∙◌, subst, arith, append_assoc, ⊎_elim}
 use Rattle.std.proofs.lemmas.List.{length-append}
-use Rattle.elixir_terms.specs.declared.bracket.Bracket.TheVariants as bracket
-use Rattle.elixir_terms.specs.declared.error.Feature.TheVariants.{Float}
-use Rattle.elixir_terms.specs.declared.error.TermCause.{TermCause}
-use Rattle.elixir_terms.specs.declared.error.TermCause.TheVariants as cause
+use Rattle.term_tokens.specs.declared.bracket.Bracket.TheVariants as bracket
+use Rattle.term_tokens.specs.declared.cause.Feature.TheVariants.{Float}
+use Rattle.term_tokens.specs.declared.cause.TermCause.{TermCause}
+use Rattle.term_tokens.specs.declared.cause.TermCause.TheVariants as cause
 use Rattle.elixir_terms.specs.declared.frame.Frame.{Frame}
 use Rattle.elixir_terms.specs.declared.frame.Hole.{Hole}
 use Rattle.elixir_terms.specs.declared.frame.Slot.TheVariants as slot
 use Rattle.elixir_terms.specs.declared.state.State.{State}
 use Rattle.elixir_terms.specs.declared.state.State.TheVariants as state
-use Rattle.elixir_terms.specs.declared.term.Term.{Term}
-use Rattle.elixir_terms.specs.declared.token.Token.{Token}
-use Rattle.elixir_terms.specs.declared.token.Token.TheVariants.{Int}
-use Rattle.elixir_terms.specs.Grammar.{IsTerm}
-use Rattle.elixir_terms.specs.Lexing.{past_blank}
-use Rattle.elixir_terms.specs.Local.{IsFloat, takes, Locally, float}
+use Rattle.term_values.specs.declared.term.Term.{Term}
+use Rattle.term_tokens.specs.declared.token.Token.{Token}
+use Rattle.term_tokens.specs.declared.token.Token.TheVariants.{Int}
+use Rattle.term_print.specs.Grammar.{IsTerm}
+use Rattle.term_tokens.specs.Lexing.{past_blank}
+use Rattle.term_tokens.specs.Local.{IsFloat, takes, Locally, float}
 use Rattle.elixir_terms.specs.Machine.{placed, part_slot, takes_part, step, expected}
 use Rattle.elixir_terms.specs.Prefixes.{Leads, none as no_token, token as one_token}
 use Rattle.elixir_terms.specs.Refusals.{IsEnded}
-use Rattle.elixir_terms.specs.Tokens.{Begins, none}
+use Rattle.term_tokens.specs.Tokens.{Begins, none}
 use Rattle.elixir_terms.proofs.AgainLemmas.{part_hole, first_step}
-use Rattle.elixir_terms.proofs.BlankLemmas.{blanks_meet}
-use Rattle.elixir_terms.proofs.CalmLemmas.{decimal_begins}
+use Rattle.term_tokens.proofs.BlankLemmas.{blanks_meet}
+use Rattle.term_tokens.proofs.CalmLemmas.{decimal_begins}
 use Rattle.elixir_terms.proofs.LiftLemmas.{lifted, runs_lifted}
 use Rattle.elixir_terms.proofs.OpenLemmas.{runs, start, runs_append, after_some, step_taken}
-use Rattle.elixir_terms.proofs.OptionLemmas.{some_same}
+use Rattle.term_tokens.proofs.OptionLemmas.{some_same}
 use Rattle.elixir_terms.proofs.PlaceLemmas.{blanks_shorter, leads_shorter, Meets, within, there, behind, meets}
 use Rattle.elixir_terms.proofs.PrefixLemmas.{start_sound}
 use Rattle.elixir_terms.proofs.RefuseLemmas.{Read}
 use Rattle.elixir_terms.proofs.StopLemmas.{whole_last}
-use Rattle.elixir_terms.proofs.TokenLaws.{begins_one, begins_solid, begins_shorter}
+use Rattle.term_tokens.proofs.TokenLaws.{begins_one, begins_solid, begins_shorter}
 use Rattle.elixir_terms.proofs.TrailLemmas.{Trail, trail_leads, blanks_from}
 
 -- one more token behind those that lead on

@@ -2,21 +2,22 @@
 use Rattle.std.proofs.Common.{◌≡◌, ℕ, ◌<◌, arith, length, Bool, true, false, cond, List, [], ◌∷◌, ◌++◌, Option, Some, None, refl, sym, ap, ◌∙◌, subst, append_assoc}
 use Rattle.std.specs.Prelude.{option_map}
 use Rattle.std.proofs.lemmas.List.{append-nil}
-use Rattle.elixir_terms.specs.declared.bracket.Bracket.{Bracket}
-use Rattle.elixir_terms.specs.declared.bracket.Bracket.TheVariants as bracket
+use Rattle.term_tokens.specs.declared.bracket.Bracket.{Bracket}
+use Rattle.term_tokens.specs.declared.bracket.Bracket.TheVariants as bracket
 use Rattle.elixir_terms.specs.declared.frame.Frame.{Frame}
 use Rattle.elixir_terms.specs.declared.frame.Hole.{Hole}
 use Rattle.elixir_terms.specs.declared.frame.Slot.{Slot}
 use Rattle.elixir_terms.specs.declared.frame.Slot.TheVariants as slot
 use Rattle.elixir_terms.specs.declared.state.State.{State}
 use Rattle.elixir_terms.specs.declared.state.State.TheVariants as state
-use Rattle.elixir_terms.specs.declared.term.Term.{Term}
-use Rattle.elixir_terms.specs.declared.term.Term.TheVariants as term
-use Rattle.elixir_terms.specs.declared.token.Closing.{Closing}
-use Rattle.elixir_terms.specs.declared.token.Token.{Token}
-use Rattle.elixir_terms.specs.declared.token.Token.TheVariants.{Atom, Int, Str, Words, Key, Open, Close, Comma, Arrow}
+use Rattle.term_values.specs.declared.term.Term.{Term}
+use Rattle.term_values.specs.declared.term.Term.TheVariants as term
+use Rattle.term_tokens.specs.declared.token.Closing.{Closing}
+use Rattle.term_tokens.specs.declared.token.Token.{Token}
+use Rattle.term_tokens.specs.declared.token.Token.TheVariants.{Atom, Int, Str, Words, Key, Open, Close, Comma, Arrow}
 use Rattle.elixir_terms.specs.Codes.{keys_in}
-use Rattle.elixir_terms.specs.Grammar.{IsTerm, atom, integer, string, words, brackets, Inside, nothing, element, entry, keyword, Follows, end, comma, Pair, enclosed, closing_of}
+use Rattle.term_print.specs.Grammar.{IsTerm, atom, integer, string, words, brackets, Inside, nothing, element, entry, keyword, Follows, end, comma, enclosed, closing_of, word_list}
+use Rattle.term_values.specs.Views.{Pair}
 use Rattle.elixir_terms.specs.Machine.{with_item, with_entry, with_keyword, is_closed_by, is_none, takes_key, takes_part, part_slot, empty, placed, placed_in, begun, closed, at_part, at_element, at_separator, at_arrow, step}
 use Rattle.elixir_terms.specs.Refusals.{Pairs, none as no_pair, entry as entry_pair, keyword as keyword_pair}
 use Rattle.elixir_terms.proofs.AgainLemmas.{entry_keys, keyword_keys}
@@ -199,7 +200,7 @@ begun_history : (At : List Token → ℕ → Type 0) (tok : Token) (holes : List
 begun_history At (Atom name) holes tokens h = placed_history At (term.Atom name) holes tokens (Atom name ∷ []) h atom
 begun_history At (Int n) holes tokens h = placed_history At (term.Int n) holes tokens (Int n ∷ []) h integer
 begun_history At (Str bytes) holes tokens h = placed_history At (term.Str bytes) holes tokens (Str bytes ∷ []) h string
-begun_history At (Words terms) holes tokens h = placed_history At (term.List terms) holes tokens (Words terms ∷ []) h words
+begun_history At (Words kind ws) holes tokens h = placed_history At (word_list kind ws) holes tokens (Words kind ws ∷ []) h words
 begun_history At (Open kind) holes tokens h = opened_history (InHoles At holes) kind tokens h
 begun_history At (Key name) holes tokens h = tt
 begun_history At (Close closing) holes tokens h = tt
@@ -252,7 +253,7 @@ element_history At frame holes (Key key) tokens k b = cond_history At (tokens ++
 element_history At frame holes (Atom name) tokens k b = part_history At frame holes (Atom name) tokens k b
 element_history At frame holes (Int n) tokens k b = part_history At frame holes (Int n) tokens k b
 element_history At frame holes (Str bytes) tokens k b = part_history At frame holes (Str bytes) tokens k b
-element_history At frame holes (Words terms) tokens k b = part_history At frame holes (Words terms) tokens k b
+element_history At frame holes (Words kind ws) tokens k b = part_history At frame holes (Words kind ws) tokens k b
 element_history At frame holes (Open kind) tokens k b = part_history At frame holes (Open kind) tokens k b
 element_history At frame holes Comma tokens k b = part_history At frame holes Comma tokens k b
 element_history At frame holes Arrow tokens k b = part_history At frame holes Arrow tokens k b
@@ -274,7 +275,7 @@ separator_history At frame holes (Key key) tokens b = tt
 separator_history At frame holes (Atom name) tokens b = tt
 separator_history At frame holes (Int n) tokens b = tt
 separator_history At frame holes (Str bytes) tokens b = tt
-separator_history At frame holes (Words terms) tokens b = tt
+separator_history At frame holes (Words kind ws) tokens b = tt
 separator_history At frame holes (Open kind) tokens b = tt
 separator_history At frame holes Arrow tokens b = tt
 
@@ -286,7 +287,7 @@ arrow_history At key frame holes (Key name) tokens b = tt
 arrow_history At key frame holes (Atom name) tokens b = tt
 arrow_history At key frame holes (Int n) tokens b = tt
 arrow_history At key frame holes (Str bytes) tokens b = tt
-arrow_history At key frame holes (Words terms) tokens b = tt
+arrow_history At key frame holes (Words kind ws) tokens b = tt
 arrow_history At key frame holes (Open kind) tokens b = tt
 
 step_history_all : (At : List Token → ℕ → Type 0) (s : State) (tok : Token) (tokens : List Token) → ((frame : Frame) (holes : List Hole) → s ≡ state.Element frame holes → At tokens (length holes)) → History At s tokens → NextHistory At (tokens ++ tok ∷ []) (step s tok)

@@ -1,31 +1,33 @@
 -- What the states have read is within the limits.
 use Rattle.std.proofs.Common.{◌≡◌, ℕ, suc, ◌+◌, ◌-◌, Bool, true, false, List, [], ◌∷◌, ◌++◌, map, Option, Some, None, cond, refl, sym, subst, arith}
 use Rattle.std.specs.Prelude.{option_map}
-use Rattle.elixir_terms.specs.declared.bracket.Bracket.{Bracket}
-use Rattle.elixir_terms.specs.declared.bracket.Bracket.TheVariants as bracket
+use Rattle.term_tokens.specs.declared.bracket.Bracket.{Bracket}
+use Rattle.term_tokens.specs.declared.bracket.Bracket.TheVariants as bracket
 use Rattle.elixir_terms.specs.declared.frame.Frame.{Frame}
 use Rattle.elixir_terms.specs.declared.frame.Hole.{Hole}
 use Rattle.elixir_terms.specs.declared.frame.Slot.{Slot}
 use Rattle.elixir_terms.specs.declared.frame.Slot.TheVariants as slot
 use Rattle.elixir_terms.specs.declared.state.State.{State}
 use Rattle.elixir_terms.specs.declared.state.State.TheVariants as state
-use Rattle.elixir_terms.specs.declared.term.Term.{Term}
-use Rattle.elixir_terms.specs.declared.term.Term.TheVariants as term
-use Rattle.elixir_terms.specs.declared.token.Closing.{Closing}
-use Rattle.elixir_terms.specs.declared.token.Token.{Token}
-use Rattle.elixir_terms.specs.declared.token.Token.TheVariants.{Atom, Int, Str, Words, Key, Open, Close, Comma, Arrow}
-use Rattle.elixir_terms.specs.Grammar.{Pair, pair_tuple, enclosed}
+use Rattle.term_values.specs.declared.term.Term.{Term}
+use Rattle.term_values.specs.declared.term.Term.TheVariants as term
+use Rattle.term_tokens.specs.declared.token.Closing.{Closing}
+use Rattle.term_tokens.specs.declared.token.Token.{Token}
+use Rattle.term_tokens.specs.declared.token.WordKind.{WordKind}
+use Rattle.term_tokens.specs.declared.token.WordKind.TheVariants.{Strings, Atoms}
+use Rattle.term_tokens.specs.declared.token.Token.TheVariants.{Atom, Int, Str, Words, Key, Open, Close, Comma, Arrow}
+use Rattle.term_print.specs.Grammar.{pair_tuple, enclosed, word_term, word_list}
+use Rattle.term_values.specs.Views.{Pair}
 use Rattle.elixir_terms.specs.Levels.{keyword_cost, cost_in, cost, levels, HasRoom, Enters}
-use Rattle.elixir_terms.specs.Lexing.{IsNarrow}
+use Rattle.term_tokens.specs.Lexing.{IsNarrow}
 use Rattle.elixir_terms.specs.Machine.{is_closed_by, takes_key, takes_part, part_slot, placed_in, placed, begun, closed, at_part, at_element, at_separator, at_arrow, step, KeysDiffer, BeginsWell, PartWell, ElementWell, SeparatorWell, Allows}
-use Rattle.elixir_terms.specs.Tokens.{Begins, bare_atom, atom as begins_atom, quoted_atom, integer as begins_integer, string as begins_string, words as begins_words, key as begins_key, quoted_key, opens, closes, comma as begins_comma, arrow as begins_arrow}
+use Rattle.term_tokens.specs.Tokens.{Begins, bare_atom, atom as begins_atom, quoted_atom, integer as begins_integer, string as begins_string, words as begins_words, key as begins_key, quoted_key, opens, closes, comma as begins_comma, arrow as begins_arrow}
 use Rattle.elixir_terms.specs.Within.{deepest, Fits, atom, integer, string, list, tuple, mapping, AllFit, none, more, PairsFit, no_pairs, more_pairs}
-use Rattle.elixir_terms.specs.Words.{Modified, none as plain_words, strings, atoms}
 use Rattle.elixir_terms.proofs.FitLemmas.{list_parts, all_join, pairs_join, tuples_push, pair_fits}
 
 -- what a token stands for is within the limits
 abbrev pub TokenFits : Token → Type 0
-TokenFits (Words terms) = (n : ℕ) → AllFit n terms
+TokenFits (Words kind ws) = Unit {0}
 TokenFits token = IsNarrow token
 
 strings_fit : (words : List (List ℕ)) (n : ℕ) → AllFit n (map term.Str words)
@@ -36,10 +38,9 @@ atoms_fit : (words : List (List ℕ)) (n : ℕ) → AllFit n (map term.Atom word
 atoms_fit [] n = none
 atoms_fit (w ∷ words) n = more atom (atoms_fit words n)
 
-modified_fit : {modifier : List ℕ} {words : List (List ℕ)} {terms : List Term} → Modified modifier words terms → (n : ℕ) → AllFit n terms
-modified_fit (plain_words {words = ws}) = strings_fit ws
-modified_fit (strings {words = ws}) = strings_fit ws
-modified_fit (atoms {words = ws}) = atoms_fit ws
+words_fit : (kind : WordKind) (words : List (List ℕ)) (n : ℕ) → AllFit n (map (word_term kind) words)
+words_fit Strings words = strings_fit words
+words_fit Atoms words = atoms_fit words
 
 pub token_fits : {text : List ℕ} {tok : Token} {rest : List ℕ} → Begins text tok rest → IsNarrow tok → TokenFits tok
 token_fits (bare_atom a b c d) small = small
@@ -47,7 +48,7 @@ token_fits (begins_atom a b c) small = small
 token_fits (quoted_atom a b c) small = small
 token_fits (begins_integer a b c) small = small
 token_fits (begins_string a b c) small = small
-token_fits (begins_words a b modified c d) small = modified_fit modified
+token_fits (begins_words a b modified c d) small = tt
 token_fits (begins_key blank a b c) small = small
 token_fits (quoted_key blank a b c d) small = small
 token_fits (opens a) small = small
@@ -142,9 +143,9 @@ begun_fits : (tok : Token) (holes : List Hole) (left : ℕ) → HolesFit holes l
 begun_fits (Atom name) holes left h f w = placed_fits (term.Atom name) holes left h atom
 begun_fits (Int n) holes left h f w = placed_fits (term.Int n) holes left h (integer f.0 f.1)
 begun_fits (Str bytes) holes left h f w = placed_fits (term.Str bytes) holes left h string
-begun_fits (Words terms) holes left h f w =
+begun_fits (Words kind ws) holes left h f w =
     let room = room_left holes left h w in
-    placed_fits (term.List terms) holes left h (subst (λ n. Fits n (term.List terms)) (sym room.1) (list (f room.0)))
+    placed_fits (word_list kind ws) holes left h (subst (λ n. Fits n (word_list kind ws)) (sym room.1) (list (words_fit kind ws room.0)))
 begun_fits (Open kind) holes left h f w =
     let room = room_left holes left h w in
     (left, record { below = room.0; level = room.1; items = none; entries = no_pairs; keywords = no_keywords kind room.0 }, h)
@@ -210,7 +211,7 @@ element_fits frame holes (Key name) left f h k w = cond_fits (takes_key frame) (
 element_fits frame holes (Atom name) left f h k w = part_fits frame holes (Atom name) left f h k w
 element_fits frame holes (Int n) left f h k w = part_fits frame holes (Int n) left f h k w
 element_fits frame holes (Str bytes) left f h k w = part_fits frame holes (Str bytes) left f h k w
-element_fits frame holes (Words terms) left f h k w = part_fits frame holes (Words terms) left f h k w
+element_fits frame holes (Words kind ws) left f h k w = part_fits frame holes (Words kind ws) left f h k w
 element_fits frame holes (Open kind) left f h k w = part_fits frame holes (Open kind) left f h k w
 element_fits frame holes Comma left f h k w = part_fits frame holes Comma left f h k w
 element_fits frame holes Arrow left f h k w = part_fits frame holes Arrow left f h k w
@@ -221,7 +222,7 @@ separator_fits frame holes Comma left f h w = (left, f, h)
 separator_fits frame holes (Atom name) left f h w = tt
 separator_fits frame holes (Int n) left f h w = tt
 separator_fits frame holes (Str bytes) left f h w = tt
-separator_fits frame holes (Words terms) left f h w = tt
+separator_fits frame holes (Words kind ws) left f h w = tt
 separator_fits frame holes (Key name) left f h w = tt
 separator_fits frame holes (Open kind) left f h w = tt
 separator_fits frame holes Arrow left f h w = tt
@@ -233,7 +234,7 @@ arrow_fits entry frame holes (Close closing) left f p h = tt
 arrow_fits entry frame holes (Atom name) left f p h = tt
 arrow_fits entry frame holes (Int n) left f p h = tt
 arrow_fits entry frame holes (Str bytes) left f p h = tt
-arrow_fits entry frame holes (Words terms) left f p h = tt
+arrow_fits entry frame holes (Words kind ws) left f p h = tt
 arrow_fits entry frame holes (Key name) left f p h = tt
 arrow_fits entry frame holes (Open kind) left f p h = tt
 

@@ -3,12 +3,12 @@ use Rattle.std.proofs.Common.{◌≡◌, ℕ, suc, ◌/◌, ◌%◌, ◌<◌, Li
 use Rattle.std.specs.Prelude.{ℤ, pos, negsuc}
 use Rattle.std.specs.Int.Digits.{digits_of}
 use Rattle.std.proofs.lemmas.Int.Digits.{digits_of_step, same_from_digits_of}
-use Rattle.elixir_terms.specs.declared.term.Term.{Term}
-use Rattle.elixir_terms.specs.declared.term.Term.TheOpen.{Term-F}
-use Rattle.elixir_terms.specs.declared.term.Term.TheVariants.{Map, rolls-Map}
-use Rattle.elixir_terms.specs.declared.term.Term.TheViews.{out-Term, roll-Term, roll-out-Term}
-use Rattle.elixir_terms.specs.declared.term.Term.TheFolds.{fold-roll-Term, ind-Term, map-Term}
-use Rattle.elixir_terms.specs.Grammar.{Pair}
+use Rattle.term_values.specs.declared.term.Term.{Term}
+use Rattle.term_values.specs.declared.term.Term.TheOpen.{Term-F}
+use Rattle.term_values.specs.declared.term.Term.TheVariants.{Map, rolls-Map}
+use Rattle.term_values.specs.declared.term.Term.TheViews.{out-Term, roll-Term, roll-out-Term}
+use Rattle.term_values.specs.declared.term.Term.TheFolds.{fold-roll-Term, ind-Term, map-Term}
+use Rattle.term_values.specs.Views.{Pair}
 use Rattle.elixir_terms.specs.KeyCode.{marked, bytes_code, integer_code, parts_code, pairs_code, pair_codes, code_step, term_code}
 
 pub marked-append : (a b : List ℕ) → marked (a ++ b) ≡ marked a ++ marked b

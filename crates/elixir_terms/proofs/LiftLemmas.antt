@@ -7,15 +7,15 @@ use Rattle.elixir_terms.specs.declared.frame.Slot.{Slot}
 use Rattle.elixir_terms.specs.declared.frame.Slot.TheVariants as slot
 use Rattle.elixir_terms.specs.declared.state.State.{State}
 use Rattle.elixir_terms.specs.declared.state.State.TheVariants as state
-use Rattle.elixir_terms.specs.declared.term.Term.{Term}
-use Rattle.elixir_terms.specs.declared.term.Term.TheVariants as term
-use Rattle.elixir_terms.specs.declared.token.Closing.{Closing}
-use Rattle.elixir_terms.specs.declared.token.Token.{Token}
-use Rattle.elixir_terms.specs.declared.token.Token.TheVariants.{Atom, Int, Str, Words, Key, Open, Close, Comma, Arrow}
-use Rattle.elixir_terms.specs.Grammar.{IsTerm, enclosed}
+use Rattle.term_values.specs.declared.term.Term.{Term}
+use Rattle.term_values.specs.declared.term.Term.TheVariants as term
+use Rattle.term_tokens.specs.declared.token.Closing.{Closing}
+use Rattle.term_tokens.specs.declared.token.Token.{Token}
+use Rattle.term_tokens.specs.declared.token.Token.TheVariants.{Atom, Int, Str, Words, Key, Open, Close, Comma, Arrow}
+use Rattle.term_print.specs.Grammar.{IsTerm, enclosed, word_list}
 use Rattle.elixir_terms.specs.Machine.{is_closed_by, takes_part, takes_key, part_slot, placed, placed_in, begun, closed, at_part, at_key, at_element, at_separator, at_arrow, step}
 use Rattle.elixir_terms.proofs.OpenLemmas.{runs, start}
-use Rattle.elixir_terms.proofs.OptionLemmas.{some_same}
+use Rattle.term_tokens.proofs.OptionLemmas.{some_same}
 use Rattle.elixir_terms.proofs.StopLemmas.{whole_last}
 
 -- the state with these holes outside
@@ -40,7 +40,7 @@ begun_lifted : (outer : List Hole) (tok : Token) (holes : List Hole) → option_
 begun_lifted outer (Atom name) holes = ap Some (placed_lifted outer (term.Atom name) holes)
 begun_lifted outer (Int n) holes = ap Some (placed_lifted outer (term.Int n) holes)
 begun_lifted outer (Str bytes) holes = ap Some (placed_lifted outer (term.Str bytes) holes)
-begun_lifted outer (Words terms) holes = ap Some (placed_lifted outer (term.List terms) holes)
+begun_lifted outer (Words kind ws) holes = ap Some (placed_lifted outer (word_list kind ws) holes)
 begun_lifted outer (Open kind) holes = refl
 begun_lifted outer (Key name) holes = refl
 begun_lifted outer (Close closing) holes = refl
@@ -75,7 +75,7 @@ element_lifted outer frame holes (Key key) = key_lifted outer frame holes key
 element_lifted outer frame holes (Atom name) = part_lifted outer frame holes (Atom name)
 element_lifted outer frame holes (Int n) = part_lifted outer frame holes (Int n)
 element_lifted outer frame holes (Str bytes) = part_lifted outer frame holes (Str bytes)
-element_lifted outer frame holes (Words terms) = part_lifted outer frame holes (Words terms)
+element_lifted outer frame holes (Words kind ws) = part_lifted outer frame holes (Words kind ws)
 element_lifted outer frame holes (Open kind) = part_lifted outer frame holes (Open kind)
 element_lifted outer frame holes Comma = part_lifted outer frame holes Comma
 element_lifted outer frame holes Arrow = part_lifted outer frame holes Arrow
@@ -87,7 +87,7 @@ separator_lifted outer frame holes (Key key) = refl
 separator_lifted outer frame holes (Atom name) = refl
 separator_lifted outer frame holes (Int n) = refl
 separator_lifted outer frame holes (Str bytes) = refl
-separator_lifted outer frame holes (Words terms) = refl
+separator_lifted outer frame holes (Words kind ws) = refl
 separator_lifted outer frame holes (Open kind) = refl
 separator_lifted outer frame holes Arrow = refl
 
@@ -99,7 +99,7 @@ arrow_lifted outer key frame holes (Key name) = refl
 arrow_lifted outer key frame holes (Atom name) = refl
 arrow_lifted outer key frame holes (Int n) = refl
 arrow_lifted outer key frame holes (Str bytes) = refl
-arrow_lifted outer key frame holes (Words terms) = refl
+arrow_lifted outer key frame holes (Words kind ws) = refl
 arrow_lifted outer key frame holes (Open kind) = refl
 
 -- a token is taken inside as alone

@@ -1,18 +1,19 @@
 -- A state that wants the rest of a term within the limits takes the next token within the limits.
-use Rattle.std.proofs.Common.{◌≡◌, ℕ, ◌+◌, List, [], ◌∷◌, ◌++◌, Some, sym, subst, arith, append_assoc}
+use Rattle.std.proofs.Common.{◌≡◌, ℕ, ◌+◌, List, [], ◌∷◌, ◌++◌, map, Some, sym, subst, arith, append_assoc}
 use Rattle.elixir_terms.specs.declared.frame.Frame.{Frame}
 use Rattle.elixir_terms.specs.declared.frame.Hole.{Hole}
 use Rattle.elixir_terms.specs.declared.frame.Slot.{Slot}
 use Rattle.elixir_terms.specs.declared.frame.Slot.TheVariants as slot
 use Rattle.elixir_terms.specs.declared.state.State.{State}
 use Rattle.elixir_terms.specs.declared.state.State.TheVariants as state
-use Rattle.elixir_terms.specs.declared.term.Term.{Term}
-use Rattle.elixir_terms.specs.declared.term.Term.TheVariants as term
-use Rattle.elixir_terms.specs.declared.token.Token.{Token}
-use Rattle.elixir_terms.specs.declared.token.Token.TheVariants.{Atom, Int, Str, Words, Open, Arrow}
-use Rattle.elixir_terms.specs.Grammar.{IsTerm, atom, integer, string, words, brackets, Pair, enclosed}
+use Rattle.term_values.specs.declared.term.Term.{Term}
+use Rattle.term_values.specs.declared.term.Term.TheVariants as term
+use Rattle.term_tokens.specs.declared.token.Token.{Token}
+use Rattle.term_tokens.specs.declared.token.Token.TheVariants.{Atom, Int, Str, Words, Open, Arrow}
+use Rattle.term_print.specs.Grammar.{IsTerm, atom, integer, string, words, brackets, enclosed, word_term}
+use Rattle.term_values.specs.Views.{Pair}
 use Rattle.elixir_terms.specs.Levels.{levels, HasRoom, Enters}
-use Rattle.elixir_terms.specs.Lexing.{IsNarrow}
+use Rattle.term_tokens.specs.Lexing.{IsNarrow}
 use Rattle.elixir_terms.specs.Machine.{part_slot, BeginsWell, PartWell, ElementWell, Allows}
 use Rattle.elixir_terms.specs.Within.{deepest, Fits}
 use Rattle.elixir_terms.proofs.Meaning.{Values, FilledIn, AfterEntry, Filled, Wants}
@@ -77,9 +78,9 @@ begins_well : (tok : Token) (tokens : List Token) {word : List Token} (rest : Li
 begins_well tok tokens rest holes (atom {name = name}) e f = let e1 : tok ≡ Atom name = cc in rw e1 (record { well = tt; small = tt })
 begins_well tok tokens rest holes (integer {n = n}) e f = let e1 : tok ≡ Int n = cc in rw e1 (record { well = tt; small = integer_range f.left n f.fits })
 begins_well tok tokens rest holes (string {bytes = bytes}) e f = let e1 : tok ≡ Str bytes = cc in rw e1 (record { well = tt; small = tt })
-begins_well tok tokens rest holes (words {terms = terms}) e f =
-    let e1 : tok ≡ Words terms = cc in
-    let deep = (list_parts f.left terms f.fits).1 in
+begins_well tok tokens rest holes (words {kind = kind} {words = ws}) e f =
+    let e1 : tok ≡ Words kind ws = cc in
+    let deep = (list_parts f.left (map (word_term kind) ws) f.fits).1 in
     let all = f.all in
     let room : HasRoom holes = omega arith in
     rw e1 (record { well = room; small = tt })
@@ -95,7 +96,7 @@ plain_well : (tok : Token) (tokens : List Token) {word : List Token} (rest : Lis
 plain_well tok tokens rest frame holes (atom {name = name}) e w = let e1 : tok ≡ Atom name = cc in rw e1 (rw e1 at w)
 plain_well tok tokens rest frame holes (integer {n = n}) e w = let e1 : tok ≡ Int n = cc in rw e1 (rw e1 at w)
 plain_well tok tokens rest frame holes (string {bytes = bytes}) e w = let e1 : tok ≡ Str bytes = cc in rw e1 (rw e1 at w)
-plain_well tok tokens rest frame holes (words {terms = terms}) e w = let e1 : tok ≡ Words terms = cc in rw e1 (rw e1 at w)
+plain_well tok tokens rest frame holes (words {kind = kind} {words = ws}) e w = let e1 : tok ≡ Words kind ws = cc in rw e1 (rw e1 at w)
 plain_well tok tokens rest frame holes (brackets {kind = kind} {inside = inside} reads encloses) e w = let e1 : tok ≡ Open kind = cc in rw e1 (rw e1 at w)
 
 -- what is within the limits in a state

@@ -6,11 +6,12 @@ use Rattle.elixir_terms.specs.declared.frame.Slot.{Slot}
 use Rattle.elixir_terms.specs.declared.frame.Slot.TheVariants as slot
 use Rattle.elixir_terms.specs.declared.state.State.{State}
 use Rattle.elixir_terms.specs.declared.state.State.TheVariants as state
-use Rattle.elixir_terms.specs.declared.term.Term.{Term}
-use Rattle.elixir_terms.specs.declared.term.Term.TheVariants as term
-use Rattle.elixir_terms.specs.declared.token.Token.{Token}
-use Rattle.elixir_terms.specs.declared.token.Token.TheVariants.{Close, Arrow}
-use Rattle.elixir_terms.specs.Grammar.{IsTerm, Inside, Follows, Pair, enclosed, closing_of}
+use Rattle.term_values.specs.declared.term.Term.{Term}
+use Rattle.term_values.specs.declared.term.Term.TheVariants as term
+use Rattle.term_tokens.specs.declared.token.Token.{Token}
+use Rattle.term_tokens.specs.declared.token.Token.TheVariants.{Close, Arrow}
+use Rattle.term_print.specs.Grammar.{IsTerm, Inside, Follows, enclosed, closing_of}
+use Rattle.term_values.specs.Views.{Pair}
 
 -- after a keyword no element and no entry follows
 abbrev pub InOrder : List Pair → List Term → List Pair → Type 0

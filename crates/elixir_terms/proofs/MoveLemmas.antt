@@ -3,18 +3,18 @@ use Rattle.std.specs.Prelude.{IsTrue, IsFalse, ◌↔◌}
 use Rattle.std.proofs.Common.{◌≡◌, ℕ, ◌+◌, Bool, true, List, [], None, eqb, length, sym, ap, ◌∙◌, subst, arith}
 use Rattle.std.proofs.lemmas.Bool.{true≢false, eqb-true, eqb-false}
 use Rattle.std.proofs.lemmas.List.{nil_from_length}
-use Rattle.elixir_terms.specs.declared.error.TermCause.{TermCause}
-use Rattle.elixir_terms.specs.declared.error.TermCause.TheVariants.{TooDeep}
-use Rattle.elixir_terms.specs.declared.expected.Expected.{Expected}
+use Rattle.term_tokens.specs.declared.cause.TermCause.{TermCause}
+use Rattle.term_tokens.specs.declared.cause.TermCause.TheVariants.{TooDeep}
+use Rattle.term_tokens.specs.declared.expected.Expected.{Expected}
 use Rattle.elixir_terms.specs.declared.state.State.{State}
 use Rattle.elixir_terms.specs.declared.state.State.TheVariants.{Done}
-use Rattle.elixir_terms.specs.declared.term.Term.{Term}
-use Rattle.elixir_terms.specs.declared.token.Token.{Token}
-use Rattle.elixir_terms.specs.Lexing.{IsNarrow}
-use Rattle.elixir_terms.specs.Local.{IsFree, IsFirst, Locally, takes}
+use Rattle.term_values.specs.declared.term.Term.{Term}
+use Rattle.term_tokens.specs.declared.token.Token.{Token}
+use Rattle.term_tokens.specs.Lexing.{IsNarrow}
+use Rattle.term_tokens.specs.Local.{IsFree, IsFirst, Locally, takes}
 use Rattle.elixir_terms.specs.Machine.{step, expected, HasLevels}
 use Rattle.elixir_terms.specs.Reading.{HasRoomAt, Stands, Stops, lexed, deep}
-use Rattle.elixir_terms.specs.Tokens.{Begins}
+use Rattle.term_tokens.specs.Tokens.{Begins}
 
 pub empty_is : (rest : List ℕ) (empty : Bool) → empty ≡ eqb (length rest) 0 → empty ≡ true → rest ≡ []
 empty_is rest empty e h = nil_from_length rest (eqb-true (length rest) 0 (sym e ∙ h))

@@ -1,23 +1,23 @@
 -- Tokens that may be gone on with are those that the states run through.
 use Rattle.std.proofs.Common.{◌≡◌, Bool, true, false, List, [], ◌∷◌, ◌++◌, Option, Some, None, cond, refl, sym, ap, ◌∙◌, subst}
 use Rattle.std.specs.Prelude.{option_and_then, option_map, pos}
-use Rattle.elixir_terms.specs.declared.bracket.Bracket.{Bracket}
-use Rattle.elixir_terms.specs.declared.bracket.Bracket.TheVariants as bracket
+use Rattle.term_tokens.specs.declared.bracket.Bracket.{Bracket}
+use Rattle.term_tokens.specs.declared.bracket.Bracket.TheVariants as bracket
 use Rattle.elixir_terms.specs.declared.frame.Frame.{Frame}
 use Rattle.elixir_terms.specs.declared.frame.Hole.{Hole}
 use Rattle.elixir_terms.specs.declared.state.State.{State}
 use Rattle.elixir_terms.specs.declared.state.State.TheVariants as state
-use Rattle.elixir_terms.specs.declared.term.Term.{Term}
-use Rattle.elixir_terms.specs.declared.token.Closing.{Closing}
-use Rattle.elixir_terms.specs.declared.token.Closing.TheVariants.{Square, Curly}
-use Rattle.elixir_terms.specs.declared.token.Token.{Token}
-use Rattle.elixir_terms.specs.declared.token.Token.TheVariants.{Atom, Int, Str, Words, Key, Open, Close, Comma, Arrow}
-use Rattle.elixir_terms.specs.Grammar.{enclosed, closing_of}
-use Rattle.elixir_terms.specs.Local.{takes, is_closing}
+use Rattle.term_values.specs.declared.term.Term.{Term}
+use Rattle.term_tokens.specs.declared.token.Closing.{Closing}
+use Rattle.term_tokens.specs.declared.token.Closing.TheVariants.{Square, Curly}
+use Rattle.term_tokens.specs.declared.token.Token.{Token}
+use Rattle.term_tokens.specs.declared.token.Token.TheVariants.{Atom, Int, Str, Words, Key, Open, Close, Comma, Arrow}
+use Rattle.term_print.specs.Grammar.{enclosed, closing_of}
+use Rattle.term_tokens.specs.Local.{takes, is_closing}
 use Rattle.elixir_terms.specs.Machine.{is_closed_by, takes_key, takes_part, part_slot, placed, begun, closed, at_part, at_element, step, expected}
 use Rattle.elixir_terms.specs.Prefixes.{AreOpen, TakesTerm, TakesKey}
 use Rattle.elixir_terms.proofs.Meaning.{Wants, WantsNext}
-use Rattle.elixir_terms.proofs.OptionLemmas.{some_same}
+use Rattle.term_tokens.proofs.OptionLemmas.{some_same}
 use Rattle.elixir_terms.proofs.Runs.{wants_first, first_wants}
 use Rattle.elixir_terms.proofs.StepForth.{step_forth}
 use Rattle.elixir_terms.proofs.StepBack.{step_back}
@@ -125,7 +125,7 @@ element_taken frame holes (Key key) next e = (cond_test (takes_key frame) _ next
 element_taken frame holes (Atom name) next e = part_taken frame holes (Atom name) next e
 element_taken frame holes (Int n) next e = part_taken frame holes (Int n) next e
 element_taken frame holes (Str bytes) next e = part_taken frame holes (Str bytes) next e
-element_taken frame holes (Words terms) next e = part_taken frame holes (Words terms) next e
+element_taken frame holes (Words kind ws) next e = part_taken frame holes (Words kind ws) next e
 element_taken frame holes (Open kind) next e = part_taken frame holes (Open kind) next e
 element_taken frame holes Comma next e = absurd (no_begun frame None next refl e)
 element_taken frame holes Arrow next e = absurd (no_begun frame None next refl e)
@@ -135,7 +135,7 @@ pub step_taken : (s : State) (tok : Token) (next : State) → step s tok ≡ Som
 step_taken (state.Value holes) (Atom name) next e = refl
 step_taken (state.Value holes) (Int n) next e = refl
 step_taken (state.Value holes) (Str bytes) next e = refl
-step_taken (state.Value holes) (Words terms) next e = refl
+step_taken (state.Value holes) (Words kind ws) next e = refl
 step_taken (state.Value holes) (Open kind) next e = refl
 step_taken (state.Value holes) (Key key) next e = absurd (cc)
 step_taken (state.Value holes) (Close closing) next e = absurd (cc)
@@ -147,7 +147,7 @@ step_taken (state.Separator frame holes) (Close closing) next e = close_taken fr
 step_taken (state.Separator frame holes) (Atom name) next e = absurd (cc)
 step_taken (state.Separator frame holes) (Int n) next e = absurd (cc)
 step_taken (state.Separator frame holes) (Str bytes) next e = absurd (cc)
-step_taken (state.Separator frame holes) (Words terms) next e = absurd (cc)
+step_taken (state.Separator frame holes) (Words kind ws) next e = absurd (cc)
 step_taken (state.Separator frame holes) (Open kind) next e = absurd (cc)
 step_taken (state.Separator frame holes) (Key key) next e = absurd (cc)
 step_taken (state.Separator frame holes) Arrow next e = absurd (cc)
@@ -155,7 +155,7 @@ step_taken (state.Arrow key frame holes) Arrow next e = refl
 step_taken (state.Arrow key frame holes) (Atom name) next e = absurd (cc)
 step_taken (state.Arrow key frame holes) (Int n) next e = absurd (cc)
 step_taken (state.Arrow key frame holes) (Str bytes) next e = absurd (cc)
-step_taken (state.Arrow key frame holes) (Words terms) next e = absurd (cc)
+step_taken (state.Arrow key frame holes) (Words kind ws) next e = absurd (cc)
 step_taken (state.Arrow key frame holes) (Open kind) next e = absurd (cc)
 step_taken (state.Arrow key frame holes) (Key name) next e = absurd (cc)
 step_taken (state.Arrow key frame holes) (Close closing) next e = absurd (cc)

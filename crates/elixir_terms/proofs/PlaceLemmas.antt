@@ -2,16 +2,16 @@
 use Rattle.std.proofs.Common.{◌≡◌, ℕ, ◌+◌, ◌≤◌, Bool, true, false, eqb, cond, List, [], ◌∷◌, ◌++◌, Some, None, length, refl, sym, ap, ◌∙◌, subst, arith}
 use Rattle.std.specs.Prelude.{option_and_then}
 use Rattle.elixir_terms.specs.declared.state.State.{State}
-use Rattle.elixir_terms.specs.declared.token.Token.{Token}
-use Rattle.elixir_terms.specs.Lexing.{past_blank}
+use Rattle.term_tokens.specs.declared.token.Token.{Token}
+use Rattle.term_tokens.specs.Lexing.{past_blank}
 use Rattle.elixir_terms.specs.Machine.{step}
 use Rattle.elixir_terms.specs.Prefixes.{Leads, none as no_token, token as one_token}
-use Rattle.elixir_terms.specs.Tokens.{Begins, Blanks, none, blank, comment, line_end}
+use Rattle.term_tokens.specs.Tokens.{Begins, Blanks, none, blank, comment, line_end}
 use Rattle.elixir_terms.specs.Within.{deepest}
-use Rattle.elixir_terms.proofs.BlankLemmas.{blanks_meet}
+use Rattle.term_tokens.proofs.BlankLemmas.{blanks_meet}
 use Rattle.elixir_terms.proofs.OpenLemmas.{runs}
 use Rattle.elixir_terms.proofs.PrefixLemmas.{AllSound, next_sound, token_shallow}
-use Rattle.elixir_terms.proofs.TokenLaws.{begins_one, begins_solid, begins_shorter}
+use Rattle.term_tokens.proofs.TokenLaws.{begins_one, begins_solid, begins_shorter}
 use Rattle.elixir_terms.proofs.TrailLemmas.{Stood, Trail, rests, steps}
 
 line_shorter : (text : List ℕ) → length (line_end text) ≤ length text

@@ -3,30 +3,32 @@ use Rattle.std.specs.Prelude.{IsTrue, IsFalse}
 use Rattle.std.proofs.Common.{◌≡◌, ℕ, ◌+◌, ◌≤◌, ◌⊎◌, Bool, true, false, ◌&&◌, cond, List, [], ◌∷◌, ◌++◌, Some, None, refl, sym, ap, ◌∙◌, subst, arith, append_assoc, ⊎_elim, map}
 use Rattle.std.proofs.lemmas.List.{append-nil}
 use Rattle.std.proofs.lemmas.Bool.{eqb-true}
-use Rattle.elixir_terms.specs.declared.bracket.Bracket.{Bracket}
-use Rattle.elixir_terms.specs.declared.bracket.Bracket.TheVariants as bracket
+use Rattle.term_tokens.specs.declared.bracket.Bracket.{Bracket}
+use Rattle.term_tokens.specs.declared.bracket.Bracket.TheVariants as bracket
 use Rattle.elixir_terms.specs.declared.frame.Frame.{Frame}
 use Rattle.elixir_terms.specs.declared.frame.Hole.{Hole}
 use Rattle.elixir_terms.specs.declared.frame.Slot.TheVariants as slot
 use Rattle.elixir_terms.specs.declared.state.State.{State}
 use Rattle.elixir_terms.specs.declared.state.State.TheVariants as state
-use Rattle.elixir_terms.specs.declared.term.Term.{Term}
-use Rattle.elixir_terms.specs.declared.term.Term.TheVariants as term
-use Rattle.elixir_terms.specs.declared.token.Closing.{Closing}
-use Rattle.elixir_terms.specs.declared.token.Closing.TheVariants.{Square, Curly}
-use Rattle.elixir_terms.specs.declared.token.Token.{Token}
-use Rattle.elixir_terms.specs.declared.token.Token.TheVariants.{Atom, Int, Str, Words, Key, Open, Close, Comma, Arrow}
-use Rattle.elixir_terms.specs.Grammar.{closing_of}
+use Rattle.term_values.specs.declared.term.Term.{Term}
+use Rattle.term_values.specs.declared.term.Term.TheVariants as term
+use Rattle.term_tokens.specs.declared.token.Closing.{Closing}
+use Rattle.term_tokens.specs.declared.token.Closing.TheVariants.{Square, Curly}
+use Rattle.term_tokens.specs.declared.token.Token.{Token}
+use Rattle.term_tokens.specs.declared.token.WordKind.{WordKind}
+use Rattle.term_tokens.specs.declared.token.WordKind.TheVariants.{Strings, Atoms}
+use Rattle.term_tokens.specs.declared.token.Token.TheVariants.{Atom, Int, Str, Words, Key, Open, Close, Comma, Arrow}
+use Rattle.term_print.specs.Grammar.{closing_of, word_term, word_list}
 use Rattle.elixir_terms.specs.Levels.{keyword_cost, cost_in, levels}
-use Rattle.elixir_terms.specs.Local.{is_plain, IsFree, is_closing, takes, IsPart}
+use Rattle.term_tokens.specs.Local.{is_plain, IsFree, is_closing, takes, IsPart}
 use Rattle.elixir_terms.specs.Machine.{is_closed_by, takes_part, part_slot, placed, closed, step, expected}
 use Rattle.elixir_terms.specs.Prefixes.{AreOpen, IsOpenText}
 use Rattle.elixir_terms.specs.Refusals.{atom as shallow_atom, string as shallow_string, AreShallow, none as none_shallow, more as more_shallow}
-use Rattle.elixir_terms.specs.Tokens.{Begins, bare_atom, atom, quoted_atom, integer, string, words, key, quoted_key, opens, closes, comma, arrow, none, AreTokens}
+use Rattle.term_tokens.specs.Tokens.{Begins, bare_atom, atom, quoted_atom, integer, string, words, key, quoted_key, opens, closes, comma, arrow, none, AreTokens}
 use Rattle.elixir_terms.specs.Within.{deepest}
-use Rattle.elixir_terms.specs.Words.{Modified, none as plain_words, strings, atoms}
+use Rattle.term_tokens.specs.Words.{Modified, none as plain_words, strings, atoms}
 use Rattle.elixir_terms.proofs.EndLemmas.{is_apart, state_ends}
-use Rattle.elixir_terms.proofs.FollowLemmas.{Like, ended, broken, moves}
+use Rattle.term_tokens.proofs.FollowLemmas.{Like, ended, broken, moves}
 use Rattle.elixir_terms.proofs.Meaning.{WantsNext}
 use Rattle.elixir_terms.proofs.StepBack.{step_back}
 use Rattle.elixir_terms.proofs.OpenLemmas.{runs, start, runs_push, runs_open}
@@ -47,10 +49,9 @@ atoms_shallow : (ws : List (List ℕ)) (n : ℕ) → AreShallow n (map term.Atom
 atoms_shallow [] n = none_shallow
 atoms_shallow (w ∷ ws) n = more_shallow shallow_atom (atoms_shallow ws n)
 
-modified_shallow : {modifier : List ℕ} {ws : List (List ℕ)} {terms : List Term} → Modified modifier ws terms → (n : ℕ) → AreShallow n terms
-modified_shallow (plain_words {words = ws}) = strings_shallow ws
-modified_shallow (strings {words = ws}) = strings_shallow ws
-modified_shallow (atoms {words = ws}) = atoms_shallow ws
+words_shallow : (kind : WordKind) (ws : List (List ℕ)) (n : ℕ) → AreShallow n (map (word_term kind) ws)
+words_shallow Strings ws = strings_shallow ws
+words_shallow Atoms ws = atoms_shallow ws
 
 pub token_shallow : {text : List ℕ} {tok : Token} {rest : List ℕ} → Begins text tok rest → TokenShallow tok
 token_shallow (bare_atom a b c d) = tt
@@ -58,7 +59,7 @@ token_shallow (atom a b c) = tt
 token_shallow (quoted_atom a b c) = tt
 token_shallow (integer a b c) = tt
 token_shallow (string a b c) = tt
-token_shallow (words a b modified c d) = modified_shallow modified
+token_shallow (words {words = ws} {kind = kind} a b modified c d) = words_shallow kind ws
 token_shallow (key white a b c) = tt
 token_shallow (quoted_key white a b c d) = tt
 token_shallow (opens a) = tt
@@ -100,7 +101,7 @@ pub takes_steps : (all : ℕ) (s : State) (tok : Token) → StateSound all s →
 takes_steps all (state.Value holes) (Atom name) h e = (placed (term.Atom name) holes, refl)
 takes_steps all (state.Value holes) (Int n) h e = (placed (term.Int n) holes, refl)
 takes_steps all (state.Value holes) (Str bytes) h e = (placed (term.Str bytes) holes, refl)
-takes_steps all (state.Value holes) (Words terms) h e = (placed (term.List terms) holes, refl)
+takes_steps all (state.Value holes) (Words kind ws) h e = (placed (word_list kind ws) holes, refl)
 takes_steps all (state.Value holes) (Open kind) h e = (_, refl)
 takes_steps all (state.Value holes) (Key name) h e = absurd (cc)
 takes_steps all (state.Value holes) (Close closing) h e = absurd (cc)
@@ -109,7 +110,7 @@ takes_steps all (state.Value holes) Arrow h e = absurd (cc)
 takes_steps all (state.Element frame holes) (Atom name) h e = part_steps frame (placed (term.Atom name) (record { frame = frame; slot = part_slot frame.bracket } ∷ holes)) e
 takes_steps all (state.Element frame holes) (Int n) h e = part_steps frame (placed (term.Int n) (record { frame = frame; slot = part_slot frame.bracket } ∷ holes)) e
 takes_steps all (state.Element frame holes) (Str bytes) h e = part_steps frame (placed (term.Str bytes) (record { frame = frame; slot = part_slot frame.bracket } ∷ holes)) e
-takes_steps all (state.Element frame holes) (Words terms) h e = part_steps frame (placed (term.List terms) (record { frame = frame; slot = part_slot frame.bracket } ∷ holes)) e
+takes_steps all (state.Element frame holes) (Words kind ws) h e = part_steps frame (placed (word_list kind ws) (record { frame = frame; slot = part_slot frame.bracket } ∷ holes)) e
 takes_steps all (state.Element frame holes) (Open kind) h e = part_steps frame _ e
 takes_steps all (state.Element frame holes) (Key name) h e = (state.Value (record { frame = frame; slot = slot.Keyword name } ∷ holes), rw e refl)
 takes_steps all (state.Element frame holes) (Close closing) h e = close_steps h.0 frame closing holes h.2 e
@@ -120,7 +121,7 @@ takes_steps all (state.Separator frame holes) (Close closing) h e = close_steps 
 takes_steps all (state.Separator frame holes) (Atom name) h e = absurd (cc)
 takes_steps all (state.Separator frame holes) (Int n) h e = absurd (cc)
 takes_steps all (state.Separator frame holes) (Str bytes) h e = absurd (cc)
-takes_steps all (state.Separator frame holes) (Words terms) h e = absurd (cc)
+takes_steps all (state.Separator frame holes) (Words kind ws) h e = absurd (cc)
 takes_steps all (state.Separator frame holes) (Key name) h e = absurd (cc)
 takes_steps all (state.Separator frame holes) (Open kind) h e = absurd (cc)
 takes_steps all (state.Separator frame holes) Arrow h e = absurd (cc)
@@ -130,13 +131,13 @@ takes_steps all (state.Arrow entry frame holes) (Close closing) h e = absurd (cc
 takes_steps all (state.Arrow entry frame holes) (Atom name) h e = absurd (cc)
 takes_steps all (state.Arrow entry frame holes) (Int n) h e = absurd (cc)
 takes_steps all (state.Arrow entry frame holes) (Str bytes) h e = absurd (cc)
-takes_steps all (state.Arrow entry frame holes) (Words terms) h e = absurd (cc)
+takes_steps all (state.Arrow entry frame holes) (Words kind ws) h e = absurd (cc)
 takes_steps all (state.Arrow entry frame holes) (Key name) h e = absurd (cc)
 takes_steps all (state.Arrow entry frame holes) (Open kind) h e = absurd (cc)
 takes_steps all (state.Done t) (Atom name) h e = absurd (cc)
 takes_steps all (state.Done t) (Int n) h e = absurd (cc)
 takes_steps all (state.Done t) (Str bytes) h e = absurd (cc)
-takes_steps all (state.Done t) (Words terms) h e = absurd (cc)
+takes_steps all (state.Done t) (Words kind ws) h e = absurd (cc)
 takes_steps all (state.Done t) (Key name) h e = absurd (cc)
 takes_steps all (state.Done t) (Open kind) h e = absurd (cc)
 takes_steps all (state.Done t) (Close closing) h e = absurd (cc)
@@ -159,7 +160,7 @@ value_few : (all : ℕ) (holes : List Hole) (tok : Token) → levels holes ≤ a
 value_few all holes (Atom name) h = omega arith
 value_few all holes (Int n) h = omega arith
 value_few all holes (Str bytes) h = omega arith
-value_few all holes (Words terms) h = omega arith
+value_few all holes (Words kind ws) h = omega arith
 value_few all holes (Open kind) h = omega arith
 value_few all holes (Key name) h = omega arith
 value_few all holes (Close closing) h = omega arith
@@ -168,7 +169,7 @@ value_few all holes Arrow h = omega arith
 
 element_few : (all : ℕ) (frame : Frame) (holes : List Hole) (tok : Token) → levels holes ≤ all → need (state.Element frame holes) tok ≤ 3 + all
 element_few all frame holes (Key name) h = let few = few_cost frame.bracket in omega arith
-element_few all frame holes (Words terms) h = let one = one_cost frame.bracket in omega arith
+element_few all frame holes (Words kind ws) h = let one = one_cost frame.bracket in omega arith
 element_few all frame holes (Open kind) h = let one = one_cost frame.bracket in omega arith
 element_few all frame holes (Atom name) h = omega arith
 element_few all frame holes (Int n) h = omega arith

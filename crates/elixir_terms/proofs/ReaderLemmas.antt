@@ -6,34 +6,35 @@ use Rattle.std.proofs.lemmas.Bool.{cases_lt}
 use Rattle.std.proofs.Math.Nat.{eq-or-lt_of_le}
 use Rattle.std.proofs.Math.ListN.{set}
 use Rattle.std.proofs.lemmas.List.{get_or_read, get_or-set_same, get_or-set_other, length-set}
-use Rattle.elixir_terms.specs.declared.bracket.Bracket.{Bracket}
+use Rattle.term_tokens.specs.declared.bracket.Bracket.{Bracket}
 use Rattle.std.proofs.lemmas.List.{append-nil, length-append}
-use Rattle.elixir_terms.specs.declared.bracket.Bracket.TheVariants as bracket
-use Rattle.elixir_terms.specs.declared.error.TermCause.{TermCause}
-use Rattle.elixir_terms.specs.declared.error.TermCause.TheVariants as cause
+use Rattle.term_tokens.specs.declared.bracket.Bracket.TheVariants as bracket
+use Rattle.term_tokens.specs.declared.cause.TermCause.{TermCause}
+use Rattle.term_tokens.specs.declared.cause.TermCause.TheVariants as cause
 use Rattle.elixir_terms.specs.declared.frame.Frame.{Frame}
 use Rattle.elixir_terms.specs.declared.frame.Hole.{Hole}
 use Rattle.elixir_terms.specs.declared.frame.Slot.{Slot}
 use Rattle.elixir_terms.specs.declared.frame.Slot.TheVariants as slot
 use Rattle.elixir_terms.specs.declared.state.State.{State}
 use Rattle.elixir_terms.specs.declared.state.State.TheVariants as state
-use Rattle.elixir_terms.specs.declared.token.Closing.{Closing}
-use Rattle.elixir_terms.specs.declared.term.Term.{Term}
-use Rattle.elixir_terms.specs.declared.term.Term.TheVariants as term
-use Rattle.elixir_terms.specs.declared.token.Token.{Token}
-use Rattle.elixir_terms.specs.declared.token.Token.TheVariants.{Atom, Int, Str, Words, Key, Open, Close, Comma, Arrow}
-use Rattle.elixir_terms.specs.Grammar.{enclosed, IsTerm}
-use Rattle.elixir_terms.specs.Lexing.{past_blank}
-use Rattle.elixir_terms.specs.Local.{takes}
+use Rattle.term_tokens.specs.declared.token.Closing.{Closing}
+use Rattle.term_values.specs.declared.term.Term.{Term}
+use Rattle.term_values.specs.declared.term.Term.TheVariants as term
+use Rattle.term_tokens.specs.declared.token.Token.{Token}
+use Rattle.term_tokens.specs.declared.token.WordKind.TheVariants.{Strings}
+use Rattle.term_tokens.specs.declared.token.Token.TheVariants.{Atom, Int, Str, Words, Key, Open, Close, Comma, Arrow}
+use Rattle.term_print.specs.Grammar.{enclosed, IsTerm}
+use Rattle.term_tokens.specs.Lexing.{past_blank}
+use Rattle.term_tokens.specs.Local.{takes}
 use Rattle.elixir_terms.specs.Codes.{keys_in}
 use Rattle.elixir_terms.specs.Levels.{levels}
 use Rattle.elixir_terms.specs.Reading.{noted, Stands, Moves, Stops, trailing, lexed, deep, deep_words, again as again_key}
-use Rattle.elixir_terms.specs.Spells.{Spells}
+use Rattle.term_print.specs.Spells.{Spells}
 use Rattle.elixir_terms.specs.Machine.{depth, NewIn, NewInSlot, NewKeyword, NewEntry, IsNew, HasLevels, ElementFits, BeginsWell, takes_part, part_slot, placed, placed_in, begun, closed, is_closed_by, takes_key, step, expected}
 use Rattle.elixir_terms.specs.Prefixes.{AreOpen, Leads, StandsAt}
 use Rattle.elixir_terms.specs.Refusals.{AreTooDeep, Pairs, KeyAhead, IsOneOf, Holds}
 use Rattle.elixir_terms.specs.Refusals as far
-use Rattle.elixir_terms.specs.Tokens.{Begins, Blanks, none}
+use Rattle.term_tokens.specs.Tokens.{Begins, Blanks, none}
 use Rattle.elixir_terms.specs.Within.{deepest, longest, Within}
 use Rattle.elixir_terms.proofs.AgainLemmas.{term_first, ahead_solid, start_good, trail_good, wants_new, Held, Again, held, starts, later, again}
 use Rattle.elixir_terms.proofs.SnagLemmas.{NotDone}
@@ -47,7 +48,7 @@ use Rattle.elixir_terms.proofs.RefuseLemmas.{Read, token_stop, stands_of, fault_
 use Rattle.elixir_terms.proofs.EntryLemmas.{leads_later, splits, inside_deeper, Found, entry_found}
 use Rattle.elixir_terms.proofs.Meaning.{Wants}
 use Rattle.elixir_terms.proofs.OpenLemmas.{runs, start, runs_append, passes, runs_push, passed_back, cond_test}
-use Rattle.elixir_terms.proofs.OptionLemmas.{none_some, some_same}
+use Rattle.term_tokens.proofs.OptionLemmas.{none_some, some_same}
 use Rattle.elixir_terms.proofs.PlaceLemmas.{leads_shorter}
 use Rattle.elixir_terms.proofs.PrefixLemmas.{sound_open, AllSound, start_sound, trail_sound, next_sound, token_shallow, takes_steps, step_open}
 use Rattle.elixir_terms.proofs.Runs.{wants_first, first_wants}
@@ -55,13 +56,13 @@ use Rattle.elixir_terms.proofs.ShutLemmas.{is_single, IsPlaced, single_placed, t
 use Rattle.elixir_terms.proofs.SoundLemmas.{begin_need, element_need, need}
 use Rattle.elixir_terms.proofs.StartLemmas.{started_shallow, started_like, small_not_deep}
 use Rattle.elixir_terms.proofs.StopLemmas.{Beyond, Stop, Repeats, stop_beyond, early_beyond}
-use Rattle.elixir_terms.proofs.TokenLaws.{begins_one, begins_shorter}
+use Rattle.term_tokens.proofs.TokenLaws.{begins_one, begins_shorter}
 use Rattle.elixir_terms.proofs.TrailLemmas.{leads_join, trail_push, Trail, rests, steps, trail_solid, trail_runs, trail_leads, trail_fronts}
 
 -- the limit on levels
 
 begin_levels : (tok : Token) (holes : List Hole) → BeginsWell tok holes → begin_need tok holes ≤ deepest
-begin_levels (Words terms) holes h = omega arith
+begin_levels (Words kind ws) holes h = omega arith
 begin_levels (Open kind) holes h = omega arith
 begin_levels (Atom name) holes h = omega arith
 begin_levels (Int n) holes h = omega arith
@@ -77,7 +78,7 @@ element_levels frame holes (Key name) h = h
 element_levels frame holes (Atom name) h = begin_levels (Atom name) (record { frame = frame; slot = part_slot frame.bracket } ∷ holes) h.1
 element_levels frame holes (Int n) h = begin_levels (Int n) (record { frame = frame; slot = part_slot frame.bracket } ∷ holes) h.1
 element_levels frame holes (Str bytes) h = begin_levels (Str bytes) (record { frame = frame; slot = part_slot frame.bracket } ∷ holes) h.1
-element_levels frame holes (Words terms) h = begin_levels (Words terms) (record { frame = frame; slot = part_slot frame.bracket } ∷ holes) h.1
+element_levels frame holes (Words kind ws) h = begin_levels (Words kind ws) (record { frame = frame; slot = part_slot frame.bracket } ∷ holes) h.1
 element_levels frame holes (Open kind) h = begin_levels (Open kind) (record { frame = frame; slot = part_slot frame.bracket } ∷ holes) h.1
 element_levels frame holes Comma h = begin_levels Comma (record { frame = frame; slot = part_slot frame.bracket } ∷ holes) h.1
 element_levels frame holes Arrow h = begin_levels Arrow (record { frame = frame; slot = part_slot frame.bracket } ∷ holes) h.1
@@ -95,7 +96,7 @@ element_fits frame holes (Key name) left f h n = n
 element_fits frame holes (Atom name) left f h n = part_allow frame holes (Atom name) left f h n
 element_fits frame holes (Int i) left f h n = part_allow frame holes (Int i) left f h n
 element_fits frame holes (Str bytes) left f h n = part_allow frame holes (Str bytes) left f h n
-element_fits frame holes (Words terms) left f h n = part_allow frame holes (Words terms) left f h n
+element_fits frame holes (Words kind ws) left f h n = part_allow frame holes (Words kind ws) left f h n
 element_fits frame holes (Open kind) left f h n = part_allow frame holes (Open kind) left f h n
 element_fits frame holes Comma left f h n = part_allow frame holes Comma left f h n
 element_fits frame holes Arrow left f h n = part_allow frame holes Arrow left f h n
@@ -156,7 +157,7 @@ keyword_new (state.Element frame outer) hole holes (Close closing) e k = absurd 
 keyword_new (state.Element frame outer) hole holes (Atom name) e k = absurd (part_value frame outer (Atom name) hole holes refl e)
 keyword_new (state.Element frame outer) hole holes (Int n) e k = absurd (part_value frame outer (Int n) hole holes refl e)
 keyword_new (state.Element frame outer) hole holes (Str bytes) e k = absurd (part_value frame outer (Str bytes) hole holes refl e)
-keyword_new (state.Element frame outer) hole holes (Words terms) e k = absurd (part_value frame outer (Words terms) hole holes refl e)
+keyword_new (state.Element frame outer) hole holes (Words kind ws) e k = absurd (part_value frame outer (Words kind ws) hole holes refl e)
 keyword_new (state.Element frame outer) hole holes (Open kind) e k = let c = cond_test (takes_part frame) _ (state.Value (hole ∷ holes)) e in let x = c.1 in absurd (cc)
 keyword_new (state.Element frame outer) hole holes Comma e k = let c = cond_test (takes_part frame) None (state.Value (hole ∷ holes)) e in let x = c.1 in absurd (cc)
 keyword_new (state.Element frame outer) hole holes Arrow e k = let c = cond_test (takes_part frame) None (state.Value (hole ∷ holes)) e in let x = c.1 in absurd (cc)
@@ -166,7 +167,7 @@ keyword_new (state.Separator frame outer) hole holes (Key name) e k = absurd (cc
 keyword_new (state.Separator frame outer) hole holes (Atom name) e k = absurd (cc)
 keyword_new (state.Separator frame outer) hole holes (Int n) e k = absurd (cc)
 keyword_new (state.Separator frame outer) hole holes (Str bytes) e k = absurd (cc)
-keyword_new (state.Separator frame outer) hole holes (Words terms) e k = absurd (cc)
+keyword_new (state.Separator frame outer) hole holes (Words kind ws) e k = absurd (cc)
 keyword_new (state.Separator frame outer) hole holes (Open kind) e k = absurd (cc)
 keyword_new (state.Separator frame outer) hole holes Arrow e k = absurd (cc)
 keyword_new (state.Arrow entry frame outer) hole holes Comma e k = absurd (cc)
@@ -175,12 +176,12 @@ keyword_new (state.Arrow entry frame outer) hole holes (Key name) e k = absurd (
 keyword_new (state.Arrow entry frame outer) hole holes (Atom name) e k = absurd (cc)
 keyword_new (state.Arrow entry frame outer) hole holes (Int n) e k = absurd (cc)
 keyword_new (state.Arrow entry frame outer) hole holes (Str bytes) e k = absurd (cc)
-keyword_new (state.Arrow entry frame outer) hole holes (Words terms) e k = absurd (cc)
+keyword_new (state.Arrow entry frame outer) hole holes (Words kind ws) e k = absurd (cc)
 keyword_new (state.Arrow entry frame outer) hole holes (Open kind) e k = absurd (cc)
 keyword_new (state.Value outer) hole holes (Atom name) e k = absurd (value_placed hole holes _ refl (single_placed (state.Value outer) (Atom name) (state.Value (hole ∷ holes)) refl e))
 keyword_new (state.Value outer) hole holes (Int n) e k = absurd (value_placed hole holes _ refl (single_placed (state.Value outer) (Int n) (state.Value (hole ∷ holes)) refl e))
 keyword_new (state.Value outer) hole holes (Str bytes) e k = absurd (value_placed hole holes _ refl (single_placed (state.Value outer) (Str bytes) (state.Value (hole ∷ holes)) refl e))
-keyword_new (state.Value outer) hole holes (Words terms) e k = absurd (value_placed hole holes _ refl (single_placed (state.Value outer) (Words terms) (state.Value (hole ∷ holes)) refl e))
+keyword_new (state.Value outer) hole holes (Words kind ws) e k = absurd (value_placed hole holes _ refl (single_placed (state.Value outer) (Words kind ws) (state.Value (hole ∷ holes)) refl e))
 keyword_new (state.Value outer) hole holes (Open kind) e k = absurd (cc)
 keyword_new (state.Value outer) hole holes (Key name) e k = absurd (cc)
 keyword_new (state.Value outer) hole holes (Close closing) e k = absurd (cc)
@@ -436,12 +437,12 @@ stops_refusal text s rest k left why short utf8 r some sum (trailing t e) =
 stops_refusal text s rest k left why short utf8 r some sum (lexed open_ room first) =
     let p = place_of r.trail in
     let x = p.1 in
-    (p.0 + k, omega arith, fault_refusal p.0 k why short utf8 r.trail open_ x first (λ more e t. levels_need s (Words []) (room more e t)))
+    (p.0 + k, omega arith, fault_refusal p.0 k why short utf8 r.trail open_ x first (λ more e t. levels_need s (Words Strings []) (room more e t)))
 stops_refusal text s rest k left why short utf8 r some sum (deep_words more e taken shallow) =
     let p = place_of r.trail in
     let x = p.1 in
     let good = trail_good r.trail start_good in
-    (p.0, omega arith, words_refusal p.0 more short utf8 r.trail x e taken (deep_more s (Words []) good.fit shallow))
+    (p.0, omega arith, words_refusal p.0 more short utf8 r.trail x e taken (deep_more s (Words Strings []) good.fit shallow))
 stops_refusal text s rest k left why short utf8 r some sum (deep {after = after} tok stands shallow) =
     let p = place_of r.trail in
     let x = p.1 in
@@ -458,7 +459,7 @@ stops_refusal text s rest k left why short utf8 r some sum (again_key {after = a
     by (state.Element frame holes) (Atom name) r stands levels old = absurd (old tt)
     by (state.Element frame holes) (Int n) r stands levels old = absurd (old tt)
     by (state.Element frame holes) (Str bytes) r stands levels old = absurd (old tt)
-    by (state.Element frame holes) (Words terms) r stands levels old = absurd (old tt)
+    by (state.Element frame holes) (Words kind ws) r stands levels old = absurd (old tt)
     by (state.Element frame holes) (Open kind) r stands levels old = absurd (old tt)
     by (state.Element frame holes) Comma r stands levels old = absurd (old tt)
     by (state.Element frame holes) Arrow r stands levels old = absurd (old tt)

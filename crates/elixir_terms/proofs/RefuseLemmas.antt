@@ -6,43 +6,44 @@ use Rattle.std.proofs.Math.Seq.{take-append-add}
 use Rattle.std.proofs.Math.Nat.{eq-or-lt_of_le}
 use Rattle.std.proofs.lemmas.Bool.{true≢false, false≢true}
 use Rattle.std.proofs.lemmas.List.{append-nil, length-append, take_all}
-use Rattle.elixir_terms.specs.declared.bracket.Bracket.TheVariants as bracket
-use Rattle.elixir_terms.specs.declared.error.TermCause.{TermCause}
-use Rattle.elixir_terms.specs.declared.error.TermCause.TheVariants as cause
-use Rattle.elixir_terms.specs.declared.expected.Expected.{Expected}
+use Rattle.term_tokens.specs.declared.bracket.Bracket.TheVariants as bracket
+use Rattle.term_tokens.specs.declared.cause.TermCause.{TermCause}
+use Rattle.term_tokens.specs.declared.cause.TermCause.TheVariants as cause
+use Rattle.term_tokens.specs.declared.expected.Expected.{Expected}
 use Rattle.elixir_terms.specs.declared.state.State.{State}
 use Rattle.elixir_terms.specs.declared.state.State.TheVariants as state
-use Rattle.elixir_terms.specs.declared.term.Term.{Term}
-use Rattle.elixir_terms.specs.declared.term.Term.TheVariants as term
-use Rattle.elixir_terms.specs.declared.token.Token.{Token}
-use Rattle.elixir_terms.specs.declared.token.Token.TheVariants.{Atom, Int, Str, Words, Key, Open, Close, Comma, Arrow}
-use Rattle.elixir_terms.specs.Grammar.{IsTerm, atom as atom_term, string as string_term, integer as integer_term}
-use Rattle.elixir_terms.specs.Lexing.{past_blank, IsNarrow}
-use Rattle.elixir_terms.specs.Local.{IsCapital, starts_with, is_plain, IsFree, takes, IsShut, rank, Locally, charlist, sigil, heredoc, bits, interpolation, interpolated_words, float, alias_alone, alias, escape, escape_in_words, atom_utf8, key_utf8, number, colon_after, unclosed, unexpected, IsFirst}
+use Rattle.term_values.specs.declared.term.Term.{Term}
+use Rattle.term_values.specs.declared.term.Term.TheVariants as term
+use Rattle.term_tokens.specs.declared.token.Token.{Token}
+use Rattle.term_tokens.specs.declared.token.WordKind.TheVariants.{Strings}
+use Rattle.term_tokens.specs.declared.token.Token.TheVariants.{Atom, Int, Str, Words, Key, Open, Close, Comma, Arrow}
+use Rattle.term_print.specs.Grammar.{IsTerm, atom as atom_term, string as string_term, integer as integer_term}
+use Rattle.term_tokens.specs.Lexing.{past_blank, IsNarrow}
+use Rattle.term_tokens.specs.Local.{IsCapital, starts_with, is_plain, IsFree, takes, IsShut, rank, Locally, charlist, sigil, heredoc, bits, interpolation, interpolated_words, float, alias_alone, alias, escape, escape_in_words, atom_utf8, key_utf8, number, colon_after, unclosed, unexpected, IsFirst}
 use Rattle.elixir_terms.specs.Machine.{step, expected}
-use Rattle.elixir_terms.specs.Names.{is_blank}
+use Rattle.term_tokens.specs.Names.{is_blank}
 use Rattle.elixir_terms.specs.Prefixes.{Leads, none as no_token, token as one_token, IsOpenText, StandsAt, TakesEither}
 use Rattle.elixir_terms.specs.Refusals.{AreTooDeep, IsStarted, Holds}
 use Rattle.elixir_terms.specs.Refusals as far
-use Rattle.elixir_terms.specs.Tokens.{is_colon, Begins, bare_atom, atom, quoted_atom, integer, string, words, key, quoted_key, opens, closes, comma, arrow, none, AreTokens}
+use Rattle.term_tokens.specs.Tokens.{is_colon, Begins, bare_atom, atom, quoted_atom, integer, string, words, key, quoted_key, opens, closes, comma, arrow, none, AreTokens}
 use Rattle.elixir_terms.specs.Within.{deepest, longest}
 use Rattle.elixir_terms.proofs.AgainLemmas.{Held, Again, held, starts, later, again, single_last}
-use Rattle.elixir_terms.proofs.BlankLemmas.{blanks_stop}
+use Rattle.term_tokens.proofs.BlankLemmas.{blanks_stop}
 use Rattle.elixir_terms.proofs.SnagLemmas.{NotDone, HasRoomFor, fault_stop, fault_least, in_key}
 use Rattle.elixir_terms.proofs.DeepLemmas.{needs}
 use Rattle.elixir_terms.proofs.EndLemmas.{state_ends}
-use Rattle.elixir_terms.proofs.NameLemmas.{test_from_ends, colon_ends}
-use Rattle.elixir_terms.proofs.TokenLemmas.{bare_named}
+use Rattle.term_tokens.proofs.NameLemmas.{test_from_ends, colon_ends}
+use Rattle.term_tokens.proofs.TokenLemmas.{bare_named}
 use Rattle.elixir_terms.proofs.Meaning.{Wants}
 use Rattle.elixir_terms.proofs.OpenLemmas.{runs, start, passes, step_taken, key_expected, passed_back, open_next}
-use Rattle.elixir_terms.proofs.OptionLemmas.{some_same}
+use Rattle.term_tokens.proofs.OptionLemmas.{some_same}
 use Rattle.elixir_terms.proofs.PrefixLemmas.{AllSound, start_sound, trail_sound, token_shallow, step_open}
 use Rattle.elixir_terms.proofs.Runs.{wants_end, wants_first, first_wants}
 use Rattle.elixir_terms.proofs.ShutLemmas.{single_placed, no_more, taken, tied, front_shut}
 use Rattle.elixir_terms.proofs.SoundLemmas.{TokenShallow, need}
 use Rattle.elixir_terms.proofs.StartLemmas.{words_only, started_some, need_words}
 use Rattle.elixir_terms.proofs.StopLemmas.{Beyond, Stop, early, Repeats, stop_beyond, stop_open, early_beyond}
-use Rattle.elixir_terms.proofs.TokenLaws.{begins_one, begins_shorter}
+use Rattle.term_tokens.proofs.TokenLaws.{begins_one, begins_shorter}
 use Rattle.elixir_terms.proofs.TrailLemmas.{Trail, trail_solid, trail_runs, trail_leads, trail_fronts, behind}
 
 -- the place of the rest
@@ -74,7 +75,7 @@ single_term : (word : List ℕ) (tok : Token) → is_plain word tok ≡ true →
 single_term word (Atom name) p = (term.Atom name, atom_term)
 single_term word (Str bytes) p = (term.Str bytes, string_term)
 single_term word (Int n) p = absurd (cc)
-single_term word (Words terms) p = absurd (cc)
+single_term word (Words kind ws) p = absurd (cc)
 single_term word (Key name) p = absurd (cc)
 single_term word (Open kind) p = absurd (cc)
 single_term word (Close closing) p = absurd (cc)
@@ -195,7 +196,7 @@ done_takes : (t : Term) (tok : Token) → takes (expected (state.Done t)) tok �
 done_takes t (Atom name) e = cc
 done_takes t (Int n) e = cc
 done_takes t (Str bytes) e = cc
-done_takes t (Words terms) e = cc
+done_takes t (Words kind ws) e = cc
 done_takes t (Key name) e = cc
 done_takes t (Open kind) e = cc
 done_takes t (Close closing) e = cc
@@ -284,7 +285,7 @@ words_first e rest m f j other (escape {opening = opening} more x o q s lacks) =
 words_first e rest m f j other (escape_in_words inside more x i s) = inl (omega arith)
 words_first e rest m f j other (atom_utf8 more x q u s) = inl (omega arith)
 words_first e rest m f j other (key_utf8 white more x q u b s) = absurd (omega (arith, head_is (sym s ∙ f)))
-words_first e rest m f j other (number x b w) = let t = words_only m f b in let same = t.1 in absurd (cc)
+words_first e rest m f j other (number x b w) = let t = words_only m f b in let same = t.2 in absurd (cc)
 words_first e rest m f j other (colon_after more x b p s) = let l = begins_shorter b in inl (omega arith)
 words_first e rest m f j other (unclosed p n) = inl (omega (arith, ap length f))
 words_first e rest m f j other (unexpected l p s) = ⊎_elim (λ z. inr (z, omega arith)) (λ k. inl k) (eq-or-lt_of_le (omega arith))
@@ -298,23 +299,23 @@ words_stop {s = s} {rest = rest} at more trail place e taken = record {
   first = λ j other local. words_first (expected s) rest more e j other local;
   tells = λ tok after begins t. early refl;
   deep_here = λ tok started too. (refl, omega arith);
-  done_here = λ t d. absurd (done_takes t (Words []) (subst (λ x. takes (expected x) (Words []) ≡ true) d taken));
+  done_here = λ t d. absurd (done_takes t (Words Strings []) (subst (λ x. takes (expected x) (Words Strings []) ≡ true) d taken));
   end_rank = λ z. absurd (omega (arith, ap length e));
   most_rank = omega arith;
 }
 
-words_again : {text : List ℕ} {tokens : List Token} {s : State} {rest : List ℕ} (at here : ℕ) (more : List ℕ) → Stop text tokens s rest at 0 cause.TooDeep → rest ≡ 126 ∷ 119 ∷ 40 ∷ more → (expected s).term ≡ true → deepest < need s (Words []) → (r : Repeats text here) → Again tokens s rest (r.outer ++ Open bracket.Map ∷ r.inside) r.rest → Beyond (at + 0) cause.TooDeep here cause.DuplicateKey
+words_again : {text : List ℕ} {tokens : List Token} {s : State} {rest : List ℕ} (at here : ℕ) (more : List ℕ) → Stop text tokens s rest at 0 cause.TooDeep → rest ≡ 126 ∷ 119 ∷ 40 ∷ more → (expected s).term ≡ true → deepest < need s (Words Strings []) → (r : Repeats text here) → Again tokens s rest (r.outer ++ Open bracket.Map ∷ r.inside) r.rest → Beyond (at + 0) cause.TooDeep here cause.DuplicateKey
 words_again {tokens = tokens} {s = s} at here more stop e taken many r (held h) =
     let w = words_only more e h.begins in
     let t : takes (expected s) h.tok ≡ true = subst (λ x. takes (expected s) x ≡ true) (sym w.1) taken in
-    let n : deepest < need s h.tok = subst (λ x. deepest < need s x) (sym w.1) (subst (λ i. deepest < i) (sym (need_words s w.0)) many) in
+    let n : deepest < need s h.tok = subst (λ x. deepest < need s x) (sym w.2) (subst (λ i. deepest < i) (sym (need_words s w.0 w.1)) many) in
     absurd (held_shallow h (too_deep tokens s h.tok (trail_runs stop.trail) (trail_sound stop.trail start_sound) (token_shallow h.begins) t n))
 words_again at here more stop e taken many r (starts p q st) = let x = stop.place in let y = r.stands.place in let w = ap length q in inr (omega arith, omega arith)
 words_again at here more stop e taken many r (later b el) = early_beyond at here 0 0 cause.TooDeep cause.DuplicateKey here b stop.place r.stands.place refl (omega arith)
 
-pub words_refusal : {text : List ℕ} {tokens : List Token} {s : State} {rest : List ℕ} (at : ℕ) (more : List ℕ) → length text ≤ longest → IsUtf8 text → Trail tokens start s text rest → at + length rest ≡ length text → rest ≡ 126 ∷ 119 ∷ 40 ∷ more → (expected s).term ≡ true → deepest < need s (Words []) → far.IsRefusal text at cause.TooDeep
+pub words_refusal : {text : List ℕ} {tokens : List Token} {s : State} {rest : List ℕ} (at : ℕ) (more : List ℕ) → length text ≤ longest → IsUtf8 text → Trail tokens start s text rest → at + length rest ≡ length text → rest ≡ 126 ∷ 119 ∷ 40 ∷ more → (expected s).term ≡ true → deepest < need s (Words Strings []) → far.IsRefusal text at cause.TooDeep
 words_refusal {text = text} {tokens = tokens} {s = s} {rest = rest} at more short utf8 trail place e taken many =
-    let too = too_deep tokens s (Words []) (trail_runs trail) (trail_sound trail start_sound) (λ n. far.none) taken many in
+    let too = too_deep tokens s (Words Strings []) (trail_runs trail) (trail_sound trail start_sound) (λ n. far.none) taken many in
     let stop = words_stop at more trail place e taken in
     let same : at + 0 ≡ at = omega arith in
     far.first short utf8 (far.deep (stands_of at trail place) (far.open_words more e) too)

@@ -4,10 +4,10 @@ use Rattle.std.specs.Prelude.{option_and_then}
 use Rattle.std.proofs.lemmas.List.{append-nil}
 use Rattle.elixir_terms.specs.declared.state.State.{State}
 use Rattle.elixir_terms.specs.declared.state.State.TheVariants.{Value, Element, Separator, Arrow, Done}
-use Rattle.elixir_terms.specs.declared.term.Term.{Term}
-use Rattle.elixir_terms.specs.declared.token.Token.{Token}
-use Rattle.elixir_terms.specs.declared.token.Token.TheVariants.{Close}
-use Rattle.elixir_terms.specs.Grammar.{IsTerm, atom, integer, string, words, brackets, closing_of}
+use Rattle.term_values.specs.declared.term.Term.{Term}
+use Rattle.term_tokens.specs.declared.token.Token.{Token}
+use Rattle.term_tokens.specs.declared.token.Token.TheVariants.{Close}
+use Rattle.term_print.specs.Grammar.{IsTerm, atom, integer, string, words, brackets, closing_of}
 use Rattle.elixir_terms.specs.Machine.{step}
 use Rattle.elixir_terms.proofs.Meaning.{Wants, WantsNext}
 use Rattle.elixir_terms.proofs.StepForth.{step_forth}

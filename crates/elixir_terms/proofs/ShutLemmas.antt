@@ -7,22 +7,23 @@ use Rattle.elixir_terms.specs.declared.frame.Slot.{Slot}
 use Rattle.elixir_terms.specs.declared.frame.Slot.TheVariants as slot
 use Rattle.elixir_terms.specs.declared.state.State.{State}
 use Rattle.elixir_terms.specs.declared.state.State.TheVariants as state
-use Rattle.elixir_terms.specs.declared.term.Term.{Term}
-use Rattle.elixir_terms.specs.declared.term.Term.TheVariants as term
-use Rattle.elixir_terms.specs.declared.token.Closing.TheVariants.{Square, Curly}
-use Rattle.elixir_terms.specs.declared.token.Token.{Token}
-use Rattle.elixir_terms.specs.declared.token.Token.TheVariants.{Atom, Int, Str, Words, Key, Open, Close, Comma, Arrow}
-use Rattle.elixir_terms.specs.Lexing.{past_blank}
-use Rattle.elixir_terms.specs.Local.{starts_with, is_plain, IsFree, IsShut}
+use Rattle.term_values.specs.declared.term.Term.{Term}
+use Rattle.term_values.specs.declared.term.Term.TheVariants as term
+use Rattle.term_tokens.specs.declared.token.Closing.TheVariants.{Square, Curly}
+use Rattle.term_tokens.specs.declared.token.Token.{Token}
+use Rattle.term_tokens.specs.declared.token.Token.TheVariants.{Atom, Int, Str, Words, Key, Open, Close, Comma, Arrow}
+use Rattle.term_print.specs.Grammar.{word_list}
+use Rattle.term_tokens.specs.Lexing.{past_blank}
+use Rattle.term_tokens.specs.Local.{starts_with, is_plain, IsFree, IsShut}
 use Rattle.elixir_terms.specs.Machine.{takes_part, part_slot, placed, placed_in, begun, at_part, step, expected}
 use Rattle.elixir_terms.specs.Prefixes.{IsOpenText}
-use Rattle.elixir_terms.specs.Names.{is_blank}
-use Rattle.elixir_terms.specs.Tokens.{Begins, bare_atom, atom, quoted_atom, integer, string, words, key, quoted_key, opens, closes, comma, arrow, line_end, AreTokens}
-use Rattle.elixir_terms.proofs.BlankLemmas.{blanks_stop}
-use Rattle.elixir_terms.proofs.FollowLemmas.{Like, same}
+use Rattle.term_tokens.specs.Names.{is_blank}
+use Rattle.term_tokens.specs.Tokens.{Begins, bare_atom, atom, quoted_atom, integer, string, words, key, quoted_key, opens, closes, comma, arrow, line_end, AreTokens}
+use Rattle.term_tokens.proofs.BlankLemmas.{blanks_stop}
+use Rattle.term_tokens.proofs.FollowLemmas.{Like, same}
 use Rattle.elixir_terms.proofs.Meaning.{Wants, WantsNext}
 use Rattle.elixir_terms.proofs.OpenLemmas.{runs, start, passes, step_taken, cond_test}
-use Rattle.elixir_terms.proofs.OptionLemmas.{some_same}
+use Rattle.term_tokens.proofs.OptionLemmas.{some_same}
 use Rattle.elixir_terms.proofs.Runs.{wants_first}
 use Rattle.elixir_terms.proofs.StepForth.{step_forth}
 use Rattle.elixir_terms.proofs.TrailLemmas.{Fronts, behind}
@@ -32,7 +33,7 @@ abbrev pub is_single : Token → Bool
 is_single (Atom name) = true
 is_single (Int n) = true
 is_single (Str bytes) = true
-is_single (Words terms) = true
+is_single (Words kind ws) = true
 is_single token = false
 
 -- what may follow a term in brackets
@@ -58,11 +59,11 @@ pub single_placed : (s : State) (tok : Token) (next : State) → is_single tok �
 single_placed (state.Value holes) (Atom name) next i e = (term.Atom name, holes, sym (some_same e))
 single_placed (state.Value holes) (Int n) next i e = (term.Int n, holes, sym (some_same e))
 single_placed (state.Value holes) (Str bytes) next i e = (term.Str bytes, holes, sym (some_same e))
-single_placed (state.Value holes) (Words terms) next i e = (term.List terms, holes, sym (some_same e))
+single_placed (state.Value holes) (Words kind ws) next i e = (word_list kind ws, holes, sym (some_same e))
 single_placed (state.Element frame holes) (Atom name) next i e = part_placed frame holes (Atom name) (term.Atom name) next refl e
 single_placed (state.Element frame holes) (Int n) next i e = part_placed frame holes (Int n) (term.Int n) next refl e
 single_placed (state.Element frame holes) (Str bytes) next i e = part_placed frame holes (Str bytes) (term.Str bytes) next refl e
-single_placed (state.Element frame holes) (Words terms) next i e = part_placed frame holes (Words terms) (term.List terms) next refl e
+single_placed (state.Element frame holes) (Words kind ws) next i e = part_placed frame holes (Words kind ws) (word_list kind ws) next refl e
 single_placed s (Key name) next i e = absurd (cc)
 single_placed s (Open kind) next i e = absurd (cc)
 single_placed s (Close closing) next i e = absurd (cc)
@@ -71,15 +72,15 @@ single_placed s Arrow next i e = absurd (cc)
 single_placed (state.Separator frame holes) (Atom name) next i e = absurd (cc)
 single_placed (state.Separator frame holes) (Int n) next i e = absurd (cc)
 single_placed (state.Separator frame holes) (Str bytes) next i e = absurd (cc)
-single_placed (state.Separator frame holes) (Words terms) next i e = absurd (cc)
+single_placed (state.Separator frame holes) (Words kind ws) next i e = absurd (cc)
 single_placed (state.Arrow entry frame holes) (Atom name) next i e = absurd (cc)
 single_placed (state.Arrow entry frame holes) (Int n) next i e = absurd (cc)
 single_placed (state.Arrow entry frame holes) (Str bytes) next i e = absurd (cc)
-single_placed (state.Arrow entry frame holes) (Words terms) next i e = absurd (cc)
+single_placed (state.Arrow entry frame holes) (Words kind ws) next i e = absurd (cc)
 single_placed (state.Done t) (Atom name) next i e = absurd (cc)
 single_placed (state.Done t) (Int n) next i e = absurd (cc)
 single_placed (state.Done t) (Str bytes) next i e = absurd (cc)
-single_placed (state.Done t) (Words terms) next i e = absurd (cc)
+single_placed (state.Done t) (Words kind ws) next i e = absurd (cc)
 
 -- behind a whole term stands no first token of one, and no key
 
@@ -92,7 +93,7 @@ separator_joins frame holes Comma next e = refl
 separator_joins frame holes (Atom name) next e = absurd (cc)
 separator_joins frame holes (Int n) next e = absurd (cc)
 separator_joins frame holes (Str bytes) next e = absurd (cc)
-separator_joins frame holes (Words terms) next e = absurd (cc)
+separator_joins frame holes (Words kind ws) next e = absurd (cc)
 separator_joins frame holes (Key name) next e = absurd (cc)
 separator_joins frame holes (Open kind) next e = absurd (cc)
 separator_joins frame holes Arrow next e = absurd (cc)
@@ -104,7 +105,7 @@ arrow_joins entry frame holes Comma next e = absurd (cc)
 arrow_joins entry frame holes (Atom name) next e = absurd (cc)
 arrow_joins entry frame holes (Int n) next e = absurd (cc)
 arrow_joins entry frame holes (Str bytes) next e = absurd (cc)
-arrow_joins entry frame holes (Words terms) next e = absurd (cc)
+arrow_joins entry frame holes (Words kind ws) next e = absurd (cc)
 arrow_joins entry frame holes (Key name) next e = absurd (cc)
 arrow_joins entry frame holes (Open kind) next e = absurd (cc)
 
@@ -185,7 +186,7 @@ plain_single : (text : List ℕ) (tok : Token) → is_plain text tok ≡ true �
 plain_single text (Atom name) h = refl
 plain_single text (Str bytes) h = refl
 plain_single text (Int n) h = absurd (cc)
-plain_single text (Words terms) h = absurd (cc)
+plain_single text (Words kind ws) h = absurd (cc)
 plain_single text (Key name) h = absurd (cc)
 plain_single text (Open kind) h = absurd (cc)
 plain_single text (Close closing) h = absurd (cc)

@@ -5,32 +5,33 @@ use Rattle.std.specs.Int.Signed.{clash_ℤ}
 use Rattle.std.proofs.lemmas.Int.{by_lt_z}
 use Rattle.std.proofs.lemmas.Bool.{true≢false, false≢true, and_parts, and_from}
 use Rattle.std.proofs.lemmas.List.{append-nil, length-append}
-use Rattle.elixir_terms.specs.declared.bracket.Bracket.TheVariants as bracket
-use Rattle.elixir_terms.specs.declared.error.TermCause.{TermCause}
-use Rattle.elixir_terms.specs.declared.error.TermCause.TheVariants as cause
-use Rattle.elixir_terms.specs.declared.expected.Expected.{Expected}
+use Rattle.term_tokens.specs.declared.bracket.Bracket.TheVariants as bracket
+use Rattle.term_tokens.specs.declared.cause.TermCause.{TermCause}
+use Rattle.term_tokens.specs.declared.cause.TermCause.TheVariants as cause
+use Rattle.term_tokens.specs.declared.expected.Expected.{Expected}
 use Rattle.elixir_terms.specs.declared.frame.Frame.{Frame}
 use Rattle.elixir_terms.specs.declared.frame.Hole.{Hole}
 use Rattle.elixir_terms.specs.declared.frame.Slot.{Slot}
 use Rattle.elixir_terms.specs.declared.frame.Slot.TheVariants as slot
 use Rattle.elixir_terms.specs.declared.state.State.{State}
 use Rattle.elixir_terms.specs.declared.state.State.TheVariants as state
-use Rattle.elixir_terms.specs.declared.term.Term.{Term}
-use Rattle.elixir_terms.specs.declared.term.Term.TheVariants as term
-use Rattle.elixir_terms.specs.declared.token.Token.{Token}
-use Rattle.elixir_terms.specs.declared.token.Token.TheVariants.{Atom, Int, Str, Words, Key, Open, Close, Comma, Arrow}
-use Rattle.elixir_terms.specs.Lexing.{past_blank, IsNarrow, IsWide}
-use Rattle.elixir_terms.specs.Local.{IsFloat, starts_with, is_plain, takes, rank, Locally, charlist, sigil, heredoc, bits, interpolation, interpolated_words, float, alias_alone, alias, escape, escape_in_words, atom_utf8, key_utf8, number, colon_after, unclosed, unexpected, IsFirst}
+use Rattle.term_values.specs.declared.term.Term.{Term}
+use Rattle.term_values.specs.declared.term.Term.TheVariants as term
+use Rattle.term_tokens.specs.declared.token.Token.{Token}
+use Rattle.term_tokens.specs.declared.token.WordKind.TheVariants.{Strings}
+use Rattle.term_tokens.specs.declared.token.Token.TheVariants.{Atom, Int, Str, Words, Key, Open, Close, Comma, Arrow}
+use Rattle.term_tokens.specs.Lexing.{past_blank, IsNarrow, IsWide}
+use Rattle.term_tokens.specs.Local.{IsFloat, starts_with, is_plain, takes, rank, Locally, charlist, sigil, heredoc, bits, interpolation, interpolated_words, float, alias_alone, alias, escape, escape_in_words, atom_utf8, key_utf8, number, colon_after, unclosed, unexpected, IsFirst}
 use Rattle.elixir_terms.specs.Machine.{is_none, takes_part, part_slot, placed, placed_in, step, expected}
 use Rattle.elixir_terms.specs.Refusals.{AreTooDeep, IsStarted, whole_token, open_words, Holds}
-use Rattle.elixir_terms.specs.Tokens.{Begins, bare_atom, atom, quoted_atom, integer, string, words, key, quoted_key, opens, closes, comma, arrow}
+use Rattle.term_tokens.specs.Tokens.{Begins, bare_atom, atom, quoted_atom, integer, string, words, key, quoted_key, opens, closes, comma, arrow}
 use Rattle.elixir_terms.specs.Within.{deepest}
 use Rattle.elixir_terms.proofs.AgainLemmas.{Held, Again, held, starts, later, again, single_last}
-use Rattle.elixir_terms.proofs.CalmLemmas.{calm, Marred, fraction, quotes}
-use Rattle.elixir_terms.proofs.FollowLemmas.{bare_first}
+use Rattle.term_tokens.proofs.CalmLemmas.{calm, Marred, fraction, quotes}
+use Rattle.term_tokens.proofs.FollowLemmas.{bare_first}
 use Rattle.elixir_terms.proofs.LimitLemmas.{allowed}
 use Rattle.elixir_terms.proofs.OpenLemmas.{runs, start, passes, step_taken, cond_test, open_next}
-use Rattle.elixir_terms.proofs.OptionLemmas.{some_same}
+use Rattle.term_tokens.proofs.OptionLemmas.{some_same}
 use Rattle.elixir_terms.proofs.PrefixLemmas.{start_sound, trail_sound}
 use Rattle.elixir_terms.proofs.Runs.{wants_first}
 use Rattle.elixir_terms.proofs.ShutLemmas.{is_single, joint_byte, IsPlaced, single_placed, Tied, tied}
@@ -141,7 +142,7 @@ snag s rest k why tok after first begins t = by (is_plain rest tok && starts_wit
     free_ free (Int n) same = ⊎_elim (λ narrow. small free (subst (λ y. IsNarrow y) (sym same) narrow)) (λ w. wide n same w) (wide_or n)
     free_ free (Atom name) same = small free (subst (λ y. IsNarrow y) (sym same) tt)
     free_ free (Str bytes) same = small free (subst (λ y. IsNarrow y) (sym same) tt)
-    free_ free (Words terms) same = small free (subst (λ y. IsNarrow y) (sym same) tt)
+    free_ free (Words kind ws) same = small free (subst (λ y. IsNarrow y) (sym same) tt)
     free_ free (Key name) same = small free (subst (λ y. IsNarrow y) (sym same) tt)
     free_ free (Open kind) same = small free (subst (λ y. IsNarrow y) (sym same) tt)
     free_ free (Close closing) same = small free (subst (λ y. IsNarrow y) (sym same) tt)
@@ -170,7 +171,7 @@ small_need (state.Element frame holes) (Str bytes) h = refl
 small_need (state.Separator frame holes) tok h = refl
 small_need (state.Arrow entry frame holes) tok h = refl
 small_need (state.Done t) tok h = refl
-small_need s (Words terms) h = absurd (cc)
+small_need s (Words kind ws) h = absurd (cc)
 small_need s (Key name) h = absurd (cc)
 small_need s (Open kind) h = absurd (cc)
 small_need s (Close closing) h = absurd (cc)
@@ -181,7 +182,7 @@ plain_small : (text : List ℕ) (tok : Token) → is_plain text tok ≡ true →
 plain_small text (Atom name) h = refl
 plain_small text (Str bytes) h = refl
 plain_small text (Int n) h = absurd (cc)
-plain_small text (Words terms) h = absurd (cc)
+plain_small text (Words kind ws) h = absurd (cc)
 plain_small text (Key name) h = absurd (cc)
 plain_small text (Open kind) h = absurd (cc)
 plain_small text (Close closing) h = absurd (cc)
@@ -248,7 +249,7 @@ plain_outer text (state.Arrow entry frame holes) (Str bytes) u p e = absurd (cc)
 plain_outer text (state.Done t) (Atom name) u p e = absurd (cc)
 plain_outer text (state.Done t) (Str bytes) u p e = absurd (cc)
 plain_outer text s (Int n) u p e = absurd (cc)
-plain_outer text s (Words terms) u p e = absurd (cc)
+plain_outer text s (Words kind ws) u p e = absurd (cc)
 plain_outer text s (Key name) u p e = absurd (cc)
 plain_outer text s (Open kind) u p e = absurd (cc)
 plain_outer text s (Close closing) u p e = absurd (cc)
@@ -299,7 +300,7 @@ NotDone s = (t : Term) → s ≡ state.Done t → ⊥
 
 -- words that start there leave levels
 abbrev pub HasRoomFor : State → List ℕ → Type 0
-HasRoomFor s rest = (more : List ℕ) → rest ≡ 126 ∷ 119 ∷ 40 ∷ more → (expected s).term ≡ true → need s (Words []) ≤ deepest
+HasRoomFor s rest = (more : List ℕ) → rest ≡ 126 ∷ 119 ∷ 40 ∷ more → (expected s).term ≡ true → need s (Words Strings []) ≤ deepest
 
 pub fault_stop : {text : List ℕ} {tokens : List Token} {s : State} {rest : List ℕ} (at k : ℕ) (why : TermCause) → Trail tokens start s text rest → NotDone s → at + length rest ≡ length text → IsFirst (expected s) rest k why → HasRoomFor s rest → Stop text tokens s rest at k why
 fault_stop {tokens = tokens} {s = s} {rest = rest} at k why trail open_ place first room = record {

@@ -2,20 +2,21 @@
 use Rattle.std.proofs.Common.{◌≡◌, ℕ, suc, ◌+◌, ◌-◌, ◌≤◌, Bool, true, false, cond, List, [], ◌∷◌, ◌++◌, Option, Some, None, refl, sym, ◌∙◌, subst, arith, map}
 use Rattle.std.specs.Prelude.{option_map}
 use Rattle.std.proofs.lemmas.List.{append-nil}
-use Rattle.elixir_terms.specs.declared.bracket.Bracket.{Bracket}
-use Rattle.elixir_terms.specs.declared.bracket.Bracket.TheVariants as bracket
+use Rattle.term_tokens.specs.declared.bracket.Bracket.{Bracket}
+use Rattle.term_tokens.specs.declared.bracket.Bracket.TheVariants as bracket
 use Rattle.elixir_terms.specs.declared.frame.Frame.{Frame}
 use Rattle.elixir_terms.specs.declared.frame.Hole.{Hole}
 use Rattle.elixir_terms.specs.declared.frame.Slot.{Slot}
 use Rattle.elixir_terms.specs.declared.frame.Slot.TheVariants as slot
 use Rattle.elixir_terms.specs.declared.state.State.{State}
 use Rattle.elixir_terms.specs.declared.state.State.TheVariants as state
-use Rattle.elixir_terms.specs.declared.term.Term.{Term}
-use Rattle.elixir_terms.specs.declared.term.Term.TheVariants as term
-use Rattle.elixir_terms.specs.declared.token.Closing.{Closing}
-use Rattle.elixir_terms.specs.declared.token.Token.{Token}
-use Rattle.elixir_terms.specs.declared.token.Token.TheVariants.{Atom, Int, Str, Words, Key, Open, Close, Comma, Arrow}
-use Rattle.elixir_terms.specs.Grammar.{Pair, enclosed, pair_tuple}
+use Rattle.term_values.specs.declared.term.Term.{Term}
+use Rattle.term_values.specs.declared.term.Term.TheVariants as term
+use Rattle.term_tokens.specs.declared.token.Closing.{Closing}
+use Rattle.term_tokens.specs.declared.token.Token.{Token}
+use Rattle.term_tokens.specs.declared.token.Token.TheVariants.{Atom, Int, Str, Words, Key, Open, Close, Comma, Arrow}
+use Rattle.term_print.specs.Grammar.{enclosed, pair_tuple, word_term, word_list}
+use Rattle.term_values.specs.Views.{Pair}
 use Rattle.elixir_terms.specs.Levels.{keyword_cost, cost_in, cost, levels}
 use Rattle.elixir_terms.specs.Machine.{with_item, with_entry, with_keyword, is_closed_by, is_none, takes_key, takes_key_in, takes_part, part_slot, empty, placed_in, placed, begun, closed, at_part, at_key, at_element, at_separator, at_arrow, step}
 use Rattle.elixir_terms.proofs.StepBack.{no_keyword, no_value}
@@ -150,12 +151,12 @@ placed_sound all t (hole ∷ holes) left h k e = in_slot hole.slot hole.frame h.
 
 -- the words of a token are shallow
 abbrev pub TokenShallow : Token → Type 0
-TokenShallow (Words terms) = (n : ℕ) → AreShallow n terms
+TokenShallow (Words kind ws) = (n : ℕ) → AreShallow n (map (word_term kind) ws)
 TokenShallow token = Unit {0}
 
 -- how many levels a token needs in all
 abbrev pub begin_need : Token → List Hole → ℕ
-begin_need (Words terms) holes = 1 + levels holes
+begin_need (Words kind ws) holes = 1 + levels holes
 begin_need (Open kind) holes = 1 + levels holes
 begin_need token holes = 0
 
@@ -183,7 +184,7 @@ begun_sound : (all : ℕ) (tok : Token) (holes : List Hole) (left : ℕ) → Hol
 begun_sound all (Atom name) holes left h e k n = placed_sound all (term.Atom name) holes left h atom e
 begun_sound all (Int i) holes left h e k n = placed_sound all (term.Int i) holes left h integer e
 begun_sound all (Str bytes) holes left h e k n = placed_sound all (term.Str bytes) holes left h string e
-begun_sound all (Words terms) holes left h e k n = let room : 1 ≤ left = omega arith in placed_sound all (term.List terms) holes left h (words_left left terms room k) e
+begun_sound all (Words kind ws) holes left h e k n = let room : 1 ≤ left = omega arith in placed_sound all (word_list kind ws) holes left h (words_left left (map (word_term kind) ws) room k) e
 begun_sound all (Open kind) holes left h e k n = let room : 1 ≤ left = omega arith in (left, e, empty_left left kind room, h)
 begun_sound all (Key key) holes left h e k n = tt
 begun_sound all (Close closing) holes left h e k n = tt
@@ -250,7 +251,7 @@ element_sound all frame holes (Key key) left s h e k n = key_sound all frame hol
 element_sound all frame holes (Atom name) left s h e k n = part_sound all frame holes (Atom name) left s h e k n
 element_sound all frame holes (Int i) left s h e k n = part_sound all frame holes (Int i) left s h e k n
 element_sound all frame holes (Str bytes) left s h e k n = part_sound all frame holes (Str bytes) left s h e k n
-element_sound all frame holes (Words terms) left s h e k n = part_sound all frame holes (Words terms) left s h e k n
+element_sound all frame holes (Words kind ws) left s h e k n = part_sound all frame holes (Words kind ws) left s h e k n
 element_sound all frame holes (Open kind) left s h e k n = part_sound all frame holes (Open kind) left s h e k n
 element_sound all frame holes Comma left s h e k n = part_sound all frame holes Comma left s h e k n
 element_sound all frame holes Arrow left s h e k n = part_sound all frame holes Arrow left s h e k n
@@ -261,7 +262,7 @@ separator_sound all frame holes Comma left s h e = (left, e, s, h)
 separator_sound all frame holes (Atom name) left s h e = tt
 separator_sound all frame holes (Int i) left s h e = tt
 separator_sound all frame holes (Str bytes) left s h e = tt
-separator_sound all frame holes (Words terms) left s h e = tt
+separator_sound all frame holes (Words kind ws) left s h e = tt
 separator_sound all frame holes (Key key) left s h e = tt
 separator_sound all frame holes (Open kind) left s h e = tt
 separator_sound all frame holes Arrow left s h e = tt
@@ -273,7 +274,7 @@ arrow_sound all key frame holes (Close closing) left s h e = tt
 arrow_sound all key frame holes (Atom name) left s h e = tt
 arrow_sound all key frame holes (Int i) left s h e = tt
 arrow_sound all key frame holes (Str bytes) left s h e = tt
-arrow_sound all key frame holes (Words terms) left s h e = tt
+arrow_sound all key frame holes (Words kind ws) left s h e = tt
 arrow_sound all key frame holes (Key name) left s h e = tt
 arrow_sound all key frame holes (Open kind) left s h e = tt
 

@@ -1,27 +1,28 @@
 -- A text that spells a term within the limits has no refusal.
 use Rattle.std.proofs.Common.{◌≡◌, ℕ, zero, suc, ◌<◌, inl, inr, Bool, true, false, ◌&&◌, List, [], ◌∷◌, ◌++◌, None, length, refl, sym, ap, subst, arith, ⊎_elim}
 use Rattle.std.proofs.lemmas.List.{length-append}
-use Rattle.elixir_terms.specs.declared.bracket.Bracket.TheVariants as bracket
-use Rattle.elixir_terms.specs.declared.error.Feature.TheVariants.{Charlist}
-use Rattle.elixir_terms.specs.declared.error.TermCause.{TermCause}
-use Rattle.elixir_terms.specs.declared.error.TermCause.TheVariants as cause
+use Rattle.term_tokens.specs.declared.bracket.Bracket.TheVariants as bracket
+use Rattle.term_tokens.specs.declared.cause.Feature.TheVariants.{Charlist}
+use Rattle.term_tokens.specs.declared.cause.TermCause.{TermCause}
+use Rattle.term_tokens.specs.declared.cause.TermCause.TheVariants as cause
 use Rattle.elixir_terms.specs.declared.state.State.{State}
 use Rattle.elixir_terms.specs.declared.state.State.TheVariants as state
-use Rattle.elixir_terms.specs.declared.term.Term.{Term}
-use Rattle.elixir_terms.specs.declared.token.Token.{Token}
-use Rattle.elixir_terms.specs.declared.token.Token.TheVariants.{Open}
-use Rattle.elixir_terms.specs.Grammar.{IsTerm, Pair}
-use Rattle.elixir_terms.specs.Lexing.{past_blank, IsNarrow}
-use Rattle.elixir_terms.specs.Local.{starts_with, is_plain, IsFree, Locally}
+use Rattle.term_values.specs.declared.term.Term.{Term}
+use Rattle.term_tokens.specs.declared.token.Token.{Token}
+use Rattle.term_tokens.specs.declared.token.Token.TheVariants.{Open}
+use Rattle.term_print.specs.Grammar.{IsTerm}
+use Rattle.term_values.specs.Views.{Pair}
+use Rattle.term_tokens.specs.Lexing.{past_blank, IsNarrow}
+use Rattle.term_tokens.specs.Local.{starts_with, is_plain, IsFree, Locally}
 use Rattle.elixir_terms.specs.Machine.{expected}
 use Rattle.elixir_terms.specs.Refusals as far
 use Rattle.elixir_terms.specs.Refusals.{IsShallow, AreShallow, PairsShallow, Holds, IsRefusal}
-use Rattle.elixir_terms.specs.Spells.{Spells}
-use Rattle.elixir_terms.specs.Tokens.{AreTokens, Begins}
+use Rattle.term_print.specs.Spells.{Spells}
+use Rattle.term_tokens.specs.Tokens.{AreTokens, Begins}
 use Rattle.elixir_terms.specs.Within.{deepest, longest, Fits, AllFit, PairsFit, Within}
 use Rattle.elixir_terms.specs.Within as fits
 use Rattle.elixir_terms.proofs.AgainLemmas.{wants_new, Again, held, starts, later, again}
-use Rattle.elixir_terms.proofs.CalmLemmas.{calm, Marred, fraction, quotes}
+use Rattle.term_tokens.proofs.CalmLemmas.{calm, Marred, fraction, quotes}
 use Rattle.elixir_terms.proofs.DeepLemmas.{needs}
 use Rattle.elixir_terms.proofs.LimitLemmas.{allowed}
 use Rattle.elixir_terms.proofs.Meaning.{Wants}
@@ -32,7 +33,7 @@ use Rattle.elixir_terms.proofs.ShutLemmas.{is_single, joint_byte, single_placed,
 use Rattle.elixir_terms.proofs.SnagLemmas.{outer_key}
 use Rattle.elixir_terms.proofs.StartLemmas.{started_some}
 use Rattle.elixir_terms.proofs.StopLemmas.{Beyond, Stop, Repeats, stop_beyond}
-use Rattle.elixir_terms.proofs.TokenLaws.{begins_shorter}
+use Rattle.term_tokens.proofs.TokenLaws.{begins_shorter}
 use Rattle.elixir_terms.proofs.TrailLemmas.{Stood, Trail, rests, steps}
 
 -- what is within the limits has no more levels

@@ -2,37 +2,39 @@
 use Rattle.std.proofs.Common.{◌≡◌, ℕ, ◌+◌, ◌<◌, ◌≤◌, true, eqb, List, [], ◌∷◌, ◌++◌, Some, None, length, drop, take, map, refl, sym, ap, subst, arith}
 use Rattle.elixir_terms.specs.declared.state.State.{State}
 use Rattle.elixir_terms.specs.declared.state.State.TheVariants as state
-use Rattle.elixir_terms.specs.declared.term.Term.{Term}
-use Rattle.elixir_terms.specs.declared.token.Token.{Token}
-use Rattle.elixir_terms.specs.declared.token.Token.TheVariants.{Words}
-use Rattle.elixir_terms.specs.Lexing.{past_blank, inside_len, kind_of, word_term, words_from, words_before}
-use Rattle.elixir_terms.specs.Local.{takes}
+use Rattle.term_values.specs.declared.term.Term.{Term}
+use Rattle.term_tokens.specs.declared.token.Token.{Token}
+use Rattle.term_tokens.specs.declared.token.WordKind.{WordKind}
+use Rattle.term_tokens.specs.declared.token.WordKind.TheVariants.{Strings}
+use Rattle.term_tokens.specs.declared.token.Token.TheVariants.{Words}
+use Rattle.term_tokens.specs.Lexing.{past_blank, inside_len, kind_of, words_from, words_before}
+use Rattle.term_tokens.specs.Local.{takes}
 use Rattle.elixir_terms.specs.Machine.{expected}
 use Rattle.elixir_terms.specs.Refusals.{AreTooDeep, IsStarted, whole_token, open_words}
 use Rattle.elixir_terms.specs.Refusals as far
-use Rattle.elixir_terms.specs.Tokens.{Begins}
+use Rattle.term_tokens.specs.Tokens.{Begins}
 use Rattle.elixir_terms.specs.Within.{deepest}
 use Rattle.elixir_terms.proofs.EndLemmas.{state_ends}
 use Rattle.elixir_terms.proofs.OpenLemmas.{runs, start, runs_push, passed_back}
-use Rattle.elixir_terms.proofs.OptionLemmas.{none_some, some_same, cond_some}
+use Rattle.term_tokens.proofs.OptionLemmas.{none_some, some_same, cond_some}
 use Rattle.elixir_terms.proofs.PrefixLemmas.{AllSound, next_sound, token_shallow, takes_steps}
 use Rattle.elixir_terms.proofs.Runs.{first_wants}
 use Rattle.elixir_terms.proofs.SoundLemmas.{TokenShallow, need}
-use Rattle.elixir_terms.proofs.TokenLaws.{begins_one, begins_solid, begins_shorter}
-use Rattle.elixir_terms.proofs.TokenLemmas.{begins_first}
+use Rattle.term_tokens.proofs.TokenLaws.{begins_one, begins_solid, begins_shorter}
+use Rattle.term_tokens.proofs.TokenLemmas.{begins_first}
 
 -- what begins with `~w(` begins with words, if it begins with a token
-pub words_only : {text : List ℕ} {tok : Token} {after : List ℕ} (more : List ℕ) → text ≡ 126 ∷ 119 ∷ 40 ∷ more → Begins text tok after → (terms : List Term) × (tok ≡ Words terms)
+pub words_only : {text : List ℕ} {tok : Token} {after : List ℕ} (more : List ℕ) → text ≡ 126 ∷ 119 ∷ 40 ∷ more → Begins text tok after → (kind : WordKind) × (ws : List (List ℕ)) × (tok ≡ Words kind ws)
 words_only {tok = tok} {after = after} more e begins = by (take (inside_len more) more) (drop (inside_len more) more) (begins_first (subst (λ l. Begins l tok after) e begins))
   where
     same : (a : Token) (x : List ℕ) → ◌≡◌ {A = Token × List ℕ} (a, x) (tok, after) → tok ≡ a
     same a x e = sym (ap (λ p. p.0) e)
 
-    by : (inside l : List ℕ) → words_before inside l ≡ Some (tok, after) → (terms : List Term) × (tok ≡ Words terms)
+    by : (inside l : List ℕ) → words_before inside l ≡ Some (tok, after) → (kind : WordKind) × (ws : List (List ℕ)) × (tok ≡ Words kind ws)
     by inside [] h = absurd (none_some h)
     by inside (end ∷ text) h =
-        let c = cond_some (eqb end 41) (Some (Words (map (word_term (kind_of text).0) (words_from [] inside)), (kind_of text).1)) (tok, after) h in
-        (map (word_term (kind_of text).0) (words_from [] inside), same (Words (map (word_term (kind_of text).0) (words_from [] inside))) (kind_of text).1 (some_same c.1))
+        let c = cond_some (eqb end 41) (Some (Words (kind_of text).0 (words_from [] inside), (kind_of text).1)) (tok, after) h in
+        ((kind_of text).0, words_from [] inside, same (Words (kind_of text).0 (words_from [] inside)) (kind_of text).1 (some_same c.1))
 
 pub started_solid : {text : List ℕ} {tok : Token} → IsStarted text tok → past_blank text ≡ None
 started_solid (whole_token begins) = begins_solid begins
@@ -47,12 +49,12 @@ started_some (whole_token begins) = let short = begins_shorter begins in omega a
 started_some (open_words more e) = omega (arith, ap length e)
 
 -- words need as many levels whatever they are
-pub need_words : (s : State) (terms : List Term) → need s (Words terms) ≡ need s (Words [])
-need_words (state.Value holes) terms = refl
-need_words (state.Element frame holes) terms = refl
-need_words (state.Separator frame holes) terms = refl
-need_words (state.Arrow entry frame holes) terms = refl
-need_words (state.Done t) terms = refl
+pub need_words : (s : State) (kind : WordKind) (ws : List (List ℕ)) → need s (Words kind ws) ≡ need s (Words Strings [])
+need_words (state.Value holes) kind ws = refl
+need_words (state.Element frame holes) kind ws = refl
+need_words (state.Separator frame holes) kind ws = refl
+need_words (state.Arrow entry frame holes) kind ws = refl
+need_words (state.Done t) kind ws = refl
 
 -- what starts where a token was read is no deeper than that token
 pub started_like : {text : List ℕ} {tok other : Token} {after : List ℕ} (s : State) → Begins text tok after → takes (expected s) tok ≡ true → need s tok ≤ deepest → IsStarted text other → (takes (expected s) other ≡ true) × (need s other ≤ deepest)
@@ -61,7 +63,7 @@ started_like s begins t n (whole_token b) =
     (subst (λ x. takes (expected s) x ≡ true) one.0 t, subst (λ x. need s x ≤ deepest) one.0 n)
 started_like s begins t n (open_words more e) =
     let w = words_only more e begins in
-    (subst (λ x. takes (expected s) x ≡ true) w.1 t, subst (λ m. m ≤ deepest) (need_words s w.0) (subst (λ x. need s x ≤ deepest) w.1 n))
+    (subst (λ x. takes (expected s) x ≡ true) w.2 t, subst (λ m. m ≤ deepest) (need_words s w.0 w.1) (subst (λ x. need s x ≤ deepest) w.2 n))
 
 -- a token that leaves levels is not too deep
 pub small_not_deep : (tokens : List Token) (s : State) (tok : Token) → runs tokens start ≡ Some s → AllSound s → TokenShallow tok → takes (expected s) tok ≡ true → need s tok ≤ deepest → AreTooDeep (tokens ++ tok ∷ []) → ⊥

@@ -2,21 +2,22 @@
 use Rattle.std.proofs.Common.{◌≡◌, ℕ, Bool, true, false, List, [], ◌∷◌, ◌++◌, Option, Some, None, cond, refl, sym, ap, ◌∙◌, subst, append_assoc}
 use Rattle.std.specs.Prelude.{option_map}
 use Rattle.std.proofs.lemmas.List.{append-nil}
-use Rattle.elixir_terms.specs.declared.bracket.Bracket.{Bracket}
-use Rattle.elixir_terms.specs.declared.bracket.Bracket.TheVariants as bracket
+use Rattle.term_tokens.specs.declared.bracket.Bracket.{Bracket}
+use Rattle.term_tokens.specs.declared.bracket.Bracket.TheVariants as bracket
 use Rattle.elixir_terms.specs.declared.frame.Frame.{Frame}
 use Rattle.elixir_terms.specs.declared.frame.Hole.{Hole}
 use Rattle.elixir_terms.specs.declared.frame.Slot.{Slot}
 use Rattle.elixir_terms.specs.declared.frame.Slot.TheVariants as slot
 use Rattle.elixir_terms.specs.declared.state.State.{State}
 use Rattle.elixir_terms.specs.declared.state.State.TheVariants as state
-use Rattle.elixir_terms.specs.declared.term.Term.{Term}
-use Rattle.elixir_terms.specs.declared.term.Term.TheVariants as term
-use Rattle.elixir_terms.specs.declared.token.Closing.{Closing}
-use Rattle.elixir_terms.specs.declared.token.Closing.TheVariants.{Square, Curly}
-use Rattle.elixir_terms.specs.declared.token.Token.{Token}
-use Rattle.elixir_terms.specs.declared.token.Token.TheVariants.{Atom, Int, Str, Words, Key, Open, Close, Comma, Arrow}
-use Rattle.elixir_terms.specs.Grammar.{IsTerm, atom, integer, string, words, brackets, Inside, nothing, element, entry, keyword, Follows, end, comma, Pair, enclosed, closing_of}
+use Rattle.term_values.specs.declared.term.Term.{Term}
+use Rattle.term_values.specs.declared.term.Term.TheVariants as term
+use Rattle.term_tokens.specs.declared.token.Closing.{Closing}
+use Rattle.term_tokens.specs.declared.token.Closing.TheVariants.{Square, Curly}
+use Rattle.term_tokens.specs.declared.token.Token.{Token}
+use Rattle.term_tokens.specs.declared.token.Token.TheVariants.{Atom, Int, Str, Words, Key, Open, Close, Comma, Arrow}
+use Rattle.term_print.specs.Grammar.{IsTerm, atom, integer, string, words, brackets, Inside, nothing, element, entry, keyword, Follows, end, comma, enclosed, closing_of, word_list}
+use Rattle.term_values.specs.Views.{Pair}
 use Rattle.elixir_terms.specs.Machine.{is_closed_by, is_none, takes_key, takes_part, part_slot, placed_in, placed, begun, closed, at_part, at_element, at_separator, at_arrow, step}
 use Rattle.elixir_terms.proofs.Meaning.{InOrder, Continues, Values, Arrows, FilledIn, Filled, Wants, WantsNext}
 use Rattle.elixir_terms.proofs.StepForth.{order_nil}
@@ -51,7 +52,7 @@ begun_back : (u : Term) (tok : Token) (tokens : List Token) (holes : List Hole) 
 begun_back u (Atom name) tokens holes w = record { word = Atom name ∷ []; rest = tokens; t = term.Atom name; reads = atom; split = refl; outside = placed_back u (term.Atom name) holes tokens w }
 begun_back u (Int n) tokens holes w = record { word = Int n ∷ []; rest = tokens; t = term.Int n; reads = integer; split = refl; outside = placed_back u (term.Int n) holes tokens w }
 begun_back u (Str bytes) tokens holes w = record { word = Str bytes ∷ []; rest = tokens; t = term.Str bytes; reads = string; split = refl; outside = placed_back u (term.Str bytes) holes tokens w }
-begun_back u (Words terms) tokens holes w = record { word = Words terms ∷ []; rest = tokens; t = term.List terms; reads = words; split = refl; outside = placed_back u (term.List terms) holes tokens w }
+begun_back u (Words kind ws) tokens holes w = record { word = Words kind ws ∷ []; rest = tokens; t = word_list kind ws; reads = words; split = refl; outside = placed_back u (word_list kind ws) holes tokens w }
 begun_back u (Open kind) tokens holes w =
     record {
       word = Open kind ∷ (w.part ++ Close (closing_of kind) ∷ []);
@@ -178,7 +179,7 @@ element_back u frame holes (Key key) tokens w = key_back u frame holes key token
 element_back u frame holes (Atom name) tokens w = plain_back u frame holes (Atom name) tokens w
 element_back u frame holes (Int n) tokens w = plain_back u frame holes (Int n) tokens w
 element_back u frame holes (Str bytes) tokens w = plain_back u frame holes (Str bytes) tokens w
-element_back u frame holes (Words terms) tokens w = plain_back u frame holes (Words terms) tokens w
+element_back u frame holes (Words kind ws) tokens w = plain_back u frame holes (Words kind ws) tokens w
 element_back u frame holes (Open kind) tokens w = plain_back u frame holes (Open kind) tokens w
 element_back u frame holes Comma tokens w = plain_back u frame holes Comma tokens w
 element_back u frame holes Arrow tokens w = plain_back u frame holes Arrow tokens w
@@ -189,7 +190,7 @@ separator_back u frame holes Comma tokens w = record { part = Comma ∷ w.part; 
 separator_back u frame holes (Atom name) tokens w = absurd w
 separator_back u frame holes (Int n) tokens w = absurd w
 separator_back u frame holes (Str bytes) tokens w = absurd w
-separator_back u frame holes (Words terms) tokens w = absurd w
+separator_back u frame holes (Words kind ws) tokens w = absurd w
 separator_back u frame holes (Key key) tokens w = absurd w
 separator_back u frame holes (Open kind) tokens w = absurd w
 separator_back u frame holes Arrow tokens w = absurd w
@@ -201,7 +202,7 @@ arrow_back u key frame holes (Close closing) tokens w = absurd w
 arrow_back u key frame holes (Atom name) tokens w = absurd w
 arrow_back u key frame holes (Int n) tokens w = absurd w
 arrow_back u key frame holes (Str bytes) tokens w = absurd w
-arrow_back u key frame holes (Words terms) tokens w = absurd w
+arrow_back u key frame holes (Words kind ws) tokens w = absurd w
 arrow_back u key frame holes (Key name) tokens w = absurd w
 arrow_back u key frame holes (Open kind) tokens w = absurd w
 

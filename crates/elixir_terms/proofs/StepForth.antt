@@ -1,19 +1,20 @@
 -- What a state wants, its next state wants after the token.
 use Rattle.std.proofs.Common.{◌≡◌, ℕ, true, List, [], ◌∷◌, ◌++◌, Some, None, cond, refl, ◌∙◌, append_assoc}
 use Rattle.std.proofs.lemmas.List.{append-nil}
-use Rattle.elixir_terms.specs.declared.bracket.Bracket.{Bracket}
-use Rattle.elixir_terms.specs.declared.bracket.Bracket.TheVariants as bracket
+use Rattle.term_tokens.specs.declared.bracket.Bracket.{Bracket}
+use Rattle.term_tokens.specs.declared.bracket.Bracket.TheVariants as bracket
 use Rattle.elixir_terms.specs.declared.frame.Frame.{Frame}
 use Rattle.elixir_terms.specs.declared.frame.Hole.{Hole}
 use Rattle.elixir_terms.specs.declared.frame.Slot.{Slot}
 use Rattle.elixir_terms.specs.declared.frame.Slot.TheVariants as slot
 use Rattle.elixir_terms.specs.declared.state.State.{State}
 use Rattle.elixir_terms.specs.declared.state.State.TheVariants as state
-use Rattle.elixir_terms.specs.declared.term.Term.{Term}
-use Rattle.elixir_terms.specs.declared.term.Term.TheVariants as term
-use Rattle.elixir_terms.specs.declared.token.Token.{Token}
-use Rattle.elixir_terms.specs.declared.token.Token.TheVariants.{Atom, Int, Str, Words, Key, Open, Close, Comma, Arrow}
-use Rattle.elixir_terms.specs.Grammar.{IsTerm, atom, integer, string, words, brackets, Inside, nothing, element, entry, keyword, Follows, end, comma, Pair, enclosed, closing_of}
+use Rattle.term_values.specs.declared.term.Term.{Term}
+use Rattle.term_values.specs.declared.term.Term.TheVariants as term
+use Rattle.term_tokens.specs.declared.token.Token.{Token}
+use Rattle.term_tokens.specs.declared.token.Token.TheVariants.{Atom, Int, Str, Words, Key, Open, Close, Comma, Arrow}
+use Rattle.term_print.specs.Grammar.{IsTerm, atom, integer, string, words, brackets, Inside, nothing, element, entry, keyword, Follows, end, comma, enclosed, closing_of, word_list}
+use Rattle.term_values.specs.Views.{Pair}
 use Rattle.elixir_terms.specs.Machine.{is_closed_by, is_none, takes_key, takes_key_in, takes_part, part_slot, placed_in, placed, begun, closed, at_element, at_separator, at_arrow, step}
 use Rattle.elixir_terms.proofs.Meaning.{InOrder, Continues, Values, FilledIn, AfterEntry, AfterKeyword, Filled, Wants, WantsNext}
 
@@ -57,10 +58,10 @@ begun_forth u tok tokens rest holes (string {bytes = bytes}) e h =
     let e1 : tok ≡ Str bytes = cc in
     let e2 : tokens ≡ rest = cc in
     rw (e1, e2) (placed_forth u (term.Str bytes) holes rest h)
-begun_forth u tok tokens rest holes (words {terms = terms}) e h =
-    let e1 : tok ≡ Words terms = cc in
+begun_forth u tok tokens rest holes (words {kind = kind} {words = ws}) e h =
+    let e1 : tok ≡ Words kind ws = cc in
     let e2 : tokens ≡ rest = cc in
-    rw (e1, e2) (placed_forth u (term.List terms) holes rest h)
+    rw (e1, e2) (placed_forth u (word_list kind ws) holes rest h)
 begun_forth u tok tokens rest holes (brackets {kind = kind} {inside = inside} {items = items} {entries = entries} {keywords = keywords} {t = t} reads encloses) e h =
     let e1 : tok ≡ Open kind = cc in
     let e2 : tokens ≡ (inside ++ Close (closing_of kind) ∷ []) ++ rest = cc in
@@ -71,7 +72,7 @@ pub plain_at : (tok : Token) (tokens : List Token) {word : List Token} (rest : L
 plain_at tok tokens rest frame holes (atom {name = name}) e = let e1 : tok ≡ Atom name = cc in rw e1 refl
 plain_at tok tokens rest frame holes (integer {n = n}) e = let e1 : tok ≡ Int n = cc in rw e1 refl
 plain_at tok tokens rest frame holes (string {bytes = bytes}) e = let e1 : tok ≡ Str bytes = cc in rw e1 refl
-plain_at tok tokens rest frame holes (words {terms = terms}) e = let e1 : tok ≡ Words terms = cc in rw e1 refl
+plain_at tok tokens rest frame holes (words {kind = kind} {words = ws}) e = let e1 : tok ≡ Words kind ws = cc in rw e1 refl
 plain_at tok tokens rest frame holes (brackets {kind = kind} {inside = inside} reads encloses) e = let e1 : tok ≡ Open kind = cc in rw e1 refl
 
 key_taken : (kind : Bracket) (items : List Term) (entries keywords : List Pair) (p : Pair) (more : List Pair) (t : Term) → enclosed kind (items ++ []) entries (keywords ++ p ∷ more) ≡ Some t → takes_key_in kind items ≡ true

@@ -6,35 +6,36 @@ use Rattle.std.proofs.lemmas.List.{append-nil, length-append, take-append-drop, 
 use Rattle.std.proofs.lemmas.Bool.{cases_lt}
 use Rattle.std.proofs.Math.Nat.{eq-or-lt_of_le}
 use Rattle.std.proofs.Math.Seq.{take-append-add}
-use Rattle.elixir_terms.specs.declared.bracket.Bracket.TheVariants as bracket
-use Rattle.elixir_terms.specs.declared.error.TermCause.{TermCause}
-use Rattle.elixir_terms.specs.declared.error.TermCause.TheVariants as cause
+use Rattle.term_tokens.specs.declared.bracket.Bracket.TheVariants as bracket
+use Rattle.term_tokens.specs.declared.cause.TermCause.{TermCause}
+use Rattle.term_tokens.specs.declared.cause.TermCause.TheVariants as cause
 use Rattle.elixir_terms.specs.declared.state.State.{State}
 use Rattle.elixir_terms.specs.declared.state.State.TheVariants as state
-use Rattle.elixir_terms.specs.declared.term.Term.{Term}
-use Rattle.elixir_terms.specs.declared.token.Token.{Token}
-use Rattle.elixir_terms.specs.declared.token.Token.TheVariants.{Int, Words, Key, Open}
-use Rattle.elixir_terms.specs.Grammar.{IsTerm}
-use Rattle.elixir_terms.specs.Lexing.{past_blank}
-use Rattle.elixir_terms.specs.Local as near
-use Rattle.elixir_terms.specs.Local.{IsOpening, IsCapital, is_plain, IsFree, takes, IsPart, rank, Locally}
+use Rattle.term_values.specs.declared.term.Term.{Term}
+use Rattle.term_tokens.specs.declared.token.Token.{Token}
+use Rattle.term_tokens.specs.declared.token.WordKind.TheVariants.{Strings}
+use Rattle.term_tokens.specs.declared.token.Token.TheVariants.{Int, Words, Key, Open}
+use Rattle.term_print.specs.Grammar.{IsTerm}
+use Rattle.term_tokens.specs.Lexing.{past_blank}
+use Rattle.term_tokens.specs.Local as near
+use Rattle.term_tokens.specs.Local.{IsOpening, IsCapital, is_plain, IsFree, takes, IsPart, rank, Locally}
 use Rattle.elixir_terms.specs.Machine.{step, expected}
-use Rattle.elixir_terms.specs.Names.{is_from, is_name_start}
+use Rattle.term_tokens.specs.Names.{is_from, is_name_start}
 use Rattle.elixir_terms.specs.Prefixes.{AreOpen, Leads, none as no_token, token as one_token, IsOpenText, StandsAt, TakesKey, TakesEither}
 use Rattle.elixir_terms.specs.Refusals.{AreTooDeep, Pairs, KeyAhead, IsOneOf, IsStarted, whole_token, open_words, Holds, charlist, sigil, heredoc, bits, interpolation, interpolated_words, float, alias_alone, alias, escape, escape_in_words, atom_utf8, key_utf8, number, deep, repeated, trailing, trailing_colon, unclosed, unexpected}
-use Rattle.elixir_terms.specs.Tokens.{Begins, AreTokens}
-use Rattle.elixir_terms.proofs.BlankLemmas.{blanks_stop}
-use Rattle.elixir_terms.proofs.CalmLemmas.{decimal_begins}
-use Rattle.elixir_terms.proofs.FollowLemmas.{Like, same}
+use Rattle.term_tokens.specs.Tokens.{Begins, AreTokens}
+use Rattle.term_tokens.proofs.BlankLemmas.{blanks_stop}
+use Rattle.term_tokens.proofs.CalmLemmas.{decimal_begins}
+use Rattle.term_tokens.proofs.FollowLemmas.{Like, same}
 use Rattle.elixir_terms.proofs.OpenLemmas.{runs, start, runs_append, open_runs, after_some, step_taken, passes, term_expected, key_expected}
-use Rattle.elixir_terms.proofs.OptionLemmas.{none_some, some_same}
+use Rattle.term_tokens.proofs.OptionLemmas.{none_some, some_same}
 use Rattle.elixir_terms.proofs.PlaceLemmas.{leads_shorter, Past, Meets, within, there, behind, meets}
 use Rattle.elixir_terms.proofs.PrefixLemmas.{AllSound, start_sound, trail_sound, step_open, part_open}
 use Rattle.elixir_terms.proofs.Runs.{wants_end, wants_first}
 use Rattle.elixir_terms.proofs.ShutLemmas.{is_single, is_joint, joint_byte, IsPlaced, single_placed, second_joint, placed_joins, solid_like}
 use Rattle.elixir_terms.proofs.StartLemmas.{started_solid, started_shallow, started_like, small_not_deep}
-use Rattle.elixir_terms.proofs.TokenLaws.{begins_solid, begins_shorter}
-use Rattle.elixir_terms.proofs.TokenLemmas.{start_not}
+use Rattle.term_tokens.proofs.TokenLaws.{begins_solid, begins_shorter}
+use Rattle.term_tokens.proofs.TokenLemmas.{start_not}
 use Rattle.elixir_terms.proofs.TrailLemmas.{Trail, trail_runs, trail_fronts}
 
 -- what holds near a place between two tokens
@@ -213,7 +214,7 @@ deep_beyond {text = text} {rest = rest} {tokens = tokens} {s = s} {at = at} {k =
           where
             no_start : {x : Token} (placed_ next : State) (byte : ℕ) (more : List ℕ) → IsPlaced placed_ → b.after ≡ byte ∷ more → joint_byte byte ≡ false → IsStarted place x → place ≡ b.after → step placed_ x ≡ Some next → Beyond (at + k) why here cause.TooDeep
             no_start {x = x} placed_ next byte more p e unlike (whole_token {after = after} begins) same_ stepped = absurd (second_joint placed_ next byte more p e unlike (subst (λ l. Begins l x after) same_ begins) stepped)
-            no_start placed_ next byte more p e unlike (open_words text e_) same_ stepped = absurd (not_joint placed_ next (Words []) p refl stepped)
+            no_start placed_ next byte more p e unlike (open_words text e_) same_ stepped = absurd (not_joint placed_ next (Words Strings []) p refl stepped)
 
 -- a whole term, and more
 pub whole_last : (others : List Token) (t : Term) → IsTerm others t → runs others start ≡ Some (state.Done t)

@@ -1,19 +1,19 @@
 -- The tokens that were read at the front of a text.
 use Rattle.std.proofs.Common.{◌≡◌, ℕ, ◌<◌, ◌≤◌, List, [], ◌∷◌, ◌++◌, Some, None, length, refl, sym, ap, ◌∙◌, subst, arith, append_assoc}
-use Rattle.elixir_terms.specs.declared.error.TermCause.{TermCause}
+use Rattle.term_tokens.specs.declared.cause.TermCause.{TermCause}
 use Rattle.elixir_terms.specs.declared.state.State.{State}
-use Rattle.elixir_terms.specs.declared.token.Token.{Token}
-use Rattle.elixir_terms.specs.Lexing.{past_blank, IsNarrow}
-use Rattle.elixir_terms.specs.Local.{IsFree, Locally}
+use Rattle.term_tokens.specs.declared.token.Token.{Token}
+use Rattle.term_tokens.specs.Lexing.{past_blank, IsNarrow}
+use Rattle.term_tokens.specs.Local.{IsFree, Locally}
 use Rattle.elixir_terms.specs.Machine.{step, expected, IsNew}
 use Rattle.elixir_terms.specs.Prefixes.{Leads, none as no_token, token as one_token}
-use Rattle.elixir_terms.specs.Tokens.{Begins, Blanks, none, blank, comment, line_end, AreTokens}
+use Rattle.term_tokens.specs.Tokens.{Begins, Blanks, none, blank, comment, line_end, AreTokens}
 use Rattle.elixir_terms.specs.Within.{deepest}
-use Rattle.elixir_terms.proofs.BlankLemmas.{blank_past, blanks_after, blanks_meet, blanks_join}
-use Rattle.elixir_terms.proofs.FollowLemmas.{Like, same, like_after, moves, shifts}
+use Rattle.term_tokens.proofs.BlankLemmas.{blank_past, blanks_after, blanks_meet, blanks_join}
+use Rattle.term_tokens.proofs.FollowLemmas.{Like, same, like_after, moves, shifts}
 use Rattle.elixir_terms.proofs.OpenLemmas.{runs}
 use Rattle.elixir_terms.proofs.SoundLemmas.{need}
-use Rattle.elixir_terms.proofs.TokenLaws.{begins_one, begins_solid, begins_shorter}
+use Rattle.term_tokens.proofs.TokenLaws.{begins_one, begins_solid, begins_shorter}
 
 -- a token that was read in a state, with nothing to refuse at its place
 pub record Stood (s : State) (begin : List ℕ) (tok : Token) (after : List ℕ) (next : State) : Type 0 where

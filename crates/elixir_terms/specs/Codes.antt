@@ -5,7 +5,7 @@ use Rattle.std.specs.Str.{bytes_eq}
 use Rattle.std.specs.BTreeSet.{BTreeSet, contains}
 use Rattle.mx_base.specs.Order.{text_cmp}
 use Rattle.elixir_terms.specs.declared.frame.Frame.{Frame}
-use Rattle.elixir_terms.specs.declared.term.Term.{Term}
+use Rattle.term_values.specs.declared.term.Term.{Term}
 use Rattle.elixir_terms.specs.KeyCode.{term_code}
 
 -- the keys that were read in a bracket

@@ -1,10 +1,10 @@
 -- A term as bytes, so that no term's bytes begin those of another one.
 use Rattle.std.specs.Prelude.{ℕ, suc, List, [], ◌∷◌, ◌++◌, ℤ, pos, negsuc}
 use Rattle.std.specs.Int.Digits.{digits_of}
-use Rattle.elixir_terms.specs.declared.term.Term.{Term}
-use Rattle.elixir_terms.specs.declared.term.Term.TheOpen.{Term-F}
-use Rattle.elixir_terms.specs.declared.term.Term.TheFolds.{fold-Term}
-use Rattle.elixir_terms.specs.Grammar.{Pair}
+use Rattle.term_values.specs.declared.term.Term.{Term}
+use Rattle.term_values.specs.declared.term.Term.TheOpen.{Term-F}
+use Rattle.term_values.specs.declared.term.Term.TheFolds.{fold-Term}
+use Rattle.term_values.specs.Views.{Pair}
 
 -- bytes, each after a 1
 abbrev pub marked : List ℕ → List ℕ

@@ -1,8 +1,8 @@
 -- Answers of what also keeps limits.
 use Rattle.std.specs.Prelude.{◌≡◌, ℕ, Option, Some, None, Result, Ok, Err, IsFalse}
-use Rattle.elixir_terms.specs.declared.error.Fault.{Fault}
-use Rattle.elixir_terms.specs.declared.error.TermCause.TheVariants.{TooDeep}
-use Rattle.elixir_terms.specs.Refused.{is_memory}
+use Rattle.term_tokens.specs.declared.fault.Fault.{Fault}
+use Rattle.term_tokens.specs.declared.cause.TermCause.TheVariants.{TooDeep}
+use Rattle.term_tokens.specs.Refused.{is_memory}
 
 -- the value where the limit on levels is kept, or a fault at the place where it isn't or there is none, unless
 -- memory ran out

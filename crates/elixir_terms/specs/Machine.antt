@@ -1,22 +1,23 @@
 -- The states of the reader between tokens. What a text spells is said without them (Grammar.antt).
 use Rattle.std.specs.Prelude.{ℕ, Bool, true, false, not, List, [], ◌∷◌, ◌++◌, length, map, Option, Some, None, option_map, if◌then◌else◌}
-use Rattle.elixir_terms.specs.declared.bracket.Bracket.{Bracket}
-use Rattle.elixir_terms.specs.declared.bracket.Bracket.TheVariants as bracket
-use Rattle.elixir_terms.specs.declared.expected.Expected.{Expected}
+use Rattle.term_tokens.specs.declared.bracket.Bracket.{Bracket}
+use Rattle.term_tokens.specs.declared.bracket.Bracket.TheVariants as bracket
+use Rattle.term_tokens.specs.declared.expected.Expected.{Expected}
 use Rattle.elixir_terms.specs.declared.frame.Frame.{Frame}
 use Rattle.elixir_terms.specs.declared.frame.Hole.{Hole}
 use Rattle.elixir_terms.specs.declared.frame.Slot.{Slot}
 use Rattle.elixir_terms.specs.declared.frame.Slot.TheVariants as slot
 use Rattle.elixir_terms.specs.declared.state.State.{State}
 use Rattle.elixir_terms.specs.declared.state.State.TheVariants as state
-use Rattle.elixir_terms.specs.declared.term.Term.{Term}
-use Rattle.elixir_terms.specs.declared.term.Term.TheVariants as term
-use Rattle.elixir_terms.specs.declared.token.Closing.{Closing}
-use Rattle.elixir_terms.specs.declared.token.Closing.TheVariants.{Square, Curly}
-use Rattle.elixir_terms.specs.declared.token.Token.{Token}
-use Rattle.elixir_terms.specs.declared.token.Token.TheVariants.{Atom, Int, Str, Words, Key, Open, Close, Comma, Arrow}
+use Rattle.term_values.specs.declared.term.Term.{Term}
+use Rattle.term_values.specs.declared.term.Term.TheVariants as term
+use Rattle.term_tokens.specs.declared.token.Closing.{Closing}
+use Rattle.term_tokens.specs.declared.token.Closing.TheVariants.{Square, Curly}
+use Rattle.term_tokens.specs.declared.token.Token.{Token}
+use Rattle.term_tokens.specs.declared.token.Token.TheVariants.{Atom, Int, Str, Words, Key, Open, Close, Comma, Arrow}
 use Rattle.elixir_terms.specs.Codes.{keys_in}
-use Rattle.elixir_terms.specs.Grammar.{Pair, enclosed, closing_of}
+use Rattle.term_print.specs.Grammar.{enclosed, closing_of, word_list}
+use Rattle.term_values.specs.Views.{Pair}
 use Rattle.elixir_terms.specs.Levels.{HasRoom, Enters}
 use Rattle.elixir_terms.specs.Within.{IsNone, Differ}
 
@@ -83,7 +84,7 @@ abbrev pub begun : Token → List Hole → Option State
 begun (Atom name) holes = Some (placed (term.Atom name) holes)
 begun (Int n) holes = Some (placed (term.Int n) holes)
 begun (Str bytes) holes = Some (placed (term.Str bytes) holes)
-begun (Words terms) holes = Some (placed (term.List terms) holes)
+begun (Words kind words) holes = Some (placed (word_list kind words) holes)
 begun (Open kind) holes = Some (state.Element (empty kind) holes)
 begun token holes = None
 
@@ -140,7 +141,7 @@ KeysDiffer bracket.Map entries keywords = Differ (map (λ p. p.0) (entries ++ ke
 
 -- a token where a term is wanted is within the limit on levels
 abbrev pub BeginsWell : Token → List Hole → Type 0
-BeginsWell (Words terms) holes = HasRoom holes
+BeginsWell (Words kind words) holes = HasRoom holes
 BeginsWell (Open kind) holes = HasRoom holes
 BeginsWell token holes = Unit {0}
 

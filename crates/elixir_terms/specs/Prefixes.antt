@@ -1,10 +1,10 @@
 -- Texts that may be gone on with.
 use Rattle.std.specs.Prelude.{◌≡◌, ℕ, ◌+◌, ◌⊎◌, List, [], ◌∷◌, ◌++◌, length, pos}
-use Rattle.elixir_terms.specs.declared.term.Term.{Term}
-use Rattle.elixir_terms.specs.declared.token.Token.{Token}
-use Rattle.elixir_terms.specs.declared.token.Token.TheVariants.{Int, Key}
-use Rattle.elixir_terms.specs.Grammar.{IsTerm}
-use Rattle.elixir_terms.specs.Tokens.{AreTokens, Begins, Blanks}
+use Rattle.term_values.specs.declared.term.Term.{Term}
+use Rattle.term_tokens.specs.declared.token.Token.{Token}
+use Rattle.term_tokens.specs.declared.token.Token.TheVariants.{Int, Key}
+use Rattle.term_print.specs.Grammar.{IsTerm}
+use Rattle.term_tokens.specs.Tokens.{AreTokens, Begins, Blanks}
 
 -- the tokens are the first of a term, or all of one: each may stand after those before it. The limits don't count
 abbrev pub AreOpen : List Token → Type 0

@@ -1,16 +1,17 @@
 -- What the reader answers of one token.
 use Rattle.std.specs.Prelude.{◌≡◌, ℕ, List, [], ◌∷◌, length, Some, IsTrue, set}
-use Rattle.elixir_terms.specs.declared.error.TermCause.{TermCause}
-use Rattle.elixir_terms.specs.declared.error.TermCause.TheVariants.{TooDeep, DuplicateKey, TrailingText}
+use Rattle.term_tokens.specs.declared.cause.TermCause.{TermCause}
+use Rattle.term_tokens.specs.declared.cause.TermCause.TheVariants.{TooDeep, DuplicateKey, TrailingText}
 use Rattle.elixir_terms.specs.declared.state.State.{State}
 use Rattle.elixir_terms.specs.declared.state.State.TheVariants.{Element, Done}
-use Rattle.elixir_terms.specs.declared.term.Term.{Term}
-use Rattle.elixir_terms.specs.declared.token.Token.{Token}
-use Rattle.elixir_terms.specs.declared.token.Token.TheVariants.{Words}
-use Rattle.elixir_terms.specs.Lexing.{IsNarrow}
-use Rattle.elixir_terms.specs.Local.{IsFree, IsFirst, Locally, takes}
+use Rattle.term_values.specs.declared.term.Term.{Term}
+use Rattle.term_tokens.specs.declared.token.Token.{Token}
+use Rattle.term_tokens.specs.declared.token.WordKind.TheVariants.{Strings}
+use Rattle.term_tokens.specs.declared.token.Token.TheVariants.{Words}
+use Rattle.term_tokens.specs.Lexing.{IsNarrow}
+use Rattle.term_tokens.specs.Local.{IsFree, IsFirst, Locally, takes}
 use Rattle.elixir_terms.specs.Machine.{step, expected, HasLevels, NewKeyword}
-use Rattle.elixir_terms.specs.Tokens.{Begins}
+use Rattle.term_tokens.specs.Tokens.{Begins}
 
 -- a token stands at the front of the text, is one that is expected in the state, and nothing holds of the text there
 pub record Stands (s : State) (text : List ℕ) (token : Token) (after : List ℕ) : Type 0 where
@@ -30,11 +31,11 @@ pub record Moves (s : State) (text : List ℕ) (next : State) (after : List ℕ)
 
 -- words that begin there are within the limit on levels, where a term may stand
 abbrev pub HasRoomAt : State → List ℕ → Type 0
-HasRoomAt s text = (more : List ℕ) → text ≡ 126 ∷ 119 ∷ 40 ∷ more → IsTrue (expected s).term → HasLevels s (Words [])
+HasRoomAt s text = (more : List ℕ) → text ≡ 126 ∷ 119 ∷ 40 ∷ more → IsTrue (expected s).term → HasLevels s (Words Strings [])
 
 -- words begin there where a term may stand, and are beyond the limit on levels
 abbrev pub BeginsDeepWords : State → List ℕ → Type 0
-BeginsDeepWords s text = (more : List ℕ) × (text ≡ 126 ∷ 119 ∷ 40 ∷ more) × IsTrue (expected s).term × (HasLevels s (Words []) → ⊥)
+BeginsDeepWords s text = (more : List ℕ) × (text ≡ 126 ∷ 119 ∷ 40 ∷ more) × IsTrue (expected s).term × (HasLevels s (Words Strings []) → ⊥)
 
 -- the text's term isn't whole, and no words are too deep there
 abbrev pub IsOpenAt : State → List ℕ → Type 0
@@ -45,7 +46,7 @@ pub data Stops : State → List ℕ → ℕ → TermCause → Type 0 where
   trailing : {s : State} {text : List ℕ} (t : Term) → s ≡ Done t → Stops s text 0 TrailingText
   lexed : {s : State} {text : List ℕ} {k : ℕ} {why : TermCause} → ((t : Term) → s ≡ Done t → ⊥) → HasRoomAt s text → IsFirst (expected s) text k why → Stops s text k why
   deep : {s : State} {text after : List ℕ} (token : Token) → Stands s text token after → (HasLevels s token → ⊥) → Stops s text 0 TooDeep
-  deep_words : {s : State} {text : List ℕ} (more : List ℕ) → text ≡ 126 ∷ 119 ∷ 40 ∷ more → IsTrue (expected s).term → (HasLevels s (Words []) → ⊥) → Stops s text 0 TooDeep
+  deep_words : {s : State} {text : List ℕ} (more : List ℕ) → text ≡ 126 ∷ 119 ∷ 40 ∷ more → IsTrue (expected s).term → (HasLevels s (Words Strings []) → ⊥) → Stops s text 0 TooDeep
   again : {s : State} {text after : List ℕ} (token : Token) → Stands s text token after → HasLevels s token → (NewKeyword s token → ⊥) → Stops s text 0 DuplicateKey
 
 -- the places where the last key began in each open bracket, with this one where a key may begin

@@ -2,23 +2,25 @@
 use Rattle.std.specs.Prelude.{◌≡◌, ◌≢◌, ℕ, suc, ◌+◌, ◌<◌, ◌≤◌, ◌⊎◌, List, [], ◌∷◌, ◌++◌, length, take, None, IsTrue, IsFalse, ℤ}
 use Rattle.std.specs.Char.{is_ascii_digit}
 use Rattle.std.specs.Str.{IsUtf8, IsValidUpTo}
-use Rattle.elixir_terms.specs.declared.bracket.Bracket.TheVariants as bracket
-use Rattle.elixir_terms.specs.declared.error.Feature.TheVariants.{Charlist, Sigil, Heredoc, Interpolation, Float, Alias, Bits}
-use Rattle.elixir_terms.specs.declared.error.TermCause.{TermCause}
-use Rattle.elixir_terms.specs.declared.error.TermCause.TheVariants as cause
-use Rattle.elixir_terms.specs.declared.term.Term.{Term}
-use Rattle.elixir_terms.specs.declared.term.Term.TheVariants as term
-use Rattle.elixir_terms.specs.declared.token.Token.{Token}
-use Rattle.elixir_terms.specs.declared.token.Token.TheVariants.{Int, Words, Key, Open, Comma, Arrow}
-use Rattle.elixir_terms.specs.Grammar.{IsTerm, Pair}
-use Rattle.elixir_terms.specs.Lexing.{past_blank, IsWide}
-use Rattle.elixir_terms.specs.Local.{IsOpening, IsCapital, IsDecimal, IsNoEscape, IsFloat, IsFree, is_plain, rank}
-use Rattle.elixir_terms.specs.Names.{is_name, is_blank}
+use Rattle.term_tokens.specs.declared.bracket.Bracket.TheVariants as bracket
+use Rattle.term_tokens.specs.declared.cause.Feature.TheVariants.{Charlist, Sigil, Heredoc, Interpolation, Float, Alias, Bits}
+use Rattle.term_tokens.specs.declared.cause.TermCause.{TermCause}
+use Rattle.term_tokens.specs.declared.cause.TermCause.TheVariants as cause
+use Rattle.term_values.specs.declared.term.Term.{Term}
+use Rattle.term_values.specs.declared.term.Term.TheVariants as term
+use Rattle.term_tokens.specs.declared.token.Token.{Token}
+use Rattle.term_tokens.specs.declared.token.WordKind.TheVariants.{Strings}
+use Rattle.term_tokens.specs.declared.token.Token.TheVariants.{Int, Words, Key, Open, Comma, Arrow}
+use Rattle.term_print.specs.Grammar.{IsTerm}
+use Rattle.term_values.specs.Views.{Pair}
+use Rattle.term_tokens.specs.Lexing.{past_blank, IsWide}
+use Rattle.term_tokens.specs.Local.{IsOpening, IsCapital, IsDecimal, IsNoEscape, IsFloat, IsFree, is_plain, rank}
+use Rattle.term_tokens.specs.Names.{is_name, is_blank}
 use Rattle.elixir_terms.specs.Prefixes.{AreOpen, Leads, IsOpenText, StandsAt, TakesTerm, TakesKey, TakesEither}
-use Rattle.elixir_terms.specs.Strings.{Quoted}
-use Rattle.elixir_terms.specs.Tokens.{AreTokens, Begins, ends_name, is_colon}
+use Rattle.term_tokens.specs.Strings.{Quoted}
+use Rattle.term_tokens.specs.Tokens.{AreTokens, Begins, ends_name, is_colon}
 use Rattle.elixir_terms.specs.Within.{longest, deepest}
-use Rattle.elixir_terms.specs.Words.{is_inside}
+use Rattle.term_tokens.specs.Words.{is_inside}
 
 mutual
   -- the term has at most so many levels
@@ -58,7 +60,7 @@ IsOneOf t (other ∷ others) = (t ≡ other) ⊎ IsOneOf t others
 pub data IsStarted : List ℕ → Token → Type 0 where
   whole_token : {text after : List ℕ} {token : Token} → Begins text token after → IsStarted text token
   -- `~w(`
-  open_words : {text : List ℕ} (more : List ℕ) → text ≡ 126 ∷ 119 ∷ 40 ∷ more → IsStarted text (Words [])
+  open_words : {text : List ℕ} (more : List ℕ) → text ≡ 126 ∷ 119 ∷ 40 ∷ more → IsStarted text (Words Strings [])
 
 -- the term ends there: no colon directly follows it where it is a string or a bare atom
 abbrev pub IsEnded : List ℕ → List Token → List ℕ → Type 0

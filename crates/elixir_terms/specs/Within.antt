@@ -1,8 +1,8 @@
 -- The limits of what is read.
 use Rattle.std.specs.Prelude.{◌≡◌, ℕ, suc, ◌^◌, ◌≤◌, List, [], ◌∷◌, length, map, ℤ, pos, neg_ℤ, ◌≤ℤ◌, ◌<ℤ◌}
-use Rattle.elixir_terms.specs.declared.term.Term.{Term}
-use Rattle.elixir_terms.specs.declared.term.Term.TheVariants.{Atom, Int, Str, List as Listed, Tuple, Map}
-use Rattle.elixir_terms.specs.Grammar.{Pair}
+use Rattle.term_values.specs.declared.term.Term.{Term}
+use Rattle.term_values.specs.declared.term.Term.TheVariants.{Atom, Int, Str, List as Listed, Tuple, Map}
+use Rattle.term_values.specs.Views.{Pair}
 
 -- the longest text, in bytes
 abbrev pub longest : ℕ

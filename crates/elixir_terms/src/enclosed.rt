@@ -1,11 +1,13 @@
 // The terms that brackets enclose.
 ghost use Rattle.std.specs.Prelude.{◌≡◌, [], ◌++◌, map, IfOk};
-ghost use Rattle.elixir_terms.specs.declared.bracket.Bracket.TheVariants as bracket;
-ghost use Rattle.elixir_terms.specs.Grammar.{enclosed, pair_tuple};
+ghost use Rattle.term_tokens.specs.declared.bracket.Bracket.TheVariants as bracket;
+ghost use Rattle.term_print.specs.Grammar.{enclosed, pair_tuple, word_list, word_term};
 
-use crate::term::{Pairs, Term, Terms};
+use mx_base::{Bytes, Text};
 use sqlite_items::Items;
 use std::alloc::{AllocError, Global};
+use term_tokens::WordKind;
+use term_values::{Pairs, Term, Terms};
 
 /// A list of elements and then keywords. It takes no entries.
 pub fn list(
@@ -73,4 +75,26 @@ fn tuples(alloc: Global, mut pairs: Pairs) -> Result<Terms, AllocError>
     }
     terms.reverse();
     Ok(Items::from_vec(terms))
+}
+
+/// The list of words.
+pub fn word_list(alloc: Global, kind: WordKind, mut words: Items<Bytes>) -> Result<Term, AllocError>
+    ensures { IfOk result (λ list. list ≡ word_list kind words) }
+{
+    let mut terms = Vec::new(alloc);
+    while let Some(word) = words.pop() {
+        terms.push(word_term(kind, word))?;
+    }
+    terms.reverse();
+    Ok(Term::List(Items::from_vec(terms)))
+}
+
+/// A word as a term.
+fn word_term(kind: WordKind, word: Bytes) -> Term
+    ensures { result ≡ word_term kind word }
+{
+    match kind {
+        WordKind::Strings => Term::Str(word),
+        WordKind::Atoms => Term::Atom(Text::from_vec(word.into_vec())),
+    }
 }

@@ -1,20 +1,19 @@
 // Open brackets, with what was read in them.
 ghost use Rattle.std.specs.Prelude.{◌≡◌, ◌≤◌, [], IfOk};
-ghost use Rattle.elixir_terms.specs.Grammar.{closing_of, enclosed};
+ghost use Rattle.term_print.specs.Grammar.{closing_of, enclosed};
 ghost use Rattle.elixir_terms.specs.Levels.{cost, keyword_cost};
 ghost use Rattle.elixir_terms.specs.Machine.{empty, is_closed_by, part_slot, takes_key, takes_part};
 
-use crate::bracket::Bracket;
 use crate::enclosed::{list, mapping, tuple};
 use crate::opened::Opened;
-use crate::term::{Pairs, Term, Terms};
-use crate::token::Closing;
 use mx_base::Text;
 use sqlite_items::Items;
 use std::alloc::{AllocError, Global};
+use term_tokens::{Bracket, Closing};
+use term_values::{Pairs, Term, Terms};
 
 /// An open bracket, and what was read in it: elements or entries, and then keywords.
-#[derive(Debug, Drop)]
+#[derive(Drop)]
 pub struct Frame {
     pub bracket: Bracket,
     pub items: Terms,
@@ -23,7 +22,7 @@ pub struct Frame {
 }
 
 /// What a term in a bracket is.
-#[derive(Debug, Drop)]
+#[derive(Drop)]
 pub enum Slot {
     /// An element of a list or a tuple.
     Element,
@@ -36,55 +35,53 @@ pub enum Slot {
 }
 
 /// A place in an open bracket where a term is wanted.
-#[derive(Debug, Drop)]
+#[derive(Drop)]
 pub struct Hole {
     pub frame: Opened,
     pub slot: Slot,
 }
 
-impl Bracket {
-    /// Whether it is closed so.
-    pub fn is_closed_by(self, closing: Closing) -> bool
-        ensures { result ≡ is_closed_by self closing }
-    {
-        match (self, closing) {
-            (Bracket::List, Closing::Square) => true,
-            (Bracket::Tuple, Closing::Curly) => true,
-            (Bracket::Map, Closing::Curly) => true,
-            _ => false,
-        }
+/// Whether the bracket is closed so.
+pub fn is_closed_by(bracket: Bracket, closing: Closing) -> bool
+    ensures { result ≡ is_closed_by bracket closing }
+{
+    match (bracket, closing) {
+        (Bracket::List, Closing::Square) => true,
+        (Bracket::Tuple, Closing::Curly) => true,
+        (Bracket::Map, Closing::Curly) => true,
+        _ => false,
     }
+}
 
-    /// How it is closed.
-    pub fn closing(self) -> Closing
-        ensures { result ≡ closing_of self }
-    {
-        match self {
-            Bracket::List => Closing::Square,
-            Bracket::Tuple | Bracket::Map => Closing::Curly,
-        }
+/// How the bracket is closed.
+pub fn closing_of(bracket: Bracket) -> Closing
+    ensures { result ≡ closing_of bracket }
+{
+    match bracket {
+        Bracket::List => Closing::Square,
+        Bracket::Tuple | Bracket::Map => Closing::Curly,
     }
+}
 
-    /// What a term without a keyword's key is in it.
-    pub fn part_slot(self) -> Slot
-        ensures { result ≡ part_slot self }
-    {
-        match self {
-            Bracket::List | Bracket::Tuple => Slot::Element,
-            Bracket::Map => Slot::EntryKey,
-        }
+/// What a term without a keyword's key is in the bracket.
+pub fn part_slot(bracket: Bracket) -> Slot
+    ensures { result ≡ part_slot bracket }
+{
+    match bracket {
+        Bracket::List | Bracket::Tuple => Slot::Element,
+        Bracket::Map => Slot::EntryKey,
     }
+}
 
-    /// How many levels a keyword in it is made of, from the term that the bracket makes down to the pair.
-    fn keyword_cost(self) -> u8
-        ensures value { result ≡ keyword_cost self }
-        ensures few { result ≤ 3 }
-    {
-        match self {
-            Bracket::List => 2,
-            Bracket::Tuple => 3,
-            Bracket::Map => 1,
-        }
+/// How many levels a keyword is made of, from the term that the bracket makes down to the pair.
+fn keyword_cost(bracket: Bracket) -> u8
+    ensures value { result ≡ keyword_cost bracket }
+    ensures few { result ≤ 3 }
+{
+    match bracket {
+        Bracket::List => 2,
+        Bracket::Tuple => 3,
+        Bracket::Map => 1,
     }
 }
 
@@ -142,7 +139,7 @@ impl Hole {
         ensures few { result ≤ 3 }
     {
         match self.slot {
-            Slot::Keyword(_) => self.frame.bracket().keyword_cost(),
+            Slot::Keyword(_) => keyword_cost(self.frame.bracket()),
             Slot::Element | Slot::EntryKey | Slot::EntryValue(_) => 1,
         }
     }

@@ -5,17 +5,17 @@ ghost use Rattle.elixir_terms.specs.Machine.{is_none};
 ghost use Rattle.elixir_terms.specs.Limits.{GivesWhere};
 ghost use Rattle.elixir_terms.specs.Within.{deepest};
 
-use crate::error::{Fault, TermCause};
 use crate::frame::Hole;
 use crate::stack::Stack;
 use std::alloc::Global;
 use std::marker::Model;
+use term_tokens::{Fault, TermCause};
 
 /// The deepest term that is read, in levels of lists, tuples and maps.
 const DEEPEST: u8 = 64;
 
 /// The holes in the open brackets, the innermost first, which are at most 64 levels deep.
-#[derive(Debug, Drop)]
+#[derive(Drop)]
 pub struct Holes {
     open: Stack<Hole>,
     depth: u8,
@@ -26,7 +26,7 @@ impl Model for Holes {
     ghost use Rattle.elixir_terms.specs.declared.frame.Hole.{Hole};
     ghost use Rattle.elixir_terms.specs.Levels.{levels};
     ghost use Rattle.elixir_terms.specs.Within.{deepest};
-    ghost use Rattle.elixir_terms.specs.contracts.term.Term as term;
+    ghost use Rattle.term_values.specs.contracts.term.Term as term;
     ghost use Rattle.std.specs.Coded.{codes};
 
     ghost Value = { List Hole };

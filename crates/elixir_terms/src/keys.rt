@@ -3,9 +3,9 @@ ghost use Rattle.std.specs.Prelude.{◌≡◌, [], ◌∷◌, ◌++◌, map, IfO
 ghost use Rattle.std.specs.Int.Digits.{digits_of};
 ghost use Rattle.elixir_terms.specs.KeyCode.{term_code, integer_code, bytes_code, parts_code, pairs_code, pair_codes, marked};
 
-use crate::term::Term;
 use mx_base::Bytes;
 use std::alloc::{AllocError, Global};
+use term_values::Term;
 
 // What a code begins with.
 const ATOM: u8 = 0;

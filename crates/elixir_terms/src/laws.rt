@@ -1,9 +1,9 @@
 // What holds of every text.
 ghost use Rattle.std.specs.Prelude.{◌≡◌, ℕ, List};
-ghost use Rattle.elixir_terms.specs.declared.error.TermCause.{TermCause};
-ghost use Rattle.elixir_terms.specs.declared.term.Term.{Term};
+ghost use Rattle.term_tokens.specs.declared.cause.TermCause.{TermCause};
+ghost use Rattle.term_values.specs.declared.term.Term.{Term};
 ghost use Rattle.elixir_terms.specs.Refusals.{IsRefusal};
-ghost use Rattle.elixir_terms.specs.Spells.{Spells};
+ghost use Rattle.term_print.specs.Spells.{Spells};
 ghost use Rattle.elixir_terms.specs.Within.{Within};
 
 /// No text is refused in two ways.

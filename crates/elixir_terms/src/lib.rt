@@ -11,35 +11,20 @@
 //! bracket that closes, and `opened` tells whether a map repeats a key.
 #![tactic(auto)]
 
-mod blanks;
-mod bracket;
-mod bytes;
 mod enclosed;
 mod error;
-mod expected;
 mod frame;
 mod holes;
 mod keys;
 mod laws;
-mod lexer;
-mod names;
-mod numbers;
 mod opened;
-mod printer;
 mod reading;
-mod scalars;
-mod signs;
 mod stack;
 mod state;
-mod strings;
-mod stuck;
-mod term;
-mod token;
-mod views;
-mod words;
 
-pub use error::{Feature, TermCause, TermError};
+pub use error::TermError;
 pub use laws::{no_refusal, one_refusal};
-pub use printer::print;
 pub use reading::{one_reading, read};
-pub use term::{Pairs, Term, Terms};
+pub use term_print::print;
+pub use term_tokens::{Feature, TermCause};
+pub use term_values::{Pairs, Term, Terms};

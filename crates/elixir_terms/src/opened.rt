@@ -1,20 +1,20 @@
 // Open brackets, with the codes of their keys.
 ghost use Rattle.std.specs.Prelude.{◌≡◌, IfOk, IsFalse, ◌↔◌};
-ghost use Rattle.elixir_terms.specs.Grammar.{enclosed};
+ghost use Rattle.term_print.specs.Grammar.{enclosed};
 ghost use Rattle.elixir_terms.specs.Machine.{empty, takes_key, takes_part, with_item, with_entry, with_keyword, NewIn};
 ghost use Rattle.elixir_terms.specs.Codes.{keys_in};
 
-use crate::bracket::Bracket;
 use crate::frame::Frame;
 use crate::keys::code_of;
-use crate::term::Term;
 use mx_base::{Bytes, Text};
 use std::alloc::{AllocError, Global};
 use std::collections::BTreeSet;
 use std::marker::Model;
+use term_tokens::Bracket;
+use term_values::Term;
 
 /// An open bracket, and in a map's the codes of the keys that were read in it.
-#[derive(Debug, Drop)]
+#[derive(Drop)]
 pub struct Opened {
     frame: Frame,
     known: BTreeSet<Bytes>,
@@ -23,7 +23,7 @@ pub struct Opened {
 impl Model for Opened {
     ghost use Rattle.std.specs.Coded.{codes};
     ghost use Rattle.elixir_terms.specs.declared.frame.Frame.{Frame};
-    ghost use Rattle.elixir_terms.specs.contracts.term.Term as term;
+    ghost use Rattle.term_values.specs.contracts.term.Term as term;
     ghost use Rattle.elixir_terms.specs.Codes.{HoldsCodes};
 
     ghost Value = { Frame };

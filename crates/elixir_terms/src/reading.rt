@@ -1,26 +1,25 @@
 // The reader of a whole text.
 ghost use Rattle.std.specs.Prelude.{MatchOption, ◌≡◌, ℕ, ◌+◌, ◌≤◌, ◌<◌, [], List, None, length, IsTrue, IsFalse, IfOk, IfErr};
 ghost use Rattle.std.specs.Str.{IsUtf8};
-ghost use Rattle.elixir_terms.specs.declared.error.TermCause.TheVariants.{Unclosed};
+ghost use Rattle.term_tokens.specs.declared.cause.TermCause.TheVariants.{Unclosed};
 ghost use Rattle.elixir_terms.specs.declared.state.State.TheVariants.{Done};
-ghost use Rattle.elixir_terms.specs.declared.term.Term.{Term};
-ghost use Rattle.elixir_terms.specs.declared.token.Token.{Token};
-ghost use Rattle.elixir_terms.specs.Lexing.{past_blank};
-ghost use Rattle.elixir_terms.specs.Local.{takes};
+ghost use Rattle.term_values.specs.declared.term.Term.{Term};
+ghost use Rattle.term_tokens.specs.declared.token.Token.{Token};
+ghost use Rattle.term_tokens.specs.Lexing.{past_blank};
+ghost use Rattle.term_tokens.specs.Local.{takes};
 ghost use Rattle.elixir_terms.specs.Machine.{expected, step};
 ghost use Rattle.elixir_terms.specs.Reading.{BeginsDeepWords, HasRoomAt, IsOpenAt, Moves, Stops, noted};
 ghost use Rattle.elixir_terms.specs.Refusals.{IsRefusal};
-ghost use Rattle.elixir_terms.specs.Refused.{is_memory};
-ghost use Rattle.elixir_terms.specs.Spells.{Spells};
+ghost use Rattle.term_tokens.specs.Refused.{is_memory};
+ghost use Rattle.term_print.specs.Spells.{Spells};
 ghost use Rattle.elixir_terms.specs.Within.{longest, Within};
 
-use crate::blanks::skip_blanks;
-use crate::error::{Fault, TermCause, TermError};
+use crate::error::TermError;
 use crate::holes::Holes;
-use crate::lexer::first_token;
 use crate::state::State;
-use crate::term::Term;
 use std::alloc::Global;
+use term_tokens::{Fault, TermCause, first_token, skip_blanks};
+use term_values::Term;
 
 /// The longest text that is read, in bytes.
 const LONGEST: usize = 4_194_304;

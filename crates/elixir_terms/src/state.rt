@@ -1,24 +1,23 @@
 // What the reader knows between two tokens.
 ghost use Rattle.std.specs.Prelude.{◌≡◌, ◌≤◌, ℕ, List, [], IfOk, IsTrue, IsFalse, ◌↔◌};
 ghost use Rattle.elixir_terms.specs.declared.frame.Slot.TheVariants.{Keyword, EntryValue};
-ghost use Rattle.elixir_terms.specs.declared.token.Token.TheVariants.{Words};
+ghost use Rattle.term_tokens.specs.declared.token.Token.TheVariants.{Words};
+ghost use Rattle.term_tokens.specs.declared.token.WordKind.TheVariants.{Strings};
 ghost use Rattle.elixir_terms.specs.Levels.{Enters};
 ghost use Rattle.elixir_terms.specs.Machine.{placed, placed_in, begun, closed, at_part, at_key, at_element, at_separator, at_arrow, step, expected, depth, NewKeyword, NewEntry, BeginsWell, PartWell, ElementFits, HasLevels};
 ghost use Rattle.elixir_terms.specs.Limits.{GivesWhere};
 
-use crate::bracket::Bracket;
-use crate::error::{Fault, TermCause};
-use crate::expected::Expected;
-use crate::frame::{Hole, Slot};
+use crate::enclosed::word_list;
+use crate::frame::{Hole, Slot, closing_of, is_closed_by, part_slot};
 use crate::holes::Holes;
 use crate::opened::Opened;
-use crate::term::Term;
-use crate::token::{Closing, Token};
 use mx_base::Text;
 use std::alloc::{AllocError, Global};
+use term_tokens::{Bracket, Closing, Expected, Fault, TermCause, Token};
+use term_values::Term;
 
 /// What the reader knows between two tokens.
-#[derive(Debug, Drop)]
+#[derive(Drop)]
 pub enum State {
     /// A term is wanted: the text's own, or one for the innermost hole.
     Value {
@@ -68,11 +67,11 @@ impl State {
             State::Element { frame, .. } => Expected {
                 term: frame.takes_part(),
                 key: frame.takes_key(),
-                closing: Some(frame.bracket().closing()),
+                closing: Some(closing_of(frame.bracket())),
                 ..none
             },
             State::Separator { frame, .. } => Expected {
-                closing: Some(frame.bracket().closing()),
+                closing: Some(closing_of(frame.bracket())),
                 comma: true,
                 ..none
             },
@@ -98,8 +97,8 @@ impl State {
     /// Whether words are within the limit on levels here, where a term may stand.
     #[tactic(auto, using(crate::proofs::DepthLemmas::inside_well, crate::proofs::DepthLemmas::well_inside))]
     pub fn has_room_for_words(&self) -> bool
-        ensures room { IsTrue result → IsTrue (expected self.now).term → HasLevels self.now (Words []) }
-        ensures deep { IsFalse result → IsTrue (expected self.now).term × (HasLevels self.now (Words []) → ⊥) }
+        ensures room { IsTrue result → IsTrue (expected self.now).term → HasLevels self.now (Words Strings []) }
+        ensures deep { IsFalse result → IsTrue (expected self.now).term × (HasLevels self.now (Words Strings []) → ⊥) }
     {
         match self {
             State::Value { holes } => holes.has_room(),
@@ -199,12 +198,16 @@ fn begun(alloc: Global, token: Token, holes: Holes, left: usize) -> Result<State
         Token::Atom(name) => Ok(placed(alloc, Term::Atom(name), holes)?),
         Token::Int(number) => Ok(placed(alloc, Term::Int(number), holes)?),
         Token::Str(bytes) => Ok(placed(alloc, Term::Str(bytes), holes)?),
-        Token::Words(terms) if holes.has_room() => Ok(placed(alloc, Term::List(terms), holes)?),
+        Token::Words(kind, words) if holes.has_room() => Ok(placed(
+            alloc,
+            word_list(alloc, kind, words)?,
+            holes,
+        )?),
         Token::Open(bracket) if holes.has_room() => Ok(State::Element {
             frame: Opened::new(alloc, bracket),
             holes,
         }),
-        Token::Words(_) | Token::Open(_) => Err(Fault {
+        Token::Words(..) | Token::Open(_) => Err(Fault {
             left,
             cause: TermCause::TooDeep,
         }),
@@ -222,7 +225,7 @@ fn closed(
 ) -> Result<State, Fault>
     ensures { GivesWhere (Unit {0}) left result (closed frame closing holes) }
 {
-    if !frame.bracket().is_closed_by(closing) {
+    if !is_closed_by(frame.bracket(), closing) {
         return Err(unexpected(left));
     }
     match frame.enclosed(alloc)? {
@@ -244,7 +247,7 @@ fn at_part(
     if !frame.takes_part() {
         return Err(unexpected(left));
     }
-    let slot = frame.bracket().part_slot();
+    let slot = part_slot(frame.bracket());
     let holes = holes.entered(Hole { frame, slot }, left)?;
     begun(alloc, token, holes, left)
 }

@@ -1,7 +1,6 @@
 -- Bytes that stand for a package have no fault, and stand for one alone.
 use Rattle.std.proofs.Common.{◌≡◌, ℕ, ◌+◌, ◌*◌, ◌<◌, ◌≤◌, true, Option, Some, None, List, [], ◌∷◌, ◌++◌, length, take, refl, sym, ap, ◌∙◌, subst, inl, inr, ⊎_elim, ◌⊎◌, arith}
 use Rattle.std.specs.List.{list_all}
-use Rattle.std.specs.Str.{IsUtf8}
 use Rattle.std.proofs.lemmas.List.{length-append, append_assoc, take_all}
 use Rattle.hex_messages.specs.declared.error.FieldName.{FieldName}
 use Rattle.hex_messages.specs.declared.error.WireCause.{WireCause}
@@ -11,7 +10,10 @@ use Rattle.hex_messages.specs.declared.package.Package.{Package}
 use Rattle.hex_messages.specs.Varint.{goes_on, number_of, IsVarint}
 use Rattle.hex_messages.specs.Fields.{Payload, Varint, Fixed64, Length, Fixed32, Field, Fields, SpellsField, SpellsPayload, wire_type, greatest_number}
 use Rattle.hex_messages.specs.Fields as fields
-use Rattle.hex_messages.specs.Schema.{Kind, Text, Reason, Inner, Known, field_at, wire_of}
+use Rattle.hex_messages.specs.declared.schema.Kind.{Kind}
+use Rattle.hex_messages.specs.declared.schema.Kind.TheVariants.{Text, Reason, Inner}
+use Rattle.hex_messages.specs.declared.schema.Known.{Known}
+use Rattle.hex_messages.specs.Schema.{field_at, wire_of}
 use Rattle.hex_messages.specs.Good.{AllGood, IsOf, IsWhole, Merged, Misses, has, absent_in}
 use Rattle.hex_messages.specs.Good as good
 use Rattle.hex_messages.specs.Stands.{bytes_in, Stands}
@@ -19,7 +21,8 @@ use Rattle.hex_messages.specs.Faults.{VarintFault, ValueFault, IsWire, IsKey, Fi
 use Rattle.hex_messages.specs.Faults as fault
 use Rattle.hex_messages.proofs.VarintLemmas.{whole_split, whole_stops, one_varint}
 use Rattle.hex_messages.proofs.OneReading.{one_field, one_fields, not_empty, key_apart, type_small}
-use Rattle.hex_messages.proofs.FinishLemmas.{has_last}
+use Rattle.hex_messages.proofs.GoodLemmas.{wire_typed, kind_at, text_inv, reason_inv, inner_inv, good_first, good_rest}
+use Rattle.hex_messages.proofs.ValueLemmas.{has_last}
 
 -- where a varint begins, none is faulty
 pub varint_apart : {text : List ℕ} {cause : WireCause} (front rest : List ℕ) (n : ℕ) → IsVarint front n → text ≡ front ++ rest → VarintFault text cause → ⊥
@@ -74,18 +77,6 @@ pub record Stood (m : Message) (text : List ℕ) : Type 0 where
   pub good : AllGood m (field ∷ [])
   pub split : text ≡ front ++ rest
 
-wire_typed : (k : Kind) (p : Payload) → IsOf k p → wire_type p ≡ wire_of k
-wire_typed k p (good.text h) = refl
-wire_typed k p good.bytes = refl
-wire_typed k p good.truth = refl
-wire_typed k p (good.reason h) = refl
-wire_typed k p (good.inner h) = refl
-
--- a field that may stand is of its kind
-pub kind_at : {m : Message} (f : Field) (k : Known) → AllGood m (f ∷ []) → field_at m f.number ≡ Some k → IsOf k.kind f.payload
-kind_at f k (good.known {k = other} e v all) at = let same : other ≡ k = cc in subst (λ (x : Known). IsOf x.kind f.payload) same v
-kind_at f k (good.unknown e all) at = absurd cc
-
 -- the key that a stood field begins with
 record Keyed (m : Message) (text : List ℕ) (number wire : ℕ) (rest : List ℕ) : Type 0 where
   field : Field
@@ -115,15 +106,6 @@ wire_is (Varint n) w e = inl (sym e)
 wire_is (Fixed64 x) w e = inr (inl (sym e))
 wire_is (Length x) w e = inr (inr (inl (sym e)))
 wire_is (Fixed32 x) w e = inr (inr (inr (sym e)))
-
-text_inv : (b : List ℕ) → IsOf Text (Length b) → IsUtf8 b
-text_inv b (good.text h) = h
-
-reason_inv : (n : ℕ) → IsOf Reason (Varint n) → n ≤ 4
-reason_inv n (good.reason h) = h
-
-inner_inv : (m : Message) (b : List ℕ) → IsOf (Inner m) (Length b) → IsWhole m b
-inner_inv m b (good.inner h) = h
 
 -- what stands at the front is this field
 same_kind : {m : Message} {text : List ℕ} (f : Field) (front rest : List ℕ) (k : Known) (kind : Kind) → Stood m text → SpellsField front f → text ≡ front ++ rest → field_at m f.number ≡ Some k → k.kind ≡ kind → IsOf kind f.payload
@@ -157,14 +139,6 @@ faulty_some (fault.value {bytes = bytes} {rest = rest} {number = number} {wire =
 faulty_some (fault.utf8 {front = front} {bytes = bytes} rest {number = number} s at kind bad split) e = not_empty (record { number = number; payload = Length bytes }) front rest s (sym split ∙ e)
 faulty_some (fault.reason {front = front} rest {number = number} {n = n} s at kind big split) e = not_empty (record { number = number; payload = Varint n }) front rest s (sym split ∙ e)
 faulty_some (fault.inner {bytes = bytes} front rest {number = number} s at kind f split) e = not_empty (record { number = number; payload = Length bytes }) (front ++ bytes) rest s (sym split ∙ e)
-
-pub good_first : {m : Message} {f : Field} {fs : List Field} → AllGood m (f ∷ fs) → AllGood m (f ∷ [])
-good_first (good.known e v all) = good.known e v good.none
-good_first (good.unknown e all) = good.unknown e good.none
-
-pub good_rest : {m : Message} {f : Field} {fs : List Field} → AllGood m (f ∷ fs) → AllGood m fs
-good_rest (good.known e v all) = all
-good_rest (good.unknown e all) = all
 
 -- behind fields that begin a text, nothing stands or the next one
 pub next_field : {m : Message} {text front : List ℕ} {fs gs : List Field} (rest : List ℕ) → Fields text fs → AllGood m fs → Fields front gs → text ≡ front ++ rest → (rest ≡ []) ⊎ Stood m rest

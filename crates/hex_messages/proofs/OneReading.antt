@@ -4,11 +4,14 @@ use Rattle.std.proofs.lemmas.List.{append_assoc}
 use Rattle.hex_messages.specs.declared.message.Message.TheVariants as message
 use Rattle.hex_messages.specs.Varint.{is_whole}
 use Rattle.hex_messages.specs.Fields.{Payload, Varint, Fixed64, Length, Fixed32, Field, Fields, none, more, SpellsField, SpellsPayload, wire_type}
-use Rattle.hex_messages.specs.Schema.{Kind, Known, Text, Inner, field_at, retired_number}
+use Rattle.hex_messages.specs.declared.schema.Kind.{Kind}
+use Rattle.hex_messages.specs.declared.schema.Kind.TheVariants.{Text, Inner}
+use Rattle.hex_messages.specs.declared.schema.Known.{Known}
+use Rattle.hex_messages.specs.Schema.{field_at, retired_number}
 use Rattle.hex_messages.specs.Good.{AllGood, IsOf, IsWhole, Merged}
 use Rattle.hex_messages.specs.Good as good
 use Rattle.hex_messages.proofs.VarintLemmas.{one_varint}
-use Rattle.hex_messages.proofs.FieldsLemmas.{good_append}
+use Rattle.hex_messages.proofs.GoodLemmas.{good_append}
 
 -- fronts of one length
 pub same_fronts : (f g r s : List ℕ) → length f ≡ length g → f ++ r ≡ g ++ s → (f ≡ g) × (r ≡ s)

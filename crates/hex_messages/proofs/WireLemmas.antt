@@ -3,16 +3,16 @@ use Rattle.std.proofs.Common.{◌≡◌, ◌≢◌, ℕ, ◌+◌, ◌*◌, ◌/�
 use Rattle.std.proofs.lemmas.List.{append_assoc}
 use Rattle.hex_messages.specs.declared.error.WireCause.{WireCause}
 use Rattle.hex_messages.specs.declared.error.WireCause.TheVariants.{BadKey, Truncated, WrongWire}
-use Rattle.hex_messages.specs.declared.error.FieldName.{FieldName}
 use Rattle.hex_messages.specs.declared.message.Message.{Message}
 use Rattle.hex_messages.specs.Varint.{IsVarint}
 use Rattle.hex_messages.specs.Fields.{Payload, Length}
-use Rattle.hex_messages.specs.Schema.{Known, field_at, wire_of}
+use Rattle.hex_messages.specs.declared.schema.Known.{Known}
+use Rattle.hex_messages.specs.Schema.{field_at, wire_of}
 use Rattle.hex_messages.specs.Faults.{VarintFault, ValueFault, bytes, IsKey, IsOwnWire, FieldFault, key, bad_key, wrong_wire, value}
-use Rattle.hex_messages.specs.Reading.{BeginsVarint, BeginsKey, BeginsValue, BeginsField, known_of}
+use Rattle.hex_messages.specs.Reading.{BeginsVarint, BeginsKey, BeginsValue, BeginsField}
 
 -- a key with its number and its wire type apart
-key_parts : (n number code : ℕ) → number ≡ n / 8 → code ≡ n % 8 → number * 8 + code ≡ n
+pub key_parts : (n number code : ℕ) → number ≡ n / 8 → code ≡ n % 8 → number * 8 + code ≡ n
 key_parts n number code a b = let q : n ≡ 8 * (n / 8) + n % 8 = omega arith in omega arith
 
 pub bad_key_at : (text rest : List ℕ) (n : ℕ) → BeginsVarint text n rest → (IsKey (n / 8) (n % 8) → ⊥) → (m : Message) → FieldFault m text 0 BadKey
@@ -35,36 +35,14 @@ length_at text after front rest n b len e = record {
   split = b.split ∙ (ap (λ l. b.front ++ l) e ∙ sym (append_assoc b.front front rest));
 }
 
-abbrev first : FieldName × ℕ → FieldName
-first pair = pair.0
+pub wrong_at : (m : Message) (text rest : List ℕ) (number wire : ℕ) (k : Known) → BeginsKey text number wire rest → Some k ≡ field_at m number → (wire ≡ wire_of k.kind → ⊥) → FieldFault m text 0 (WrongWire k.name)
+wrong_at m text rest number wire k b e other = wrong_wire rest b.varint b.key (sym e) other b.split
 
-abbrev second : FieldName × ℕ → ℕ
-second pair = pair.1
+pub own_some : (o : Option Known) (k : Known) (wire : ℕ) → Some k ≡ o → wire ≡ wire_of k.kind → IsOwnWire o wire
+own_some o k wire e same = subst (λ x. IsOwnWire x wire) e same
 
-pub known_back : (o : Option Known) (called : FieldName) (wire : ℕ) → Some (called, wire) ≡ known_of o → (k : Known) × (o ≡ Some k) × (k.name ≡ called) × (wire_of k.kind ≡ wire)
-known_back None called wire e = absurd cc
-known_back (Some k) called wire e =
-    let pair : (called, wire) ≡ (k.name, wire_of k.kind) = cc in
-    (k, refl, sym (ap first pair), sym (ap second pair))
-
-pub none_back : (o : Option Known) → None ≡ known_of o → o ≡ None
-none_back None e = refl
-none_back (Some k) e = absurd cc
-
-pub wrong_at : (m : Message) (text rest : List ℕ) (number wire own : ℕ) (called : FieldName) → BeginsKey text number wire rest → Some (called, own) ≡ known_of (field_at m number) → (own ≡ wire → ⊥) → FieldFault m text 0 (WrongWire called)
-wrong_at m text rest number wire own called b e other =
-    let k = known_back (field_at m number) called own e in
-    subst (λ n. FieldFault m text 0 (WrongWire n)) k.2 (wrong_wire rest {k = k.0} b.varint b.key k.1 (λ same. other (sym k.3 ∙ sym same)) b.split)
-
-pub own_some : (o : Option Known) (called : FieldName) (own wire : ℕ) → Some (called, own) ≡ known_of o → own ≡ wire → IsOwnWire o wire
-own_some None called own wire e same = tt
-own_some (Some k) called own wire e same =
-    let pair : (called, own) ≡ (k.name, wire_of k.kind) = cc in
-    sym same ∙ ap second pair
-
-pub own_none : (o : Option Known) (wire : ℕ) → None ≡ known_of o → IsOwnWire o wire
-own_none None wire e = tt
-own_none (Some k) wire e = absurd cc
+pub own_none : (o : Option Known) (wire : ℕ) → None ≡ o → IsOwnWire o wire
+own_none o wire e = subst (λ x. IsOwnWire x wire) e tt
 
 pub value_at : (m : Message) (text rest : List ℕ) (number wire : ℕ) (cause : WireCause) → BeginsKey text number wire rest → IsOwnWire (field_at m number) wire → ValueFault wire rest cause → FieldFault m text 0 cause
 value_at m text rest number wire cause b own fault = value b.varint b.key own fault b.split

@@ -11,7 +11,7 @@ use Rattle.hex_messages.specs.Fields.{Varint, Field}
 use Rattle.hex_messages.specs.Stands.{reason_number}
 use Rattle.hex_messages.specs.Canonical.{IsShortest, WritesField, WritesFields, none, more, bytes_field, perhaps, truth_field, WritesDependency, dependency_fields, retired_fields, WritesRelease, release_fields, Writes}
 use Rattle.hex_messages.specs.Writing.{AppendsVarint, Appends, AppendsEach, AppendsRetired}
-use Rattle.hex_messages.proofs.PartLemmas.{each_push}
+use Rattle.hex_messages.proofs.ValueLemmas.{each_push}
 
 some_byte : (other : List ℕ) → is_whole other ≡ true → 1 ≤ length other
 some_byte [] w = absurd cc

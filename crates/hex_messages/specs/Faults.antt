@@ -11,7 +11,9 @@ use Rattle.hex_messages.specs.declared.message.Message.TheVariants as message
 use Rattle.hex_messages.specs.Varint.{goes_on, is_whole, number_of, IsVarint}
 use Rattle.hex_messages.specs.Fields.{Varint, Length, Field, Fields, SpellsField, greatest_number}
 use Rattle.hex_messages.specs.Good.{AllGood, Misses}
-use Rattle.hex_messages.specs.Schema.{Text, Reason, Inner, Known, field_at, wire_of}
+use Rattle.hex_messages.specs.declared.schema.Kind.TheVariants.{Text, Reason, Inner}
+use Rattle.hex_messages.specs.declared.schema.Known.{Known}
+use Rattle.hex_messages.specs.Schema.{field_at, wire_of}
 
 -- no varint begins here, and why: ten bytes all go on, or the number is too great, or the end comes first
 pub data VarintFault : List ℕ → WireCause → Type 0 where

@@ -7,7 +7,10 @@ use Rattle.hex_messages.specs.declared.error.FieldName.TheVariants as name
 use Rattle.hex_messages.specs.declared.message.Message.{Message}
 use Rattle.hex_messages.specs.declared.message.Message.TheVariants as message
 use Rattle.hex_messages.specs.Fields.{Payload, Varint, Length, Field, Fields}
-use Rattle.hex_messages.specs.Schema.{Kind, Text, Bytes, Truth, Reason, Inner, Known, field_at, Required, required, retired_number}
+use Rattle.hex_messages.specs.declared.schema.Kind.{Kind}
+use Rattle.hex_messages.specs.declared.schema.Kind.TheVariants.{Text, Bytes, Truth, Reason, Inner}
+use Rattle.hex_messages.specs.declared.schema.Known.{Known}
+use Rattle.hex_messages.specs.Schema.{field_at, Required, required, retired_number}
 
 -- a field with this number stands there
 abbrev pub has : ℕ → List Field → Bool

@@ -6,6 +6,6 @@ pub mod Stands
 pub mod Faults
 pub mod Canonical
 pub mod Reading
-pub mod Taking
-pub mod Holding
+pub mod Finding
+pub mod Checking
 pub mod Writing

@@ -1,16 +1,14 @@
 -- What the steps of the reader promise.
-use Rattle.std.specs.Prelude.{◌≡◌, ℕ, ◌+◌, ◌*◌, List, ◌++◌, Option, option_map}
-use Rattle.hex_messages.specs.declared.error.FieldName.{FieldName}
+use Rattle.std.specs.Prelude.{◌≡◌, ℕ, ◌+◌, ◌*◌, List, ◌++◌}
 use Rattle.hex_messages.specs.declared.message.Message.{Message}
 use Rattle.hex_messages.specs.declared.schema.WireType.{WireType}
 use Rattle.hex_messages.specs.declared.schema.WireType.TheVariants as wire
-use Rattle.hex_messages.specs.declared.schema.Known as rust
 use Rattle.hex_messages.specs.declared.wire.Value.{Value}
 use Rattle.hex_messages.specs.declared.wire.Value.TheVariants as value
 use Rattle.hex_messages.specs.declared.wire.Wire.{Wire}
 use Rattle.hex_messages.specs.Varint.{IsVarint}
 use Rattle.hex_messages.specs.Fields.{Payload, Varint, Fixed64, Length, Fixed32, Field, SpellsField, SpellsPayload, wire_type}
-use Rattle.hex_messages.specs.Schema.{Known, field_at, wire_of}
+use Rattle.hex_messages.specs.Schema.{field_at}
 use Rattle.hex_messages.specs.Faults.{IsKey, IsOwnWire}
 
 -- the text begins with a varint of the number, and the rest follows it
@@ -25,13 +23,6 @@ wire_code wire.Varint = 0
 wire_code wire.Fixed64 = 1
 wire_code wire.Length = 2
 wire_code wire.Fixed32 = 5
-
--- a known field's name and the number of its wire type, as the code has them and as the schema does
-abbrev pub told : Option rust.Known → Option (FieldName × ℕ)
-told known = option_map (λ k. (k.name, wire_code k.wire)) known
-
-abbrev pub known_of : Option Known → Option (FieldName × ℕ)
-known_of known = option_map (λ k. (k.name, wire_of k.kind)) known
 
 abbrev pub payload_of : Value → Payload
 payload_of (value.Varint n) = Varint n

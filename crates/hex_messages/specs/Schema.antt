@@ -4,21 +4,11 @@ use Rattle.hex_messages.specs.declared.error.FieldName.{FieldName}
 use Rattle.hex_messages.specs.declared.error.FieldName.TheVariants as name
 use Rattle.hex_messages.specs.declared.message.Message.{Message}
 use Rattle.hex_messages.specs.declared.message.Message.TheVariants as message
+use Rattle.hex_messages.specs.declared.schema.Kind.{Kind}
+use Rattle.hex_messages.specs.declared.schema.Kind.TheVariants.{Text, Bytes, Truth, Reason, Inner}
+use Rattle.hex_messages.specs.declared.schema.Known.{Known}
 
--- what a value is: a text, bytes of any kind, a truth value, a reason, or a message within
-pub data Kind : Type 0 where
-  Text : Kind
-  Bytes : Kind
-  Truth : Kind
-  Reason : Kind
-  Inner : (inner : Message) → Kind
-
--- a known field: its name and its kind
-pub record Known : Type 0 where
-  pub name : FieldName
-  pub kind : Kind
-
-abbrev known : FieldName → Kind → Option Known
+abbrev pub known : FieldName → Kind → Option Known
 known name kind = Some (record { name = name; kind = kind })
 
 -- the known field with this number

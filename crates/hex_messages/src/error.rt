@@ -4,17 +4,18 @@ ghost use Rattle.std.specs.Prelude.{◌≡◌};
 use std::alloc::AllocError;
 
 /// The first fault of a message, and where it is.
-#[derive(Clone, Copy, Debug, PartialEq, Eq, Drop)]
+#[derive(Clone, Copy, Debug)]
 pub struct WireError {
     /// The place of the faulty field's key, in bytes from the beginning of the whole input. Where a field is
-    /// missing, the end of its message.
+    /// missing, the end of its message; a missing reason is told at the end of the release, since all
+    /// retirements of a release are one message. 0 where memory ran out.
     pub at: u64,
     /// What is wrong there.
     pub cause: WireCause,
 }
 
 /// What is wrong with a message.
-#[derive(Clone, Copy, Debug, PartialEq, Eq, Drop)]
+#[derive(Clone, Copy, Debug)]
 pub enum WireCause {
     /// A field's number is 0 or above 536,870,911, or its wire type is 3, 4, 6 or 7.
     BadKey,
@@ -35,7 +36,7 @@ pub enum WireCause {
 }
 
 /// The known fields.
-#[derive(Clone, Copy, Debug, PartialEq, Eq, Drop)]
+#[derive(Clone, Copy, Debug)]
 pub enum FieldName {
     /// Of a package.
     Releases,
@@ -73,17 +74,6 @@ impl WireError {
         at: 0,
         cause: WireCause::OutOfMemory,
     };
-
-    /// A field is missing at this end of its message.
-    pub(crate) fn missing(field: FieldName, end: u64) -> WireError
-        ensures at { result.at ≡ end }
-        ensures cause { result.cause ≡ WireCause.Missing field }
-    {
-        WireError {
-            at: end,
-            cause: WireCause::Missing(field),
-        }
-    }
 }
 
 impl From<AllocError> for WireError {

@@ -1,7 +1,7 @@
 // The kinds of messages.
 
 /// The messages of a package.
-#[derive(Clone, Copy, Debug, PartialEq, Eq, Drop)]
+#[derive(Clone, Copy)]
 pub enum Message {
     Package,
     Release,

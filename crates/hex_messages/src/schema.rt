@@ -1,14 +1,17 @@
 // The known fields of each message.
-ghost use Rattle.std.specs.Prelude.{◌≡◌, ◌↔◌, option_map, IsTrue, MatchOption};
-ghost use Rattle.hex_messages.specs.Schema.{field_at};
+ghost use Rattle.std.specs.Prelude.{◌≡◌, ◌↔◌, IsTrue, MatchOption};
+ghost use Rattle.hex_messages.specs.Schema.{known, field_at, wire_of};
 ghost use Rattle.hex_messages.specs.Faults.{IsWire};
-ghost use Rattle.hex_messages.specs.Reading.{wire_code, told, known_of};
+ghost use Rattle.hex_messages.specs.Reading.{wire_code};
 
 use crate::error::FieldName;
 use crate::message::Message;
 
+/// The number of the field `retired` of a release.
+pub(crate) const RETIRED: u64 = 4;
+
 /// How a value is spelled.
-#[derive(Clone, Copy, Debug, PartialEq, Eq, Drop)]
+#[derive(Clone, Copy)]
 pub(crate) enum WireType {
     Varint,
     Fixed64,
@@ -16,11 +19,21 @@ pub(crate) enum WireType {
     Fixed32,
 }
 
-/// A known field, with the wire type of its values.
-#[derive(Clone, Copy, Debug, PartialEq, Eq, Drop)]
+/// What a value is: a text, bytes of any kind, a truth value, a reason, or a message within.
+#[derive(Clone, Copy)]
+pub(crate) enum Kind {
+    Text,
+    Bytes,
+    Truth,
+    Reason,
+    Inner(Message),
+}
+
+/// A known field.
+#[derive(Clone, Copy)]
 pub(crate) struct Known {
     pub(crate) name: FieldName,
-    pub(crate) wire: WireType,
+    pub(crate) kind: Kind,
 }
 
 /// The wire type with this number.
@@ -36,16 +49,19 @@ pub(crate) fn wire_type(code: u64) -> Option<WireType>
     }
 }
 
-/// Whether the two are one.
-pub(crate) fn same_wire(wire: WireType, other: WireType) -> bool
-    ensures { IsTrue result ↔ wire_code wire ≡ wire_code other }
+/// Whether values of the kind are spelled so.
+pub(crate) fn is_spelled(kind: Kind, wire: WireType) -> bool
+    ensures { IsTrue result ↔ wire_code wire ≡ wire_of kind }
 {
-    wire == other
+    match kind {
+        Kind::Truth | Kind::Reason => matches!(wire, WireType::Varint),
+        Kind::Text | Kind::Bytes | Kind::Inner(_) => matches!(wire, WireType::Length),
+    }
 }
 
 /// The field of the message that this number is known for.
 pub(crate) fn field_at(message: Message, number: u64) -> Option<Known>
-    ensures { told result ≡ known_of (field_at message number) }
+    ensures { result ≡ field_at message number }
 {
     match message {
         Message::Package => package_field(number),
@@ -56,70 +72,54 @@ pub(crate) fn field_at(message: Message, number: u64) -> Option<Known>
 }
 
 fn package_field(number: u64) -> Option<Known>
-    ensures { told result ≡ known_of (field_at Message.Package number) }
+    ensures { result ≡ field_at Message.Package number }
 {
     match number {
-        1 => Some(bytes(FieldName::Releases)),
-        2 => Some(bytes(FieldName::Name)),
-        3 => Some(bytes(FieldName::Repository)),
+        1 => some_known(FieldName::Releases, Kind::Inner(Message::Release)),
+        2 => some_known(FieldName::Name, Kind::Text),
+        3 => some_known(FieldName::Repository, Kind::Text),
         _ => None,
     }
 }
 
 fn release_field(number: u64) -> Option<Known>
-    ensures { told result ≡ known_of (field_at Message.Release number) }
+    ensures { result ≡ field_at Message.Release number }
 {
     match number {
-        1 => Some(bytes(FieldName::Version)),
-        2 => Some(bytes(FieldName::InnerChecksum)),
-        3 => Some(bytes(FieldName::Dependencies)),
-        4 => Some(bytes(FieldName::Retired)),
-        5 => Some(bytes(FieldName::OuterChecksum)),
+        1 => some_known(FieldName::Version, Kind::Text),
+        2 => some_known(FieldName::InnerChecksum, Kind::Bytes),
+        3 => some_known(FieldName::Dependencies, Kind::Inner(Message::Dependency)),
+        4 => some_known(FieldName::Retired, Kind::Inner(Message::Retired)),
+        5 => some_known(FieldName::OuterChecksum, Kind::Bytes),
         _ => None,
     }
 }
 
 fn dependency_field(number: u64) -> Option<Known>
-    ensures { told result ≡ known_of (field_at Message.Dependency number) }
+    ensures { result ≡ field_at Message.Dependency number }
 {
     match number {
-        1 => Some(bytes(FieldName::Package)),
-        2 => Some(bytes(FieldName::Requirement)),
-        3 => Some(varint(FieldName::Optional)),
-        4 => Some(bytes(FieldName::App)),
-        5 => Some(bytes(FieldName::Repository)),
+        1 => some_known(FieldName::Package, Kind::Text),
+        2 => some_known(FieldName::Requirement, Kind::Text),
+        3 => some_known(FieldName::Optional, Kind::Truth),
+        4 => some_known(FieldName::App, Kind::Text),
+        5 => some_known(FieldName::Repository, Kind::Text),
         _ => None,
     }
 }
 
 fn retired_field(number: u64) -> Option<Known>
-    ensures { told result ≡ known_of (field_at Message.Retired number) }
+    ensures { result ≡ field_at Message.Retired number }
 {
     match number {
-        1 => Some(varint(FieldName::Reason)),
-        2 => Some(bytes(FieldName::Message)),
+        1 => some_known(FieldName::Reason, Kind::Reason),
+        2 => some_known(FieldName::Message, Kind::Text),
         _ => None,
     }
 }
 
-/// A field of bytes, a text or a message.
-fn bytes(name: FieldName) -> Known
-    ensures name { result.name ≡ name }
-    ensures wire { result.wire ≡ WireType.Length }
+fn some_known(name: FieldName, kind: Kind) -> Option<Known>
+    ensures { result ≡ known name kind }
 {
-    Known {
-        name,
-        wire: WireType::Length,
-    }
-}
-
-/// A field of a number.
-fn varint(name: FieldName) -> Known
-    ensures name { result.name ≡ name }
-    ensures wire { result.wire ≡ WireType.Varint }
-{
-    Known {
-        name,
-        wire: WireType::Varint,
-    }
+    Some(Known { name, kind })
 }

@@ -1,26 +1,22 @@
 // Fields on the wire.
-ghost use Rattle.std.specs.Prelude.{◌≡◌, ◌≢◌, ◌≤◌, ◌<◌, ◌+◌, ◌^◌, ◌++◌, [], length, ◌⊎◌, IfOk, IfErr};
-ghost use Rattle.std.specs.Str.{IsUtf8};
-ghost use Rattle.hex_messages.specs.declared.error.WireCause.TheVariants.{Truncated, OutOfMemory};
+ghost use Rattle.std.specs.Prelude.{◌≡◌, ◌≢◌, ◌≤◌, ◌<◌, ◌+◌, ◌^◌, ◌++◌, [], length, IfOk, IfErr};
+ghost use Rattle.hex_messages.specs.declared.error.WireCause.TheVariants.{Truncated};
 ghost use Rattle.hex_messages.specs.declared.message.Message.{Message};
 ghost use Rattle.hex_messages.specs.Fields.{Varint, Length, wire_type};
 ghost use Rattle.hex_messages.specs.Faults.{ValueFault, FieldFault};
 ghost use Rattle.hex_messages.specs.Reading.{wire_code, payload_of, field_of, BeginsKey, BeginsValue, BeginsField};
-ghost use Rattle.hex_messages.specs.Taking.{IsPlaced, BlamesText};
+ghost use Rattle.hex_messages.specs.Checking.{IsPlaced};
 
-use crate::error::{FieldName, WireCause, WireError};
+use crate::error::WireCause;
 use crate::message::Message;
-use crate::schema::{WireType, field_at, same_wire, wire_type};
+use crate::schema::{WireType, field_at, is_spelled, wire_type};
 use crate::varint::split_varint;
-use mx_base::Text;
-use std::alloc::Global;
-use std::str;
 
 /// The greatest number that a field has.
 const GREATEST_NUMBER: u64 = 536_870_911;
 
 /// The value of a field.
-#[derive(Clone, Copy, Drop)]
+#[derive(Clone, Copy)]
 pub(crate) enum Value<'a> {
     Varint(u64),
     Fixed64(&'a [u8]),
@@ -29,7 +25,7 @@ pub(crate) enum Value<'a> {
 }
 
 /// A field, and where it stands in the whole input.
-#[derive(Clone, Copy, Drop)]
+#[derive(Clone, Copy)]
 pub(crate) struct Wire<'a> {
     /// The place of its key.
     pub(crate) at: u64,
@@ -39,12 +35,12 @@ pub(crate) struct Wire<'a> {
     pub(crate) value: Value<'a>,
 }
 
-impl<'a> Wire<'a> {
+impl<'a> Value<'a> {
     /// The number of a varint.
     pub(crate) fn varint(&self) -> u64
-        ensures { wire_type (payload_of self.now.value) ≡ 0 → payload_of self.now.value ≡ Varint result }
+        ensures { wire_type (payload_of self.now) ≡ 0 → payload_of self.now ≡ Varint result }
     {
-        match self.value {
+        match *self {
             Value::Varint(number) => number,
             _ => 0,
         }
@@ -52,37 +48,24 @@ impl<'a> Wire<'a> {
 
     /// The bytes of a value with a length.
     pub(crate) fn bytes(&self) -> &'a [u8]
-        ensures { wire_type (payload_of self.now.value) ≡ 2 → payload_of self.now.value ≡ Length result.now }
+        ensures { wire_type (payload_of self.now) ≡ 2 → payload_of self.now ≡ Length result.now }
     {
-        match self.value {
+        match *self {
             Value::Length(bytes) => bytes,
             _ => &[],
         }
     }
+}
 
-    /// The text of a value with a length. It is refused where it isn't UTF-8.
-    pub(crate) fn text(&self, alloc: Global, name: FieldName) -> Result<Text, WireError>
-        ensures utf8 { IfOk result (λ text. IsUtf8 text) }
-        ensures value { IfOk result (λ text. wire_type (payload_of self.now.value) ≡ 2 → payload_of self.now.value ≡ Length text) }
-        ensures refused { IfErr result (λ error. wire_type (payload_of self.now.value) ≡ 2 → (error.cause ≡ OutOfMemory) ⊎ BlamesText self.now name error) }
-    {
-        let bytes = self.bytes();
-        match str::from_utf8(bytes) {
-            Ok(_) => Ok(Text::from_slice(alloc, bytes)?),
-            Err(_) => Err(WireError {
-                at: self.at,
-                cause: WireCause::BadUtf8(name),
-            }),
-        }
-    }
-
+impl<'a> Wire<'a> {
     /// The message within: where it begins, and its bytes.
     pub(crate) fn inner(&self) -> (u64, &'a [u8])
         requires { IsPlaced self.now }
         ensures ends { result.0 + length result.1.now ≡ self.now.end }
         ensures after { self.now.at ≤ result.0 }
         ensures fits { result.0 + length result.1.now < 2 ^ 64 }
-        ensures value { wire_type (payload_of self.now.value) ≡ 2 → payload_of self.now.value ≡ Length result.1.now }
+        ensures value { wire_type (payload_of self.now.value) ≡ 2
+            → payload_of self.now.value ≡ Length result.1.now }
     {
         let end = self.end;
         match self.value {
@@ -95,7 +78,8 @@ impl<'a> Wire<'a> {
 /// The key that a text begins with, and the text after it.
 fn split_key(text: &[u8]) -> Result<(u64, WireType, &[u8]), WireCause>
     ensures read { IfOk result (λ key. BeginsKey text.now key.0 (wire_code key.1) key.2.now) }
-    ensures refused { IfErr result (λ cause. (m : Message) → text.now ≢ [] → FieldFault m text.now 0 cause) }
+    ensures refused { IfErr result (λ cause.
+        (m : Message) → text.now ≢ [] → FieldFault m text.now 0 cause) }
 {
     let (key, rest) = split_varint(text)?;
     let number = key / 8;
@@ -107,7 +91,8 @@ fn split_key(text: &[u8]) -> Result<(u64, WireType, &[u8]), WireCause>
 
 /// The value of the wire type that a text begins with, and the text after it.
 fn split_value(wire: WireType, text: &[u8]) -> Result<(Value<'_>, &[u8]), WireCause>
-    ensures read { IfOk result (λ split. BeginsValue text.now (wire_code wire) (payload_of split.0) split.1.now) }
+    ensures read { IfOk result (λ split.
+        BeginsValue text.now (wire_code wire) (payload_of split.0) split.1.now) }
     ensures refused { IfErr result (λ cause. ValueFault (wire_code wire) text.now cause) }
 {
     match wire {
@@ -152,14 +137,15 @@ pub(crate) fn split_field(
 ) -> Result<(Wire<'_>, &[u8]), WireCause>
     requires some { text.now ≢ [] }
     requires within { at + length text.now < 2 ^ 64 }
-    ensures read { IfOk result (λ split. BeginsField message text.now (field_of split.0) split.1.now) }
+    ensures read { IfOk result (λ split.
+        BeginsField message text.now (field_of split.0) split.1.now) }
     ensures at { IfOk result (λ split. split.0.at ≡ at) }
     ensures end { IfOk result (λ split. split.0.end + length split.1.now ≡ at + length text.now) }
     ensures refused { IfErr result (λ cause. FieldFault message text.now 0 cause) }
 {
     let (number, wire, after) = split_key(text)?;
     if let Some(known) = field_at(message, number) {
-        if !same_wire(known.wire, wire) {
+        if !is_spelled(known.kind, wire) {
             return Err(WireCause::WrongWire(known.name));
         }
     }

@@ -11,6 +11,7 @@ use mx_base::{Bytes, Text};
 use std::alloc::{AllocError, Global};
 
 /// The canonical spelling of a package: fields by number, shortest varints, and nothing that may be left out.
+/// Each text of the package has to be UTF-8, and each of its texts, checksums and lists shorter than 2^31.
 /// Each message within is written once and copied once, and they are nested three deep.
 pub fn write_package(alloc: Global, package: &Package) -> Result<Bytes, AllocError>
     requires writable { IsWritable «package».now }
@@ -50,7 +51,8 @@ fn push_dependencies(
     out: &mut Vec<u8>,
     dependencies: &[Dependency],
 ) -> Result<(), AllocError>
-    ensures { OnOk result (AppendsEach WritesDependency 3 out.old.items out.new.items dependencies.now) }
+    ensures { OnOk result (AppendsEach WritesDependency 3 out.old.items out.new.items
+        dependencies.now) }
 {
     for dependency in dependencies {
         let bytes = dependency_bytes(alloc, dependency)?;
@@ -171,7 +173,8 @@ fn push_bytes(out: &mut Vec<u8>, number: u8, bytes: &[u8]) -> Result<(), AllocEr
 fn push_number(out: &mut Vec<u8>, number: u8, value: u64) -> Result<(), AllocError>
     requires least { 1 ≤ number }
     requires most { number ≤ 15 }
-    ensures { OnOk result (Appends out.old.items out.new.items (record { number = number; payload = Varint value } ∷ [])) }
+    ensures { OnOk result (Appends out.old.items out.new.items
+        (record { number = number; payload = Varint value } ∷ [])) }
 {
     out.push(number * 8)?;
     push_varint(out, value)?;

@@ -1,6 +1,8 @@
 pub mod ApartLemmas
-pub mod EndLemmas
-pub mod PlainLemmas
+pub mod CallLemmas
+pub mod CompileLemmas
+pub mod LawLemmas
+pub mod PartLemmas
 pub mod ReportLemmas
 pub mod StandLemmas
 pub mod TreeLemmas

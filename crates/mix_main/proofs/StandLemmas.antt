@@ -14,13 +14,13 @@ use Rattle.compile_model.specs.declared.outcome.Fate.TheVariants.{Built, Failed,
 use Rattle.compile_model.specs.Seq.{HoldsInOrder}
 use Rattle.tree_store.specs.declared.key.BuildKey.{BuildKey}
 use Rattle.tree_store.specs.Key.{is_same_build}
-use Rattle.tree_store.specs.Files.{put_file, put_all, with_file, without_file, emptied, HoldsPart, PutsPartly}
-use Rattle.tree_store.specs.Slot.{Slot, SetsSlot, emptied_slot, slot_with}
+use Rattle.tree_store.specs.Files.{put_file, put_all, with_file, without_file, emptied, PutsPartly}
+use Rattle.tree_store.specs.Slot.{Slot, emptied_slot, slot_with}
 use Rattle.tree_store.specs.Slot.Slot.{Here, Out}
-use Rattle.tree_store.proofs.FilesLemmas.{part_of_itself, put_all_in_order}
+use Rattle.tree_store.proofs.FilesLemmas.{put_all_in_order}
 use Rattle.tree_store.proofs.OrderLemmas.{less_back, same_name}
-use Rattle.tree_store.proofs.StoreLemmas.{lent_and_back, one_key}
-use Rattle.mix_main.specs.Tree.{is_same_text, is_in_env, files_of, app_files, ClearsEnv, LeavesTree, slot_of_those, LeavesPart, EachLeavesPart, cut_file, begun, IsEmpty, FillsPartly}
+use Rattle.tree_store.proofs.StoreLemmas.{one_key}
+use Rattle.mix_main.specs.Tree.{is_same_text, is_in_env, files_of, app_files, ClearsEnv, LeavesTree, cut_file, begun, IsEmpty, FillsPartly}
 use Rattle.mix_main.specs.Filling.{jobs_differ, filled_once, BeginsHeld, BeginsSlot}
 use Rattle.mix_main.proofs.TreeLemmas.{own_app, either, both, not_true, not_same, emptied_twice}
 
@@ -28,74 +28,6 @@ use Rattle.mix_main.proofs.TreeLemmas.{own_app, either, both, not_true, not_same
 pub on_err : {T E : Type 0} (r : Result T E) (P : Type 0) → P → OnErr r P
 on_err (Ok x) P holds = tt
 on_err (Err e) P holds = holds
-
-filter_none : (files : List File) → filter (λ f. false) files ≡ []
-filter_none [] = refl
-filter_none (f ∷ fs) = filter_none fs
-
-filter_twice : (f g : File → Bool) (files : List File) → filter g (filter f files) ≡ filter (λ x. f x && g x) files
-filter_twice f g [] = refl
-filter_twice f g (x ∷ xs) = at (f x) refl (filter_twice f g xs)
-  where
-    at : (b : Bool) → f x ≡ b → filter g (filter f xs) ≡ filter (λ y. f y && g y) xs → filter g (cond (f x) (x ∷ filter f xs) (filter f xs)) ≡ cond (f x && g x) (x ∷ filter (λ y. f y && g y) xs) (filter (λ y. f y && g y) xs)
-    at true e rest =
-        ap (λ (b : Bool). filter g (cond b (x ∷ filter f xs) (filter f xs))) e
-        ∙ ap (λ (ys : List File). cond (g x) (x ∷ ys) ys) rest
-        ∙ ap (λ (b : Bool). cond (b && g x) (x ∷ filter (λ y. f y && g y) xs) (filter (λ y. f y && g y) xs)) (sym e)
-    at false e rest =
-        ap (λ (b : Bool). filter g (cond b (x ∷ filter f xs) (filter f xs))) e
-        ∙ rest
-        ∙ ap (λ (b : Bool). cond (b && g x) (x ∷ filter (λ y. f y && g y) xs) (filter (λ y. f y && g y) xs)) (sym e)
-
--- a slot is a part of itself
-pub part_itself : (s : Slot) → LeavesPart s s
-part_itself (Here held) = let p = part_of_itself held in (p.0, ap Here p.1)
-part_itself Out = (λ f. true, refl)
-
-those_twice : (f g : File → Bool) (s : Slot) → slot_of_those g (slot_of_those f s) ≡ slot_of_those (λ x. f x && g x) s
-those_twice f g (Here None) = refl
-those_twice f g (Here (Some files)) = ap (λ (fs : List File). Here (Some fs)) (filter_twice f g files)
-those_twice f g Out = refl
-
--- a part of a part is a part
-part_twice : (a b c : Slot) → LeavesPart a b → LeavesPart b c → LeavesPart a c
-part_twice a b c p q = (λ x. p.0 x && q.0 x, q.1 ∙ ap (slot_of_those q.0) p.1 ∙ those_twice p.0 q.0 a)
-
-pub each_part_itself : (slots : BuildKey → Slot) → EachLeavesPart slots slots
-each_part_itself slots q = part_itself (slots q)
-
-pub same_part : (old new : BuildKey → Slot) → new ≡ old → EachLeavesPart old new
-same_part old new e = subst (λ (slots : BuildKey → Slot). EachLeavesPart old slots) (sym e) (each_part_itself old)
-
-pub part_more : (old mid new : BuildKey → Slot) → EachLeavesPart old mid → EachLeavesPart mid new → EachLeavesPart old new
-part_more old mid new p q k = part_twice (old k) (mid k) (new k) (p k) (q k)
-
--- emptied is a part
-pub none_left : (old new : Option (List File)) → new ≡ emptied old → HoldsPart old new
-none_left None new e = (λ f. false, e)
-none_left (Some files) new e = (λ f. false, e ∙ ap (λ (fs : List File). Some fs) (sym (filter_none files)))
-
--- a folder was handed out, lost files and came back
-pub lent_part : (key back_key : BuildKey) (held left : Option (List File)) (old mid new : BuildKey → Slot) → SetsSlot key Out old mid → back_key ≡ key → SetsSlot back_key (Here left) mid new → Here held ≡ old key → HoldsPart held left → EachLeavesPart old new
-lent_part key back_key held left old mid new out own back is part q =
-    at (is_same_build key q)
-    (lent_and_back key back_key (slot_of_those part.0) left old mid new out own back (ap (slot_of_those part.0) (sym is) ∙ ap Here (sym part.1)) q)
-  where
-    at : (b : Bool) → new q ≡ cond b (slot_of_those part.0 (old q)) (old q) → LeavesPart (old q) (new q)
-    at true e = (part.0, e)
-    at false e = subst (λ (s : Slot). LeavesPart (old q) s) (sym e) (part_itself (old q))
-
--- the environment was emptied, and elsewhere nothing changed
-pub cleared_part : (env : List ℕ) (old new : BuildKey → Slot) → ClearsEnv env old new → EachLeavesPart old new
-cleared_part env old new clears q = at (is_in_env env q) (clears q)
-  where
-    none : (s : Slot) → LeavesPart s (emptied_slot s)
-    none (Here held) = let p = none_left held (emptied held) refl in (p.0, ap Here p.1)
-    none Out = (λ f. true, refl)
-
-    at : (b : Bool) → new q ≡ cond b (emptied_slot (old q)) (old q) → LeavesPart (old q) (new q)
-    at true e = subst (λ (s : Slot). LeavesPart (old q) s) (sym e) (none (old q))
-    at false e = subst (λ (s : Slot). LeavesPart (old q) s) (sym e) (part_itself (old q))
 
 before_at : (a : List ℕ) (ps : List File) (f : File) (post : List File) → IsBefore a (paths_of (ps ++ f ∷ post)) → text_cmp a f.path ≡ Less
 before_at a [] f post b = b.0

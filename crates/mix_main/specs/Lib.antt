@@ -1,8 +1,14 @@
+pub mod Answer
+pub mod Blame
+pub mod Compile
 pub mod Ends
 pub mod Filling
+pub mod Help
+pub mod Laws
+pub mod Refusal
 pub mod Report
 pub mod Status
-pub mod Stop
 pub mod Texts
 pub mod Tree
 pub mod Words
+pub mod World

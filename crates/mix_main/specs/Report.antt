@@ -1,7 +1,7 @@
 -- The report of a compile.
-use Rattle.std.specs.Prelude.{ℕ, Bool, true, false, ◌==◌, List, [], ◌∷◌, ◌++◌, length, Option, Some, None, slice_get, count_by, flat_map, codes, IsTrue}
+use Rattle.std.specs.Prelude.{ℕ, Bool, true, false, ◌==◌, List, [], ◌∷◌, ◌++◌, length, Option, Some, None, slice_get, count_by, flat_map, codes}
 use Rattle.std.specs.Fmt.{decimal}
-use Rattle.std.specs.List.{slice_split, list_any}
+use Rattle.std.specs.List.{slice_split}
 use Rattle.compile_model.specs.declared.job.Job.{Job}
 use Rattle.compile_model.specs.declared.outcome.Fate.{Fate}
 use Rattle.compile_model.specs.declared.outcome.Fate.TheVariants.{Built, Failed, Skipped}
@@ -83,6 +83,3 @@ totals jobs fates =
 -- one entry for each job in order, and last the totals
 abbrev pub report : List Job → List Fate → List ℕ
 report jobs fates = jobs_text jobs jobs fates ++ totals jobs fates
-
-abbrev pub AnyFailed : List Fate → Type 0
-AnyFailed fates = IsTrue (list_any is_failed fates)

@@ -1,11 +1,11 @@
--- The lines that say why there is no report.
+-- The texts of the program, but for the report.
 use Rattle.std.specs.Prelude.{ℕ, List, ◌++◌, flat_map, Option, Some, None, codes}
 use Rattle.std.specs.Fmt.{decimal}
 use Rattle.elixir_terms.specs.declared.error.TermError.{TermError}
-use Rattle.elixir_terms.specs.declared.error.TermCause.{TermCause}
-use Rattle.elixir_terms.specs.declared.error.TermCause.TheVariants as term
-use Rattle.elixir_terms.specs.declared.error.Feature.{Feature}
-use Rattle.elixir_terms.specs.declared.error.Feature.TheVariants as feature
+use Rattle.term_tokens.specs.declared.cause.TermCause.{TermCause}
+use Rattle.term_tokens.specs.declared.cause.TermCause.TheVariants as term
+use Rattle.term_tokens.specs.declared.cause.Feature.{Feature}
+use Rattle.term_tokens.specs.declared.cause.Feature.TheVariants as feature
 use Rattle.dep_options.specs.declared.error.OptionError.{OptionError}
 use Rattle.dep_options.specs.declared.error.OptionCause.{OptionCause}
 use Rattle.dep_options.specs.declared.error.OptionCause.TheVariants as option
@@ -37,6 +37,10 @@ died_line = codes "mixc: no partition left, 1 died\n"
 
 abbrev pub memory_line : List ℕ
 memory_line = codes "mixc: out of memory\n"
+
+-- the names of the commands, one a line
+abbrev pub help_text : List ℕ
+help_text = codes "help\ndeps.compile\n"
 
 -- a cause with the name that it is about
 abbrev pub named_cause : List ℕ → List ℕ → List ℕ

@@ -1,16 +1,24 @@
--- The words of the command line. Their language has one command so far: the one word `deps.compile`.
-use Rattle.std.specs.Prelude.{◌≡◌, ℕ, List, [], ◌∷◌, Option, Some, None, if◌then◌else◌, codes, bytes_eq}
+-- The words of the commands.
+use Rattle.std.specs.Prelude.{ℕ, List, [], ◌∷◌, Result, Ok, Err, if◌then◌else◌, codes, bytes_eq}
+use Rattle.mix_main.specs.declared.command.Command.{Command}
+use Rattle.mix_main.specs.declared.command.Command.TheVariants.{Help, Compile}
+use Rattle.mix_main.specs.declared.command.WordsError.{WordsError}
+use Rattle.mix_main.specs.declared.command.WordsError.TheVariants.{Refused}
+
+-- the environment of a command
+abbrev pub dev : List ℕ
+dev = codes "dev"
 
 -- no word may follow
-abbrev pub bad_after : List (List ℕ) → Option ℕ
-bad_after [] = None
-bad_after (word ∷ more) = Some 1
+abbrev pub alone : Command → List (List ℕ) → Result Command WordsError
+alone asked [] = Ok asked
+alone asked (word ∷ more) = Err (Refused 1)
 
--- the place, from 0, of the first word with which no command begins, or the number of words where some are wanting
-abbrev pub bad_word : List (List ℕ) → Option ℕ
-bad_word [] = Some 0
-bad_word (word ∷ more) = if bytes_eq word (codes "deps.compile") then bad_after more else Some 0
-
--- the words of the command
-abbrev pub IsCommand : List (List ℕ) → Type 0
-IsCommand words = words ≡ codes "deps.compile" ∷ []
+-- the command; or the place, from 0, of the first word with which no command's words begin, or the number of words
+-- where some are wanting
+abbrev pub command_of : List (List ℕ) → Result Command WordsError
+command_of [] = Err (Refused 0)
+command_of (word ∷ more) =
+    if bytes_eq word (codes "help") then alone Help more
+    else if bytes_eq word (codes "deps.compile") then alone (Compile dev) more
+    else Err (Refused 0)

@@ -1,16 +1,18 @@
 // Putting the built files.
 ghost use Rattle.std.specs.Prelude.{◌≡◌, ℕ, length, OnOk, OnErr, false};
 ghost use Rattle.mx_base.specs.Causes.{Counted};
-ghost use Rattle.tree_store.specs.Faults.{is_failed};
+ghost use Rattle.mx_base.specs.Blame.{fails};
+ghost use Rattle.tree_store.specs.Blame.{blame_of};
 ghost use Rattle.tree_store.specs.Files.{with_files};
 ghost use Rattle.tree_store.specs.declared.key.BuildKey.{BuildKey};
 ghost use Rattle.tree_store.specs.Key.{is_same_build};
 ghost use Rattle.tree_store.specs.Slot.{ChangesSlot, AllHere, filled_slot};
-ghost use Rattle.mix_main.specs.Stop.{is_read, is_tree};
+ghost use Rattle.mix_main.specs.Answer.{Fails};
+ghost use Rattle.mix_main.specs.World.{Keeps};
 ghost use Rattle.mix_main.specs.Tree.{files_of, StaysElsewhere};
 ghost use Rattle.mix_main.specs.Filling.{filled_by, filled_once, BeginsHeld, BeginsSlot, BeginsEnv};
 
-use crate::stop::TreeStop;
+use crate::answer::Stop;
 use compile_model::{Fate, Job};
 use mx_base::{AppName, File};
 use std::alloc::Global;
@@ -24,16 +26,14 @@ pub(crate) fn fill_env<S: Store>(
     jobs: &[Job],
     fates: &[Fate],
     store: &mut S,
-) -> Result<(), TreeStop>
+) -> Result<(), Stop>
     requires lengths { length fates.now ≡ length jobs.now }
-    requires here { AllHere (S.slot store.old) }
-    ensures filled { OnOk result ((q : BuildKey) → S.slot store.new q ≡ filled_by env.now q jobs.now fates.now (S.slot store.old q)) }
-    ensures begun { OnErr result (BeginsEnv env.now jobs.now fates.now (S.slot store.old) (S.slot store.new)) }
-    ensures elsewhere { StaysElsewhere env.now (S.slot store.old) (S.slot store.new) }
-    ensures here { AllHere (S.slot store.new) }
-    ensures sources { S.sources store.new ≡ S.sources store.old }
-    ensures reads { Counted (S.faults store.old) (S.faults store.new) (is_read result) }
-    ensures trees { Counted (S.folder_faults store.old) (S.folder_faults store.new) (is_tree result) }
+    requires here { AllHere (S.known store.old).slot }
+    ensures filled { OnOk result ((q : BuildKey) → (S.known store.new).slot q ≡ filled_by env.now q jobs.now fates.now ((S.known store.old).slot q)) }
+    ensures begun { OnErr result (BeginsEnv env.now jobs.now fates.now (S.known store.old).slot (S.known store.new).slot) }
+    ensures elsewhere { StaysElsewhere env.now (S.known store.old).slot (S.known store.new).slot }
+    ensures keeps { Keeps (S.known store.old) (S.known store.new) }
+    ensures fails { Fails result (S.known store.old) (S.known store.new) }
 {
     for (place, job) in jobs.iter().enumerate() {
         fill_job(alloc, env, job, &fates[place], store)?;
@@ -48,15 +48,13 @@ fn fill_job<S: Store>(
     job: &Job,
     fate: &Fate,
     store: &mut S,
-) -> Result<(), TreeStop>
-    requires { AllHere (S.slot store.old) }
-    ensures filled { OnOk result ((q : BuildKey) → S.slot store.new q ≡ filled_once (is_same_build (record { env = env.now; app = job.now.app }) q) fate.now (S.slot store.old q)) }
-    ensures begun { OnErr result (BeginsSlot (files_of fate.now) (S.slot store.old (record { env = env.now; app = job.now.app })) (S.slot store.new (record { env = env.now; app = job.now.app }))) }
-    ensures others { (q : BuildKey) → is_same_build (record { env = env.now; app = job.now.app }) q ≡ false → S.slot store.new q ≡ S.slot store.old q }
-    ensures here { AllHere (S.slot store.new) }
-    ensures sources { S.sources store.new ≡ S.sources store.old }
-    ensures reads { Counted (S.faults store.old) (S.faults store.new) (is_read result) }
-    ensures trees { Counted (S.folder_faults store.old) (S.folder_faults store.new) (is_tree result) }
+) -> Result<(), Stop>
+    requires { AllHere (S.known store.old).slot }
+    ensures filled { OnOk result ((q : BuildKey) → (S.known store.new).slot q ≡ filled_once (is_same_build (record { env = env.now; app = job.now.app }) q) fate.now ((S.known store.old).slot q)) }
+    ensures begun { OnErr result (BeginsSlot (files_of fate.now) ((S.known store.old).slot (record { env = env.now; app = job.now.app })) ((S.known store.new).slot (record { env = env.now; app = job.now.app }))) }
+    ensures others { (q : BuildKey) → is_same_build (record { env = env.now; app = job.now.app }) q ≡ false → (S.known store.new).slot q ≡ (S.known store.old).slot q }
+    ensures keeps { Keeps (S.known store.old) (S.known store.new) }
+    ensures fails { Fails result (S.known store.old) (S.known store.new) }
 {
     match fate {
         Fate::Built(outcome) => {
@@ -72,22 +70,20 @@ fn fill_app<S: Store>(
     app: &AppName,
     files: &[File],
     store: &mut S,
-) -> Result<(), TreeStop>
-    requires { AllHere (S.slot store.old) }
-    ensures filled { OnOk result (ChangesSlot (record { env = env.now; app = app.now }) (filled_slot files.now) (S.slot store.old) (S.slot store.new)) }
-    ensures begun { OnErr result (BeginsSlot files.now (S.slot store.old (record { env = env.now; app = app.now })) (S.slot store.new (record { env = env.now; app = app.now }))) }
-    ensures others { (q : BuildKey) → is_same_build (record { env = env.now; app = app.now }) q ≡ false → S.slot store.new q ≡ S.slot store.old q }
-    ensures here { AllHere (S.slot store.new) }
-    ensures sources { S.sources store.new ≡ S.sources store.old }
-    ensures reads { Counted (S.faults store.old) (S.faults store.new) (is_read result) }
-    ensures trees { Counted (S.folder_faults store.old) (S.folder_faults store.new) (is_tree result) }
+) -> Result<(), Stop>
+    requires { AllHere (S.known store.old).slot }
+    ensures filled { OnOk result (ChangesSlot (record { env = env.now; app = app.now }) (filled_slot files.now) (S.known store.old).slot (S.known store.new).slot) }
+    ensures begun { OnErr result (BeginsSlot files.now ((S.known store.old).slot (record { env = env.now; app = app.now })) ((S.known store.new).slot (record { env = env.now; app = app.now }))) }
+    ensures others { (q : BuildKey) → is_same_build (record { env = env.now; app = app.now }) q ≡ false → (S.known store.new).slot q ≡ (S.known store.old).slot q }
+    ensures keeps { Keeps (S.known store.old) (S.known store.new) }
+    ensures fails { Fails result (S.known store.old) (S.known store.new) }
 {
     let mut folder = store.folder(alloc, env, app)?;
     let filled = put_files(alloc, files, &mut folder);
     store.give_back(folder);
     match filled {
         Ok(()) => Ok(()),
-        Err(fault) => Err(TreeStop::of_folder(fault)),
+        Err(fault) => Err(Stop::of_folder(fault)),
     }
 }
 
@@ -96,7 +92,7 @@ fn put_files<F: Folder>(alloc: Global, files: &[File], folder: &mut F) -> Result
     ensures held { OnOk result (F.held folder.new ≡ with_files files.now (F.held folder.old)) }
     ensures begun { OnErr result (BeginsHeld files.now (F.held folder.old) (F.held folder.new)) }
     ensures key { F.key folder.new ≡ F.key folder.old }
-    ensures cause { Counted (F.faults folder.old) (F.faults folder.new) (is_failed result) }
+    ensures cause { Counted (F.faults folder.old) (F.faults folder.new) (fails blame_of result) }
 {
     for file in files {
         folder.put(alloc, &file.path, file.bytes.as_slice())?;

@@ -3,10 +3,10 @@ ghost use Rattle.std.specs.Prelude.{◌≡◌};
 ghost use Rattle.mix_main.specs.Status.{code_of};
 
 /// How a command ends. Its number is the status of the program.
-#[derive(Clone, Copy, Debug, PartialEq, Eq)]
+#[derive(Clone, Copy)]
 pub enum Status {
-    /// 0: each dependency was built.
-    Built,
+    /// 0: the command was done, and each dependency that it compiles was built.
+    Done,
     /// 1: some dependency failed.
     SomeFailed,
     /// 2: the words are no command.
@@ -35,7 +35,7 @@ impl Status {
         ensures { result ≡ code_of self }
     {
         match self {
-            Status::Built => 0,
+            Status::Done => 0,
             Status::SomeFailed => 1,
             Status::BadWords => 2,
             Status::Refused => 3,

@@ -2,6 +2,10 @@
 //! and standard output, and ends with the status.
 #![tactic(auto)]
 
+ghost use Rattle.std.specs.Prelude.{◌≡◌};
+ghost use Rattle.std.specs.Process.{exit_status};
+ghost use Rattle.mix_main.specs.Status.{code_of};
+
 use compile_model::EchoCompiler;
 use mix_main::{Status, run};
 use std::alloc::AllocError;
@@ -34,10 +38,17 @@ fn say_memory(rt: &HostRuntime) -> Status {
     }
 }
 
+// What the program exits with.
+fn exit_of(status: Status) -> ExitCode
+    ensures { exit_status result ≡ code_of status }
+{
+    ExitCode::from(status.code())
+}
+
 fn main(rt: HostRuntime) -> ExitCode {
     let status = match status(&rt) {
         Ok(status) => status,
         Err(_) => say_memory(&rt),
     };
-    ExitCode::from(status.code())
+    exit_of(status)
 }

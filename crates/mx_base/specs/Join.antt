@@ -1,5 +1,5 @@
 -- The path that a text names from a base.
-use Rattle.std.specs.Prelude.{ℕ, ◌-◌, Bool, true, false, ◌||◌, nat_lt, List, [], ◌∷◌, ◌++◌, length, take, position, Option, Some, None, Result, Ok, Err, if◌then◌else◌, codes, bytes_eq}
+use Rattle.std.specs.Prelude.{◌≡◌, ℕ, ◌-◌, Bool, true, false, ◌||◌, nat_lt, List, [], ◌∷◌, ◌++◌, length, take, position, Option, Some, None, Result, Ok, Err, if◌then◌else◌, codes, bytes_eq}
 use Rattle.std.specs.List.{slice_split}
 use Rattle.std.specs.Str.Lossy.{utf8_valid_len}
 use Rattle.mx_base.specs.Blame.{Blame}
@@ -59,3 +59,8 @@ unless_refused None other = other
 
 abbrev pub joined : List ℕ → List ℕ → Result (List ℕ) PathError
 joined base text = unless_refused (first_refused text) (from_base base text)
+
+-- each byte may stand, and the first is a slash
+abbrev pub LeadsAboveRoot : List ℕ → Type 0
+LeadsAboveRoot [] = ⊥
+LeadsAboveRoot (byte ∷ bytes) = (is_slash byte ≡ true) × (first_refused (byte ∷ bytes) ≡ None)

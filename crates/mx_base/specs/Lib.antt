@@ -2,8 +2,10 @@ pub mod AppName
 pub mod Blame
 pub mod Causes
 pub mod Join
+pub mod Layout
 pub mod MemSink
 pub mod NameFaults
 pub mod Order
 pub mod Path
 pub mod Sink
+pub mod Stack

@@ -11,7 +11,7 @@ use std::cmp::Ordering;
 use std::marker::Model;
 
 /// Bytes of any kind, ordered as byte strings.
-#[derive(Debug, Drop)]
+#[derive(Drop)]
 pub struct Bytes {
     items: Vec<u8>,
 }
@@ -25,6 +25,7 @@ impl Model for Bytes {
 }
 
 impl Bytes {
+    /// No bytes. It takes no memory.
     pub fn new(alloc: Global) -> Bytes
         ensures { result ≡ [] }
     {
@@ -33,12 +34,14 @@ impl Bytes {
         }
     }
 
+    /// The bytes of a vector. It takes no memory.
     pub fn from_vec(items: Vec<u8>) -> Bytes
         ensures { result ≡ items.items }
     {
         Bytes { items }
     }
 
+    /// A copy of these bytes.
     pub fn from_slice(alloc: Global, items: &[u8]) -> Result<Bytes, AllocError>
         ensures { IfOk result (λ b. b ≡ items.now) }
     {
@@ -47,6 +50,7 @@ impl Bytes {
         })
     }
 
+    /// Gives the vector back.
     pub fn into_vec(self) -> Vec<u8>
         ensures { result.items ≡ self }
     {
@@ -54,6 +58,7 @@ impl Bytes {
         items
     }
 
+    /// The bytes.
     pub fn as_slice(&self) -> &[u8]
         ensures { result.now ≡ self.now }
     {

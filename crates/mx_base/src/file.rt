@@ -8,14 +8,16 @@ use std::alloc::{AllocError, Global};
 use std::marker::Model;
 
 /// A file: its path, from the folder that it is spoken of in, and its bytes.
-#[derive(Clone, Debug, PartialEq, Eq, Drop)]
+#[derive(Clone, PartialEq, Eq, Drop)]
 pub struct File {
+    /// Where it lies.
     pub path: RelPath,
+    /// What it holds.
     pub bytes: Bytes,
 }
 
 /// Files of different paths, in the order of their paths, which contracts see as the list of them.
-#[derive(Debug, Drop)]
+#[derive(Drop)]
 pub struct Files {
     files: Vec<File>,
 }
@@ -34,6 +36,7 @@ impl Model for Files {
 }
 
 impl Files {
+    /// No files. It takes no memory.
     pub fn new(alloc: Global) -> Files
         ensures { result ≡ [] }
     {
@@ -42,6 +45,7 @@ impl Files {
         }
     }
 
+    /// Files that are in order already. It takes no memory.
     pub fn from_vec(files: Vec<File>) -> Files
         requires { AreInOrder files.items }
         ensures { result ≡ files.items }
@@ -49,6 +53,7 @@ impl Files {
         Files { files }
     }
 
+    /// Gives the vector back.
     pub fn into_vec(self) -> Vec<File>
         ensures { result.items ≡ self }
     {
@@ -56,6 +61,7 @@ impl Files {
         files
     }
 
+    /// The files.
     pub fn as_slice(&self) -> &[File]
         ensures value { result.now ≡ self.now }
         ensures in_order { AreInOrder self.now }

@@ -2,8 +2,10 @@
 #![tactic(auto)]
 
 mod bytes;
+mod count;
 mod fault_plan;
 mod file;
+mod layout;
 mod list_of;
 mod mem_sink;
 mod name;
@@ -12,13 +14,16 @@ mod path_folder;
 mod path_join;
 mod shared;
 mod sink;
+mod stack;
 mod text;
 mod utf8;
 mod variable;
 
 pub use bytes::Bytes;
+pub use count::Count;
 pub use fault_plan::{FaultPlan, Faults, NoFaults};
 pub use file::{File, Files};
+pub use layout::{BUILD, DEPS, LOCK, MANIFEST, REGISTRY, SETTINGS};
 pub use list_of::ListOf;
 pub use mem_sink::{MemSink, NullSink};
 pub use name::{AppName, NameError, Names};
@@ -26,5 +31,6 @@ pub use path::RelPath;
 pub use path_join::PathError;
 pub use shared::Shared;
 pub use sink::{Failed, Sink};
+pub use stack::Stack;
 pub use text::{Text, copy_text};
 pub use variable::{Variable, Variables};

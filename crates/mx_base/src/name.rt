@@ -1,11 +1,15 @@
 // The names of applications.
 ghost use Rattle.std.specs.Prelude.{◌≡◌, ◌<◌, ◌≤◌, ◌↔◌, ℕ, [], length, slice_index, IsTrue, IsFalse, IfOk, IsErrOf, IfSome, IfNone, MatchResult, string_bytes};
+ghost use Rattle.std.specs.Hash as fed;
+ghost use Rattle.std.specs.Cmp.Rules.{hashing};
+ghost use Rattle.std.proofs.Common.{rules};
 ghost use Rattle.mx_base.specs.NameFaults.{is_memory};
 ghost use Rattle.mx_base.specs.AppName.{IsAppName, IsFirstBadByte, fits_at, is_app_name};
 
 use crate::list_of::ListOf;
 use crate::utf8::Utf8;
 use std::alloc::{AllocError, Global};
+use std::hash::{Hash, Hasher};
 use std::marker::Model;
 use std::str;
 use thiserror::Error;
@@ -16,7 +20,7 @@ const MAX_NAME_LEN: usize = 255;
 pub type Names = ListOf<AppName>;
 
 /// The name of an application: `[A-Za-z_][A-Za-z0-9_]*`, of at most 255 bytes. Names are ordered by their bytes.
-#[derive(Clone, Debug, PartialEq, Eq, PartialOrd, Ord, Drop)]
+#[derive(Clone, PartialEq, Eq, PartialOrd, Ord, Drop)]
 pub struct AppName {
     text: Utf8,
 }
@@ -47,6 +51,7 @@ pub enum NameError {
     /// The first byte that may not stand at its place, counted from 0.
     #[error("no name has the byte at {at}")]
     BadByte { at: u64 },
+    /// There was not enough memory. This says nothing of the text.
     #[error("out of memory")]
     OutOfMemory,
 }
@@ -62,8 +67,22 @@ impl From<AllocError> for NameError {
     }
 }
 
+impl Hash for AppName {
+    ghost hash_input = { fed.str };
+
+    ghost respects_eq = { Prim.search (hashing, rules) };
+
+    fn hash<H: Hasher>(&self, state: &mut H) {
+        self.as_str().hash(state);
+    }
+}
+
 impl AppName {
     /// The name that the text spells.
+    ///
+    /// # Errors
+    ///
+    /// `Empty`, `TooLong` and `BadByte` come in this order, each exactly where it holds; `OutOfMemory` only where none does.
     #[tactic(auto, using(crate::proofs::NameLemmas::is_name_of_fits, crate::proofs::NameLemmas::no_name_too_long, crate::proofs::NameLemmas::no_name_with))]
     pub fn of(alloc: Global, text: &[u8]) -> Result<AppName, NameError>
         ensures ok { IfOk result (λ name. name ≡ text.now) }
@@ -86,6 +105,7 @@ impl AppName {
         })
     }
 
+    /// The text of the name, which is ASCII.
     pub fn as_str(&self) -> &str
         ensures value { result.now ≡ self.now }
         ensures name { IsAppName self.now }

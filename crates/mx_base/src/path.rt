@@ -9,7 +9,7 @@ use std::marker::Model;
 
 /// A path below a root: segments with a `/` between them, which contracts see as that text.
 /// The root has no segment. Paths are ordered as the byte strings of their texts.
-#[derive(Clone, Debug, PartialEq, Eq, PartialOrd, Ord, Drop)]
+#[derive(Clone, PartialEq, Eq, PartialOrd, Ord, Drop)]
 pub struct RelPath {
     text: Utf8,
 }
@@ -61,6 +61,7 @@ impl RelPath {
         }
     }
 
+    /// The text of the path, which is empty for the root.
     pub fn as_str(&self) -> &str
         ensures value { result.now ≡ self.now }
         ensures path { IsTrue (is_path self.now) }

@@ -36,6 +36,7 @@ impl RelPath {
         }
     }
 
+    /// Whether the path lies in this folder, at any depth; the folder itself does not.
     pub fn is_below(&self, folder: &RelPath) -> bool
         ensures { result ≡ is_below folder.now self.now }
     {

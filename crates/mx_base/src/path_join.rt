@@ -1,11 +1,11 @@
 // Joining a text to a path.
-ghost use Rattle.std.specs.Prelude.{◌≡◌, ◌≤◌, ◌∷◌, [], List, ℕ, length, map, position, Ok, Err, Some, None, OnOk, IfOk, IfErr, IsTrue, IsFalse, true, false};
+ghost use Rattle.std.specs.Prelude.{◌≡◌, ◌≤◌, ◌∷◌, [], List, ℕ, length, map, position, Ok, Err, Some, None, OnOk, IfOk, IfErr, IsErrOf, IsTrue, IsFalse, true, false};
 ghost use Rattle.std.specs.List.{slice_split, list_all, list_any};
 ghost use Rattle.std.specs.Str.Lossy.{utf8_valid_len};
 ghost use Rattle.mx_base.specs.Blame.{Answers};
 ghost use Rattle.mx_base.specs.Blame.Blame.{Input};
 ghost use Rattle.mx_base.specs.Path.{is_slash, is_refused, is_segment, segments_of, path_of};
-ghost use Rattle.mx_base.specs.Join.{blame_of, first_refused, step, walk, joined};
+ghost use Rattle.mx_base.specs.Join.{LeadsAboveRoot, blame_of, first_refused, step, walk, joined};
 
 use crate::path::{RelPath, pieces};
 use std::alloc::{AllocError, AllocFailed, Global};
@@ -24,6 +24,7 @@ pub enum PathError {
     /// No segment is left.
     #[error("the path is empty")]
     Empty,
+    /// There was not enough memory. This says nothing of the text.
     #[error("out of memory")]
     OutOfMemory,
 }
@@ -53,8 +54,15 @@ impl<T: Drop> From<AllocFailed<T>> for PathError {
 impl RelPath {
     /// The path that a text names from a base: the text is cut at `/`, empty segments and `.` are
     /// dropped, and `..` removes the last segment.
+    ///
+    /// # Errors
+    ///
+    /// `BadByte` and a slash at the beginning are told whatever memory there is. Else `AboveRoot` comes at the first
+    /// `..` with nothing to remove, and `Empty` where no segment is left.
     pub fn join(alloc: Global, base: &RelPath, text: &[u8]) -> Result<RelPath, PathError>
-        ensures { Answers blame_of result (λ answer. joined base.now text.now ≡ answer) }
+        ensures answer { Answers blame_of result (λ answer. joined base.now text.now ≡ answer) }
+        ensures bad_byte { (at : ℕ) → first_refused text.now ≡ Some at → IsErrOf result (PathError.BadByte at) }
+        ensures leading { LeadsAboveRoot text.now → IsErrOf result PathError.AboveRoot }
     {
         let text = match accepted(text) {
             Ok(text) => text,

@@ -6,7 +6,7 @@ use std::alloc::{AllocError, Global};
 use std::marker::Model;
 
 /// A text as it was read, which need not be UTF-8, ordered by its bytes.
-#[derive(Clone, Debug, PartialEq, Eq, PartialOrd, Ord, Drop)]
+#[derive(Clone, PartialEq, Eq, PartialOrd, Ord, Drop)]
 pub struct Text {
     bytes: Bytes,
 }
@@ -22,6 +22,7 @@ impl Model for Text {
 }
 
 impl Text {
+    /// The text of these bytes. It takes no memory.
     pub fn from_vec(bytes: Vec<u8>) -> Text
         ensures { result ≡ bytes.items }
     {
@@ -30,6 +31,7 @@ impl Text {
         }
     }
 
+    /// A copy of these bytes.
     pub fn from_slice(alloc: Global, bytes: &[u8]) -> Result<Text, AllocError>
         ensures { IfOk result (λ text. text ≡ bytes.now) }
     {
@@ -38,6 +40,7 @@ impl Text {
         })
     }
 
+    /// The bytes of the text.
     pub fn as_slice(&self) -> &[u8]
         ensures { result.now ≡ self.now }
     {

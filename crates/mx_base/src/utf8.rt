@@ -11,7 +11,7 @@ use std::cmp::Ordering;
 use std::marker::Model;
 
 /// A `String` that contracts see as the list of its bytes, and that is ordered by them.
-#[derive(Debug, Drop)]
+#[derive(Drop)]
 pub(crate) struct Utf8 {
     string: String,
 }

@@ -8,9 +8,11 @@ use std::alloc::AllocError;
 pub type Variables = ListOf<Variable>;
 
 /// An environment variable for the compiler of a dependency.
-#[derive(Debug, Drop)]
+#[derive(Drop)]
 pub struct Variable {
+    /// Its name.
     pub name: Text,
+    /// What it is set to.
     pub value: Text,
 }
 

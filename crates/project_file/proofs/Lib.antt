@@ -4,4 +4,6 @@ pub mod OneLemmas
 pub mod PathLemmas
 pub mod ProjectLemmas
 pub mod SettingsLemmas
+pub mod SomeLemmas
+pub mod TextLemmas
 pub mod VersionLemmas

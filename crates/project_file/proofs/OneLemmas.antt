@@ -1,12 +1,12 @@
 -- The same files say one thing.
-use Rattle.std.proofs.Common.{◌≡◌, ℕ, List, [], Option, Some, None, Result, Ok, Err, refl, sym, ◌∙◌, ap, subst}
+use Rattle.std.proofs.Common.{◌≡◌, ℕ, List, [], Option, Some, None, Result, Ok, Err, IsTrue, refl, sym, ◌∙◌, ap, subst}
+use Rattle.std.proofs.Props.{props}
 use Rattle.mx_base.specs.declared.file.File.{File}
-use Rattle.mx_base.specs.Order.{bytes_at}
 use Rattle.elixir_terms.specs.declared.error.TermError.{TermError}
-use Rattle.elixir_terms.specs.declared.term.Term.{Term}
-use Rattle.elixir_terms.specs.declared.error.TermCause.{TermCause}
+use Rattle.term_values.specs.declared.term.Term.{Term}
+use Rattle.term_tokens.specs.declared.cause.TermCause.{TermCause}
 use Rattle.elixir_terms.specs.Refusals.{IsRefusal}
-use Rattle.elixir_terms.specs.Spells.{Spells}
+use Rattle.term_print.specs.Spells.{Spells}
 use Rattle.elixir_terms.specs.Within.{Within}
 use Rattle.dep_options.specs.declared.decl.Decl.{Decl}
 use Rattle.dep_options.specs.declared.error.OptionError.{OptionError}
@@ -17,10 +17,12 @@ use Rattle.project_file.specs.declared.error.SettingsError.{SettingsError}
 use Rattle.project_file.specs.declared.error.SettingsError.TheVariants as setting
 use Rattle.project_file.specs.declared.project.Project.{Project}
 use Rattle.project_file.specs.declared.settings.Settings.{Settings}
+use Rattle.project_file.specs.Version.{is_version}
 use Rattle.project_file.specs.Compilers.{settings_of}
-use Rattle.project_file.specs.Files.{IsReadAs, IsRefusedText, IsLoaded, AreSettings, manifest_at, settings_path}
-use Rattle.project_file.specs.Files.IsLoaded.{absent, unread, refused, loaded}
-use Rattle.project_file.specs.Files.AreSettings.{absent as unset, unread as unread_settings, shape as no_settings, set}
+use Rattle.project_file.specs.Files.{IsReadAs, IsRefusedText, IsManifest, SaysProject, IsLoaded, SaysSettings, AreSettings}
+use Rattle.project_file.specs.Files.IsManifest.{unread, read}
+use Rattle.project_file.specs.Files.SaysProject.{absent, refused, loaded}
+use Rattle.project_file.specs.Files.SaysSettings.{absent as unset, unread as unread_settings, shape as no_settings, set}
 use Rattle.project_file.specs.Manifest.{Stated, stated_of, project_of, IsProject}
 use Rattle.project_file.specs.Manifest.IsProject.{shape, bare, options, whole}
 
@@ -57,107 +59,89 @@ decls_one one dir o s u d c a b e f some same are also =
     let deps : d ≡ c = some_one u.deps d c (subst (λ (x : Stated). x.deps ≡ Some d) (some_one o s u e f) some) same in
     one dir c a b (subst (λ (x : Term). AreDecls dir x a) deps are) also
 
+version_prop : (text : List ℕ) → IsProp (IsTrue (is_version text))
+version_prop text = hlevel props
+
+-- a project that is stated once is one project
+same_project : (o : Option Stated) (s u : Stated) (b : IsTrue (is_version s.version)) (v : IsTrue (is_version u.version)) (decls : List Decl) → o ≡ Some s → o ≡ Some u → project_of s b decls ≡ project_of u v decls
+same_project o s u b v decls e f =
+    let Same : Stated → Type 0 = λ x. (w : IsTrue (is_version x.version)) → project_of s b decls ≡ project_of x w decls in
+    subst Same (some_one o s u e f) (λ w. ap (λ (x : IsTrue (is_version s.version)). project_of s x decls) (version_prop s.version b w)) v
+
 -- a term is one project, or is refused in one way
 project_one : OneAnswer → {dir : List ℕ} {t : Term} {a b : Result Project ProjectError} → IsProject dir t a → IsProject dir t b → a ≡ b
 project_one one (shape e) (shape f) = refl
-project_one one {t = t} (shape e) (bare u f none) = absurd (no_some (stated_of t) u e f)
+project_one one {t = t} (shape e) (bare u v f none) = absurd (no_some (stated_of t) u e f)
 project_one one {t = t} (shape e) (options u c f some also) = absurd (no_some (stated_of t) u e f)
-project_one one {t = t} (shape e) (whole u c f some also) = absurd (no_some (stated_of t) u e f)
-project_one one {t = t} (bare s e none) (shape f) = absurd (no_some (stated_of t) s f e)
-project_one one {t = t} (bare s e none) (bare u f empty) = ap (λ (x : Stated). Ok (project_of x [])) (some_one (stated_of t) s u e f)
-project_one one {t = t} (bare s e none) (options u c f some also) = absurd (deps_clash (stated_of t) s u c e f none some)
-project_one one {t = t} (bare s e none) (whole u c f some also) = absurd (deps_clash (stated_of t) s u c e f none some)
+project_one one {t = t} (shape e) (whole u v c f some also) = absurd (no_some (stated_of t) u e f)
+project_one one {t = t} (bare s b e none) (shape f) = absurd (no_some (stated_of t) s f e)
+project_one one {t = t} (bare s b e none) (bare u v f empty) = ap (λ (x : Project). Ok x) (same_project (stated_of t) s u b v [] e f)
+project_one one {t = t} (bare s b e none) (options u c f some also) = absurd (deps_clash (stated_of t) s u c e f none some)
+project_one one {t = t} (bare s b e none) (whole u v c f some also) = absurd (deps_clash (stated_of t) s u c e f none some)
 project_one one {t = t} (options s d e some are) (shape f) = absurd (no_some (stated_of t) s f e)
-project_one one {t = t} (options s d e some are) (bare u f none) = absurd (deps_clash (stated_of t) u s d f e none some)
+project_one one {t = t} (options s d e some are) (bare u v f none) = absurd (deps_clash (stated_of t) u s d f e none some)
 project_one one {dir = dir} {t = t} (options s d {e = x} e some are) (options u c {e = y} f same also) =
     ap (λ (z : OptionError). Err (project.Options z)) (err_one x y (decls_one one dir (stated_of t) s u d c (Err x) (Err y) e f some same are also))
-project_one one {dir = dir} {t = t} (options s d {e = x} e some are) (whole u c {decls = ys} f same also) =
+project_one one {dir = dir} {t = t} (options s d {e = x} e some are) (whole u v c {decls = ys} f same also) =
     absurd (err_not_ok x ys (decls_one one dir (stated_of t) s u d c (Err x) (Ok ys) e f some same are also))
-project_one one {t = t} (whole s d e some are) (shape f) = absurd (no_some (stated_of t) s f e)
-project_one one {t = t} (whole s d e some are) (bare u f none) = absurd (deps_clash (stated_of t) u s d f e none some)
-project_one one {dir = dir} {t = t} (whole s d {decls = xs} e some are) (options u c {e = y} f same also) =
+project_one one {t = t} (whole s b d e some are) (shape f) = absurd (no_some (stated_of t) s f e)
+project_one one {t = t} (whole s b d e some are) (bare u v f none) = absurd (deps_clash (stated_of t) u s d f e none some)
+project_one one {dir = dir} {t = t} (whole s b d {decls = xs} e some are) (options u c {e = y} f same also) =
     absurd (err_not_ok y xs (sym (decls_one one dir (stated_of t) s u d c (Ok xs) (Err y) e f some same are also)))
-project_one one {dir = dir} {t = t} (whole s d {decls = xs} e some are) (whole u c {decls = ys} f same also) =
-    ap (λ (z : Stated). Ok (project_of z xs)) (some_one (stated_of t) s u e f)
-    ∙ ap (λ (zs : List Decl). Ok (project_of u zs)) (ok_one xs ys (decls_one one dir (stated_of t) s u d c (Ok xs) (Ok ys) e f some same are also))
+project_one one {dir = dir} {t = t} (whole s b d {decls = xs} e some are) (whole u v c {decls = ys} f same also) =
+    ap (λ (x : Project). Ok x) (same_project (stated_of t) s u b v xs e f)
+    ∙ ap (λ (zs : List Decl). Ok (project_of u v zs)) (ok_one xs ys (decls_one one dir (stated_of t) s u d c (Ok xs) (Ok ys) e f some same are also))
 
--- the same text
-also_read : (found : Option (List ℕ)) (text other : List ℕ) (t : Term) → found ≡ Some text → found ≡ Some other → IsReadAs other t → IsReadAs text t
-also_read found text other t at there read = subst (λ (x : List ℕ). IsReadAs x t) (some_one found other text there at) read
+terms_one : OneReading → (text : List ℕ) (t u : Term) → IsReadAs text t → IsReadAs text u → t ≡ u
+terms_one reading text t u spelled also = reading.terms text t u spelled.0 also.0
 
 same_error : (d e : TermError) → d.at ≡ e.at → d.cause ≡ e.cause → d ≡ e
 same_error d e places causes = ap (λ (at : ℕ). record { at = at; cause = d.cause }) places ∙ ap (λ (cause : TermCause). record { at = e.at; cause = cause }) causes
 
-same_refusal : OneReading → (found : Option (List ℕ)) (text other : List ℕ) (d e : TermError) → found ≡ Some text → found ≡ Some other → IsRefusedText text d → IsRefusedText other e → d ≡ e
-same_refusal reading found text other d e at there why also =
-    let is : IsRefusal text e.at e.cause = subst (λ (x : List ℕ). IsRefusal x e.at e.cause) (some_one found other text there at) also.1 in
-    let same = reading.refusals text d.at e.at d.cause e.cause why.1 is in
+same_refusal : OneReading → (text : List ℕ) (d e : TermError) → IsRefusedText text d → IsRefusedText text e → d ≡ e
+same_refusal reading text d e why also =
+    let same = reading.refusals text d.at e.at d.cause e.cause why.1 also.1 in
     same_error d e same.0 same.1
 
-not_both : OneReading → (found : Option (List ℕ)) (text other : List ℕ) (error : TermError) (t : Term) → found ≡ Some text → found ≡ Some other → IsRefusedText text error → IsReadAs other t → ⊥
-not_both reading found text other error t at there why read =
-    let same = also_read found text other t at there read in
-    reading.apart text t error.at error.cause same.0 same.1 why.1
+not_both : OneReading → (text : List ℕ) (error : TermError) (t : Term) → IsRefusedText text error → IsReadAs text t → ⊥
+not_both reading text error t why spelled = reading.apart text t error.at error.cause spelled.0 spelled.1 why.1
 
-terms_one : OneReading → (found : Option (List ℕ)) (text other : List ℕ) (t u : Term) → found ≡ Some text → found ≡ Some other → IsReadAs text t → IsReadAs other u → t ≡ u
-terms_one reading found text other t u at there read also = reading.terms text t u read.0 (also_read found text other u at there also).0
+-- the text of a manifest says one thing
+manifest_one : OneReading → OneAnswer → {dir text : List ℕ} {a b : Result Project ProjectError} → IsManifest dir text a → IsManifest dir text b → a ≡ b
+manifest_one reading one {text = text} (unread {error = x} why) (unread {error = y} also) = ap (λ (z : TermError). Err (project.Term z)) (same_refusal reading text x y why also)
+manifest_one reading one {text = text} (unread {error = x} why) (read u spelled says) = absurd (not_both reading text x u why spelled)
+manifest_one reading one {text = text} (read t spelled says) (unread {error = y} why) = absurd (not_both reading text y t why spelled)
+manifest_one reading one {dir = dir} {text = text} {a = a} (read t spelled says) (read u again tells) =
+    let Says : Term → Type 0 = λ x. IsProject dir x a in
+    project_one one (subst Says (terms_one reading text t u spelled again) says) tells
 
-said_one : OneReading → OneAnswer → (found : Option (List ℕ)) (text other : List ℕ) (t u : Term) (dir : List ℕ) (a b : Result Project ProjectError) → found ≡ Some text → found ≡ Some other → IsReadAs text t → IsReadAs other u → IsProject dir t a → IsProject dir u b → a ≡ b
-said_one reading one found text other t u dir a b at there read also says tells =
-    project_one one (subst (λ (x : Term). IsProject dir x a) (terms_one reading found text other t u at there read also) says) tells
-
--- what a folder's manifest is, is one thing
-loaded_one : OneReading → OneAnswer → {files : List File} {dir : List ℕ} {a b : Result (Option Project) ProjectError} → IsLoaded files dir a → IsLoaded files dir b → a ≡ b
-loaded_one reading one (absent e) (absent f) = refl
-loaded_one reading one {files = files} {dir = dir} (absent e) (unread other there also) = absurd (no_some (bytes_at (manifest_at dir) files) other e there)
-loaded_one reading one {files = files} {dir = dir} (absent e) (refused other u there also tells) = absurd (no_some (bytes_at (manifest_at dir) files) other e there)
-loaded_one reading one {files = files} {dir = dir} (absent e) (loaded other u there also tells) = absurd (no_some (bytes_at (manifest_at dir) files) other e there)
-loaded_one reading one {files = files} {dir = dir} (unread text at why) (absent f) = absurd (no_some (bytes_at (manifest_at dir) files) text f at)
-loaded_one reading one {files = files} {dir = dir} (unread text {error = x} at why) (unread other {error = y} there also) =
-    ap (λ (z : TermError). Err (project.Term z)) (same_refusal reading (bytes_at (manifest_at dir) files) text other x y at there why also)
-loaded_one reading one {files = files} {dir = dir} (unread text {error = x} at why) (refused other u there also tells) = absurd (not_both reading (bytes_at (manifest_at dir) files) text other x u at there why also)
-loaded_one reading one {files = files} {dir = dir} (unread text {error = x} at why) (loaded other u there also tells) = absurd (not_both reading (bytes_at (manifest_at dir) files) text other x u at there why also)
-loaded_one reading one {files = files} {dir = dir} (refused text t at read says) (absent f) = absurd (no_some (bytes_at (manifest_at dir) files) text f at)
-loaded_one reading one {files = files} {dir = dir} (refused text t at read says) (unread other {error = y} there why) = absurd (not_both reading (bytes_at (manifest_at dir) files) other text y t there at why read)
-loaded_one reading one {files = files} {dir = dir} (refused text t {error = x} at read says) (refused other u {error = y} there also tells) =
-    ap (λ (z : ProjectError). Err z) (err_one x y (said_one reading one (bytes_at (manifest_at dir) files) text other t u dir (Err x) (Err y) at there read also says tells))
-loaded_one reading one {files = files} {dir = dir} (refused text t {error = x} at read says) (loaded other u {p = q} there also tells) =
-    absurd (err_not_ok x q (said_one reading one (bytes_at (manifest_at dir) files) text other t u dir (Err x) (Ok q) at there read also says tells))
-loaded_one reading one {files = files} {dir = dir} (loaded text t at read says) (absent f) = absurd (no_some (bytes_at (manifest_at dir) files) text f at)
-loaded_one reading one {files = files} {dir = dir} (loaded text t at read says) (unread other {error = y} there why) = absurd (not_both reading (bytes_at (manifest_at dir) files) other text y t there at why read)
-loaded_one reading one {files = files} {dir = dir} (loaded text t {p = p} at read says) (refused other u {error = y} there also tells) =
-    absurd (err_not_ok y p (sym (said_one reading one (bytes_at (manifest_at dir) files) text other t u dir (Ok p) (Err y) at there read also says tells)))
-loaded_one reading one {files = files} {dir = dir} (loaded text t {p = p} at read says) (loaded other u {p = q} there also tells) =
-    ap (λ (z : Project). Ok (Some z)) (ok_one p q (said_one reading one (bytes_at (manifest_at dir) files) text other t u dir (Ok p) (Ok q) at there read also says tells))
+-- what a folder's manifest says, is one thing
+said_one : OneReading → OneAnswer → {dir : List ℕ} {text : Option (List ℕ)} {a b : Result (Option Project) ProjectError} → SaysProject dir text a → SaysProject dir text b → a ≡ b
+said_one reading one absent absent = refl
+said_one reading one (loaded {p = p} says) (loaded {p = q} tells) = ap (λ (z : Project). Ok (Some z)) (ok_one p q (manifest_one reading one says tells))
+said_one reading one (loaded {p = p} says) (refused {error = y} tells) = absurd (err_not_ok y p (manifest_one reading one tells says))
+said_one reading one (refused {error = x} says) (loaded {p = q} tells) = absurd (err_not_ok x q (manifest_one reading one says tells))
+said_one reading one (refused {error = x} says) (refused {error = y} tells) = ap (λ (z : ProjectError). Err z) (err_one x y (manifest_one reading one says tells))
 
 pub project_law : OneReading → OneAnswer → (files : List File) (dir : List ℕ) (a b : Result (Option Project) ProjectError) → IsLoaded files dir a → IsLoaded files dir b → a ≡ b
-project_law reading one files dir a b p q = loaded_one reading one p q
+project_law reading one files dir a b p q = said_one reading one p q
 
-read_settings : OneReading → (found : Option (List ℕ)) (text other : List ℕ) (t u : Term) → found ≡ Some text → found ≡ Some other → IsReadAs text t → IsReadAs other u → settings_of t ≡ settings_of u
-read_settings reading found text other t u at there read also = ap settings_of (terms_one reading found text other t u at there read also)
+none_some : (text : List ℕ) (t u : Term) (s : Settings) → OneReading → IsReadAs text t → IsReadAs text u → settings_of t ≡ None → settings_of u ≡ Some s → ⊥
+none_some text t u s reading spelled also none some = no_some (settings_of u) s (ap settings_of (sym (terms_one reading text t u spelled also)) ∙ none) some
 
 -- the settings are one thing
-settings_one : OneReading → {files : List File} {a b : Result Settings SettingsError} → AreSettings files a → AreSettings files b → a ≡ b
-settings_one reading (unset e) (unset f) = refl
-settings_one reading {files = files} (unset e) (unread_settings other there also) = absurd (no_some (bytes_at settings_path files) other e there)
-settings_one reading {files = files} (unset e) (no_settings other u there also none) = absurd (no_some (bytes_at settings_path files) other e there)
-settings_one reading {files = files} (unset e) (set other u there also some) = absurd (no_some (bytes_at settings_path files) other e there)
-settings_one reading {files = files} (unread_settings text at why) (unset f) = absurd (no_some (bytes_at settings_path files) text f at)
-settings_one reading {files = files} (unread_settings text {error = x} at why) (unread_settings other {error = y} there also) =
-    ap (λ (z : TermError). Err (setting.Term z)) (same_refusal reading (bytes_at settings_path files) text other x y at there why also)
-settings_one reading {files = files} (unread_settings text {error = x} at why) (no_settings other u there also none) = absurd (not_both reading (bytes_at settings_path files) text other x u at there why also)
-settings_one reading {files = files} (unread_settings text {error = x} at why) (set other u there also some) = absurd (not_both reading (bytes_at settings_path files) text other x u at there why also)
-settings_one reading {files = files} (no_settings text t at read none) (unset f) = absurd (no_some (bytes_at settings_path files) text f at)
-settings_one reading {files = files} (no_settings text t at read none) (unread_settings other {error = y} there why) = absurd (not_both reading (bytes_at settings_path files) other text y t there at why read)
-settings_one reading (no_settings text t at read none) (no_settings other u there also nothing) = refl
-settings_one reading {files = files} (no_settings text t at read none) (set other u {s = r} there also some) =
-    absurd (no_some (settings_of u) r (sym (read_settings reading (bytes_at settings_path files) text other t u at there read also) ∙ none) some)
-settings_one reading {files = files} (set text t at read some) (unset f) = absurd (no_some (bytes_at settings_path files) text f at)
-settings_one reading {files = files} (set text t at read some) (unread_settings other {error = y} there why) = absurd (not_both reading (bytes_at settings_path files) other text y t there at why read)
-settings_one reading {files = files} (set text t {s = s} at read some) (no_settings other u there also none) =
-    absurd (no_some (settings_of u) s none (sym (read_settings reading (bytes_at settings_path files) text other t u at there read also) ∙ some))
-settings_one reading {files = files} (set text t {s = s} at read some) (set other u {s = r} there also same) =
-    ap (λ (z : Settings). Ok z) (some_one (settings_of u) s r (sym (read_settings reading (bytes_at settings_path files) text other t u at there read also) ∙ some) same)
+settings_one : OneReading → {text : Option (List ℕ)} {a b : Result Settings SettingsError} → SaysSettings text a → SaysSettings text b → a ≡ b
+settings_one reading unset unset = refl
+settings_one reading (unread_settings {text = text} {error = x} why) (unread_settings {error = y} also) = ap (λ (z : TermError). Err (setting.Term z)) (same_refusal reading text x y why also)
+settings_one reading (unread_settings {text = text} {error = x} why) (no_settings u spelled none) = absurd (not_both reading text x u why spelled)
+settings_one reading (unread_settings {text = text} {error = x} why) (set u spelled some) = absurd (not_both reading text x u why spelled)
+settings_one reading (no_settings {text = text} t spelled none) (unread_settings {error = y} why) = absurd (not_both reading text y t why spelled)
+settings_one reading (no_settings t spelled none) (no_settings u also nothing) = refl
+settings_one reading (no_settings {text = text} t spelled none) (set u {s = r} also some) = absurd (none_some text t u r reading spelled also none some)
+settings_one reading (set {text = text} t spelled some) (unread_settings {error = y} why) = absurd (not_both reading text y t why spelled)
+settings_one reading (set {text = text} t {s = s} spelled some) (no_settings u also none) = absurd (none_some text u t s reading also spelled none some)
+settings_one reading (set {text = text} t {s = s} spelled some) (set u {s = r} also same) =
+    ap (λ (z : Settings). Ok z) (some_one (settings_of u) s r (ap settings_of (sym (terms_one reading text t u spelled also)) ∙ some) same)
 
 pub settings_law : OneReading → (files : List File) (a b : Result Settings SettingsError) → AreSettings files a → AreSettings files b → a ≡ b
 settings_law reading files a b p q = settings_one reading p q

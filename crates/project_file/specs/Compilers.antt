@@ -1,11 +1,11 @@
 -- What the term of the settings says: by which compiler each manager compiles.
 use Rattle.std.specs.Prelude.{ℕ, Bool, ◌||◌, ◌&&◌, List, [], ◌∷◌, Option, Some, None, option_and_then, is_some, if◌then◌else◌, codes, bytes_eq}
 use Rattle.std.specs.List.{list_all}
-use Rattle.elixir_terms.specs.declared.term.Term.{Term}
+use Rattle.term_values.specs.declared.term.Term.{Term}
 use Rattle.compile_model.specs.declared.how.How.{How}
 use Rattle.compile_model.specs.declared.how.How.TheVariants.{Unit as ByUnit, Program}
 use Rattle.dep_options.specs.Options.{first_of, or_else}
-use Rattle.elixir_terms.specs.Views.{atom_of, string_of, list_of, keywords_of, all_of, Named}
+use Rattle.term_values.specs.Views.{atom_of, string_of, list_of, keywords_of, all_of, Named}
 use Rattle.project_file.specs.declared.settings.Settings.{Settings}
 use Rattle.project_file.specs.Manifest.{entries_of}
 

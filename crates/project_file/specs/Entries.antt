@@ -1,8 +1,8 @@
 -- What a manifest states, behind references.
 use Rattle.std.specs.Prelude.{ℕ, List, Option, option_and_then}
 use Rattle.std.specs.Option.{option_copied}
-use Rattle.elixir_terms.specs.declared.term.Term.{Term}
-use Rattle.elixir_terms.specs.Views.{string_of}
+use Rattle.term_values.specs.declared.term.Term.{Term}
+use Rattle.term_values.specs.Views.{string_of}
 use Rattle.project_file.specs.declared.manifest.Header.{Header}
 use Rattle.project_file.specs.Compilers.{if_word}
 use Rattle.project_file.specs.Manifest.{Stated}

@@ -1,4 +1,5 @@
 pub mod Blame
+pub mod Version
 pub mod Manifest
 pub mod Compilers
 pub mod Files

@@ -1,14 +1,13 @@
 -- What the term of a manifest says.
-use Rattle.std.specs.Prelude.{◌≡◌, ℕ, Bool, ◌&&◌, List, [], Option, Some, None, option_map, option_and_then, Result, Ok, Err, is_ok, if◌then◌else◌, codes}
-use Rattle.std.specs.Str.{is_utf8}
-use Rattle.semver.specs.Parse.{version_parts}
-use Rattle.elixir_terms.specs.declared.term.Term.{Term}
+use Rattle.std.specs.Prelude.{◌≡◌, ℕ, List, [], Option, Some, None, option_map, option_and_then, Result, Ok, Err, IsTrue, if◌then◌else◌, codes}
+use Rattle.term_values.specs.declared.term.Term.{Term}
 use Rattle.dep_options.specs.declared.decl.Decl.{Decl}
 use Rattle.dep_options.specs.declared.error.OptionError.{OptionError}
 use Rattle.dep_options.specs.Decls.{AreDecls}
 use Rattle.dep_options.specs.Options.{first_of, or_else}
-use Rattle.elixir_terms.specs.Views.{string_of, list_of, map_of, keywords_of, all_of, named_of, Named}
+use Rattle.term_values.specs.Views.{string_of, list_of, map_of, keywords_of, all_of, named_of, Named}
 use Rattle.dep_options.specs.Views.{app_of}
+use Rattle.project_file.specs.Version.{is_version}
 use Rattle.project_file.specs.declared.project.Project.{Project}
 use Rattle.project_file.specs.declared.error.ProjectError.{ProjectError}
 use Rattle.project_file.specs.declared.error.ProjectError.TheVariants.{Options, Shape}
@@ -16,10 +15,6 @@ use Rattle.project_file.specs.declared.error.ProjectError.TheVariants.{Options, 
 -- the entries of a keyword list, or of a map whose keys are atoms
 abbrev pub entries_of : Term → Option (List Named)
 entries_of t = or_else (keywords_of t) (option_and_then (all_of named_of) (map_of t))
-
--- a version of Semantic Versioning 2.0.0
-abbrev pub is_version : List ℕ → Bool
-is_version text = is_utf8 text && is_ok (version_parts text)
 
 abbrev pub if_version : List ℕ → Option (List ℕ)
 if_version text = if is_version text then Some text else None
@@ -50,13 +45,13 @@ stated_by entries =
 abbrev pub stated_of : Term → Option Stated
 stated_of t = option_and_then stated_by (entries_of t)
 
--- the project that is stated, with these declarations
-abbrev pub project_of : Stated → List Decl → Project
-project_of s decls = record { app = s.app; version = s.version; decls = decls }
+-- the project that is stated, whose version is one, with these declarations
+abbrev pub project_of : (s : Stated) → IsTrue (is_version s.version) → List Decl → Project
+project_of s versioned decls = record { app = s.app; version = s.version; versioned = versioned; decls = decls }
 
 -- what the term of a manifest in this folder says, or why it is refused
 pub data IsProject (dir : List ℕ) (t : Term) : Result Project ProjectError → Type 0 where
   shape : stated_of t ≡ None → IsProject dir t (Err Shape)
-  bare : (s : Stated) → stated_of t ≡ Some s → s.deps ≡ None → IsProject dir t (Ok (project_of s []))
+  bare : (s : Stated) (versioned : IsTrue (is_version s.version)) → stated_of t ≡ Some s → s.deps ≡ None → IsProject dir t (Ok (project_of s versioned []))
   options : (s : Stated) (deps : Term) {e : OptionError} → stated_of t ≡ Some s → s.deps ≡ Some deps → AreDecls dir deps (Err e) → IsProject dir t (Err (Options e))
-  whole : (s : Stated) (deps : Term) {decls : List Decl} → stated_of t ≡ Some s → s.deps ≡ Some deps → AreDecls dir deps (Ok decls) → IsProject dir t (Ok (project_of s decls))
+  whole : (s : Stated) (versioned : IsTrue (is_version s.version)) (deps : Term) {decls : List Decl} → stated_of t ≡ Some s → s.deps ≡ Some deps → AreDecls dir deps (Ok decls) → IsProject dir t (Ok (project_of s versioned decls))

@@ -1,16 +1,16 @@
 // What the term of the settings says.
 ghost use Rattle.std.specs.Prelude.{◌≡◌, IfOk, option_and_then, bytes_eq, is_some};
 ghost use Rattle.std.specs.List.{list_all};
-ghost use Rattle.elixir_terms.specs.Views.{atom_of, all_of, named};
+ghost use Rattle.term_values.specs.Views.{atom_of, all_of, named};
 ghost use Rattle.project_file.specs.Compilers.{unit_in, program_in, how_of, is_manager, is_compiler, how_by, settings_in, compilers_of, is_setting, first_setting, settings_by, settings_of, no_settings};
 ghost use Rattle.project_file.specs.Entries.{word_of};
 
 use crate::entries::{entries, first};
 use crate::settings::Settings;
 use compile_model::{How, Texts};
-use elixir_terms::Term;
 use mx_base::Text;
 use std::alloc::{AllocError, Global};
+use term_values::Term;
 
 /// The settings that the term is.
 pub(crate) fn settings_of(alloc: Global, term: &Term) -> Result<Option<Settings>, AllocError>

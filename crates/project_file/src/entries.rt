@@ -2,12 +2,12 @@
 ghost use Rattle.std.specs.Prelude.{◌≡◌, IfOk, option_map};
 ghost use Rattle.std.specs.Option.{option_copied};
 ghost use Rattle.dep_options.specs.Options.{first_of};
-ghost use Rattle.elixir_terms.specs.Views.{all_of, named, named_of};
+ghost use Rattle.term_values.specs.Views.{all_of, named, named_of};
 ghost use Rattle.project_file.specs.Manifest.{entries_of};
 
-use elixir_terms::Term;
 use mx_base::Text;
 use std::alloc::{AllocError, Global};
+use term_values::Term;
 
 /// The entries of a keyword list, or of a map whose keys are atoms.
 pub(crate) fn entries(alloc: Global, term: &Term) -> Result<Option<Vec<(&Text, &Term)>>, AllocError>

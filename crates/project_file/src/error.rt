@@ -6,7 +6,7 @@ use std::alloc::{AllocError, AllocFailed};
 use tree_store::StoreFault;
 
 /// Why a manifest is refused.
-#[derive(Debug, Drop)]
+#[derive(Drop)]
 pub enum ProjectError {
     /// The store failed, and counted it.
     Read,
@@ -21,7 +21,7 @@ pub enum ProjectError {
 }
 
 /// Why the settings are refused.
-#[derive(Debug, Drop)]
+#[derive(Drop)]
 pub enum SettingsError {
     /// The store failed, and counted it.
     Read,
@@ -65,10 +65,9 @@ impl From<OptionError> for ProjectError {
     ghost from_gives = { λ error e. e ≡ options_refused error };
 
     fn from(error: OptionError) -> ProjectError {
-        if matches!(&error.cause, OptionCause::OutOfMemory) {
-            ProjectError::OutOfMemory
-        } else {
-            ProjectError::Options(error)
+        match &error.cause {
+            OptionCause::OutOfMemory => ProjectError::OutOfMemory,
+            _ => ProjectError::Options(error),
         }
     }
 }

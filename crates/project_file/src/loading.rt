@@ -1,12 +1,10 @@
 // The files of a project, read from a store or as texts.
-ghost use Rattle.std.specs.Prelude.{◌≡◌, List, IsFalse};
-ghost use Rattle.mx_base.specs.declared.file.File.{File};
+ghost use Rattle.std.specs.Prelude.{IsFalse};
 ghost use Rattle.mx_base.specs.Blame.{Answers, Computes, fails};
-ghost use Rattle.mx_base.specs.Order.{bytes_at};
 ghost use Rattle.tree_store.specs.Files.{is_in_build};
-ghost use Rattle.tree_store.specs.Known.{Told, OnlyReads, Reads};
+ghost use Rattle.tree_store.specs.Known.{Told, OnlyReads};
 ghost use Rattle.project_file.specs.Blame.{project_blame, settings_blame};
-ghost use Rattle.project_file.specs.Files.{IsManifest, IsLoaded, AreSettings, manifest_at, settings_path};
+ghost use Rattle.project_file.specs.Files.{IsManifest, SaysProject, IsLoaded, SaysSettings, AreSettings, IsOfText, manifest_at, settings_path};
 
 use crate::compilers::{no_settings, settings_of};
 use crate::error::{ProjectError, SettingsError};
@@ -29,7 +27,11 @@ pub fn load_project<S: Store>(
     dir: &RelPath,
 ) -> Result<Option<Project>, ProjectError>
     requires { IsFalse (is_in_build dir.now) }
-    ensures answer { Answers project_blame result (Told (S.known store.old) (λ files. IsLoaded files dir.now)) }
+    // Of the manifest's text, whether the store tells it or not.
+    ensures found { Answers project_blame result
+        (IsOfText (S.known store.old) (manifest_at dir.now) (SaysProject dir.now)) }
+    ensures answer { Answers project_blame result
+        (Told (S.known store.old) (λ files. IsLoaded files dir.now)) }
     ensures reads { OnlyReads (S.known store.old) (S.known store.new) (fails project_blame result) }
 {
     let path = dir.child(alloc, MANIFEST)?;
@@ -43,8 +45,7 @@ fn project_found(
     dir: &RelPath,
     text: Option<Bytes>,
 ) -> Result<Option<Project>, ProjectError>
-    ensures answer { (files : List File) → text ≡ bytes_at (manifest_at dir.now) files → Answers project_blame result (IsLoaded files dir.now) }
-    ensures alone { IsFalse (fails project_blame result) }
+    ensures { Computes project_blame result (SaysProject dir.now text) }
 {
     match text {
         Some(text) => Ok(Some(project_of_text(alloc, dir, text.as_slice())?)),
@@ -62,7 +63,11 @@ pub fn project_of_text(alloc: Global, dir: &RelPath, text: &[u8]) -> Result<Proj
 
 /// Reads the settings of a project, and answers what stands without them where it has none.
 pub fn load_settings<S: Store>(alloc: Global, store: &mut S) -> Result<Settings, SettingsError>
-    ensures { Reads settings_blame (S.known store.old) (S.known store.new) result AreSettings }
+    // Of the settings' text, whether the store tells it or not.
+    ensures found { Answers settings_blame result
+        (IsOfText (S.known store.old) settings_path SaysSettings) }
+    ensures answer { Answers settings_blame result (Told (S.known store.old) AreSettings) }
+    ensures reads { OnlyReads (S.known store.old) (S.known store.new) (fails settings_blame result) }
 {
     let path = RelPath::root(alloc).child(alloc, SETTINGS)?;
     let text = store.get(alloc, &path)?;
@@ -71,8 +76,7 @@ pub fn load_settings<S: Store>(alloc: Global, store: &mut S) -> Result<Settings,
 
 // What the text that was found in the settings' place says.
 fn settings_found(alloc: Global, text: Option<Bytes>) -> Result<Settings, SettingsError>
-    ensures answer { (files : List File) → text ≡ bytes_at settings_path files → Answers settings_blame result (AreSettings files) }
-    ensures alone { IsFalse (fails settings_blame result) }
+    ensures { Computes settings_blame result (SaysSettings text) }
 {
     let Some(text) = text else {
         return Ok(no_settings());

@@ -3,21 +3,22 @@ ghost use Rattle.std.specs.Prelude.{◌≡◌, IfOk, option_map, option_and_then
 ghost use Rattle.std.specs.Option.{option_copied};
 ghost use Rattle.dep_options.specs.Options.{first_of};
 ghost use Rattle.dep_options.specs.Views.{app_of};
-ghost use Rattle.elixir_terms.specs.Views.{named};
+ghost use Rattle.term_values.specs.Views.{named};
 ghost use Rattle.mx_base.specs.Blame.{Computes};
 ghost use Rattle.project_file.specs.Entries.{stated_in};
 ghost use Rattle.project_file.specs.Blame.{project_blame};
-ghost use Rattle.project_file.specs.Manifest.{is_version, version_of, deps_in, stated_by, stated_of, IsProject};
+ghost use Rattle.project_file.specs.Version.{is_version};
+ghost use Rattle.project_file.specs.Manifest.{version_of, deps_in, stated_by, stated_of, IsProject};
 
 use crate::entries::{entries, first};
 use crate::error::ProjectError;
 use crate::project::{Decls, Project};
 use dep_options::decls;
-use elixir_terms::Term;
 use mx_base::{AppName, NameError, RelPath, Text};
 use semver::{Error, Version};
 use std::alloc::{AllocError, Global};
 use std::str;
+use term_values::Term;
 
 /// What a manifest states, where its declarations were not read yet.
 #[derive(Drop)]

@@ -3,7 +3,7 @@
 use compile_model::How;
 
 /// By which compiler each manager compiles.
-#[derive(Debug, Drop)]
+#[derive(Drop)]
 pub struct Settings {
     pub mix: How,
     pub rebar3: How,

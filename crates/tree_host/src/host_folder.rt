@@ -2,10 +2,10 @@
 ghost use Rattle.std.specs.Prelude.{◌≡◌, IfOk};
 ghost use Rattle.mx_base.specs.Order.{paths_of};
 
-use crate::fault_count::FaultCount;
+use crate::counted::counted;
 use crate::files::{Kind, host_path, kind_at, remove_folder, write_file};
 use crate::walk::{Scope, files_below};
-use mx_base::{AppName, Bytes, File, Files, RelPath};
+use mx_base::{AppName, Bytes, Count, File, Files, RelPath};
 use std::alloc::Global;
 use std::path::{Path, PathBuf};
 use std::{fs, io};
@@ -18,7 +18,7 @@ pub struct HostFolder<R> {
     pub(crate) rt: R,
     pub(crate) key: BuildKey,
     pub(crate) dir: PathBuf,
-    pub(crate) faults: FaultCount,
+    pub(crate) faults: Count,
 }
 
 impl<R: fs::Files + AllocGlobal + Clone + Drop> Folder for HostFolder<R> {
@@ -45,20 +45,20 @@ impl<R: fs::Files + AllocGlobal + Clone + Drop> Folder for HostFolder<R> {
     /// Its subfolders go too, and whatever else isn't a file.
     fn clear(&mut self, _alloc: Global) -> Result<(), StoreFault> {
         let removed = remove_folder(&self.rt, self.dir.as_path());
-        self.faults.counted(removed)
+        counted(&mut self.faults, removed)
     }
 
     /// It makes the folders that are missing. Where the path is that of a folder it is a fault.
     fn put(&mut self, alloc: Global, path: &RelPath, bytes: &[u8]) -> Result<(), StoreFault> {
         let path = host_path(alloc, self.dir.as_path(), path)?;
         let written = write_file(&self.rt, path.as_path(), bytes);
-        self.faults.counted(written)
+        counted(&mut self.faults, written)
     }
 
     /// A folder that is absent has no files.
     fn files(&mut self, alloc: Global) -> Result<Files, StoreFault> {
         let files = read_files(&self.rt, alloc, self.dir.as_path());
-        self.faults.counted(files)
+        counted(&mut self.faults, files)
     }
 }
 

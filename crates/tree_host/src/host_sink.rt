@@ -1,15 +1,14 @@
 // Standard output as a sink.
 ghost use Rattle.std.specs.Prelude.{◌≡◌};
 
-use crate::fault_count::FaultCount;
-use mx_base::{Failed, Sink};
+use mx_base::{Count, Failed, Sink};
 use std::io::Print;
 
 /// Standard output. It counts the writes that failed, and doesn't tell the bytes that it took.
 #[derive(Drop)]
 pub struct HostSink<R> {
     rt: R,
-    pub(crate) faults: FaultCount,
+    faults: Count,
 }
 
 impl<R: Print + Drop> HostSink<R> {
@@ -18,7 +17,7 @@ impl<R: Print + Drop> HostSink<R> {
     {
         HostSink {
             rt,
-            faults: FaultCount::new(),
+            faults: Count::new(),
         }
     }
 }

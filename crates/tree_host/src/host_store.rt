@@ -7,11 +7,11 @@ ghost use Rattle.tree_store.specs.Files.{is_in_build};
 ghost use Rattle.tree_store.specs.Slot.{AreNamesInOrder};
 ghost use Rattle.tree_store.specs.Slot.Slot.{Here};
 
-use crate::fault_count::FaultCount;
+use crate::counted::counted;
 use crate::files::{Kind, host_path, if_there, is_link, kind_at, read_file};
 use crate::host_folder::HostFolder;
 use crate::walk::{Scope, files_below, has_file};
-use mx_base::{AppName, Bytes, NameError, RelPath};
+use mx_base::{AppName, Bytes, Count, NameError, RelPath};
 use std::alloc::{AllocError, Global};
 use std::collections::BTreeSet;
 use std::fs::{DirEntry, Files};
@@ -32,8 +32,8 @@ pub struct HostStore<R> {
     rt: R,
     root: PathBuf,
     out: BTreeSet<BuildKey>,
-    pub(crate) faults: FaultCount,
-    pub(crate) returned: FaultCount,
+    faults: Count,
+    returned: Count,
 }
 
 impl<R: Files + AllocGlobal + Clone + Drop> HostStore<R> {
@@ -49,8 +49,8 @@ impl<R: Files + AllocGlobal + Clone + Drop> HostStore<R> {
             rt,
             root: PathBuf::from_str(alloc, root)?,
             out: BTreeSet::new(alloc),
-            faults: FaultCount::new(),
-            returned: FaultCount::new(),
+            faults: Count::new(),
+            returned: Count::new(),
         })
     }
 }
@@ -73,20 +73,20 @@ impl<R: Files + AllocGlobal + Clone + Drop> Store for HostStore<R> {
     fn get(&mut self, alloc: Global, path: &RelPath) -> Result<Option<Bytes>, StoreFault> {
         let path = host_path(alloc, self.root.as_path(), path)?;
         let bytes = read_file(&self.rt, path.as_path());
-        self.faults.counted(bytes)
+        counted(&mut self.faults, bytes)
     }
 
     /// A folder that is absent has no files.
     fn list(&mut self, alloc: Global, dir: &RelPath) -> Result<Vec<RelPath>, StoreFault> {
         let paths = listed(&self.rt, alloc, self.root.as_path(), dir);
-        self.faults.counted(paths)
+        counted(&mut self.faults, paths)
     }
 
     /// A thing in the folder of builds whose name is no app's is passed over.
     fn apps(&mut self, alloc: Global, env: &AppName) -> Result<Vec<AppName>, StoreFault> {
         let folder = builds_of(alloc, self.root.as_path(), env)?;
         let apps = apps_in(&self.rt, alloc, folder.as_path());
-        self.faults.counted(apps)
+        counted(&mut self.faults, apps)
     }
 
     /// The system isn't asked for anything.
@@ -99,13 +99,13 @@ impl<R: Files + AllocGlobal + Clone + Drop> Store for HostStore<R> {
         let rt = self.rt.clone()?;
         let mut dir = builds_of(alloc, self.root.as_path(), env)?;
         dir.push(app.as_str())?;
-        let key = key_of(env, app)?;
+        let key = BuildKey::of(env, app)?;
         self.out.insert(key.clone()?)?;
         Ok(HostFolder {
             rt,
             key,
             dir,
-            faults: FaultCount::new(),
+            faults: Count::new(),
         })
     }
 
@@ -119,15 +119,6 @@ impl<R: Files + AllocGlobal + Clone + Drop> Store for HostStore<R> {
         self.returned.take_over(&faults);
         self.out.remove(&key);
     }
-}
-
-fn key_of(env: &AppName, app: &AppName) -> Result<BuildKey, AllocError>
-    ensures { IfOk result (λ key. key ≡ record { env = env.now; app = app.now }) }
-{
-    Ok(BuildKey {
-        env: env.clone()?,
-        app: app.clone()?,
-    })
 }
 
 // The folder of an environment's builds.

@@ -3,7 +3,7 @@
 //! What is proved is when each counts a fault, which folders are out, and what a listing looks like.
 #![tactic(auto)]
 
-mod fault_count;
+mod counted;
 mod files;
 mod host_folder;
 mod host_sink;

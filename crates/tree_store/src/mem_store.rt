@@ -107,7 +107,7 @@ impl<P: Faults + Drop> Store for MemStore<P> {
         if self.plan.fails() {
             return Err(StoreFault::Failed);
         }
-        let key = key_of(env, app)?;
+        let key = BuildKey::of(env, app)?;
         let plan = self.folder_plan.restarted(alloc)?;
         let contents = lend(alloc, &mut self.builds, &key)?;
         Ok(MemFolder {
@@ -137,15 +137,6 @@ fn listed(alloc: Global, sources: &Contents, dir: &RelPath) -> Result<Vec<RelPat
     let mut paths = sources.below(alloc, dir)?;
     paths.retain(|path| !is_in_build(path));
     Ok(paths)
-}
-
-fn key_of(env: &AppName, app: &AppName) -> Result<BuildKey, AllocError>
-    ensures { IfOk result (λ key. key ≡ record { env = env.now; app = app.now }) }
-{
-    Ok(BuildKey {
-        env: env.clone()?,
-        app: app.clone()?,
-    })
 }
 
 fn lend(

@@ -17,7 +17,7 @@ use mx_base::{AppName, Bytes, File, Files, RelPath};
 use std::alloc::{AllocError, AllocFailed, Global};
 
 /// Why a call of a store or a folder has no answer.
-#[derive(Clone, Copy, Debug, PartialEq, Eq)]
+#[derive(Clone, Copy, PartialEq, Eq)]
 pub enum StoreFault {
     /// The outside failed, and was counted.
     Failed,

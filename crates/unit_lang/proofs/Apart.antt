@@ -13,14 +13,15 @@ use Rattle.unit_lang.specs.declared.unit.Statement.{Statement}
 use Rattle.unit_lang.specs.declared.unit.Unit.{Unit as UnitFile}
 use Rattle.unit_lang.specs.declared.state.State.{State}
 use Rattle.unit_lang.specs.declared.state.State.TheVariants as state
-use Rattle.unit_lang.specs.Faults.{IsTooDeep, IsTooBig, LineFault, HeadingFault, BodyFault, FileFault, FirstFault, AllBlank}
+use Rattle.unit_lang.specs.Faults.{IsTooDeep, IsTooBig, LineFault, HeadingFault, BodyFault, FileFault, FirstFault, IsUnitless}
 use Rattle.unit_lang.specs.Grammar.{IsFactor, number, name, reference, parentheses, negate, IsStatement, uses, lets, exports}
 use Rattle.unit_lang.specs.Lines.{IsBlankLine, Names, Says, warn, tokens, greatest}
 use Rattle.unit_lang.specs.Machine.{step}
 use Rattle.unit_lang.specs.Names.{are_digits}
 use Rattle.unit_lang.specs.Spells.{Spells, Makes, Body, longest_line, longest_file}
 use Rattle.unit_lang.specs.Tokens.{without_comment}
-use Rattle.unit_lang.proofs.LineLemmas.{NoMore, reached_first, no_deep, no_great, dot_no_digits, digits_all}
+use Rattle.unit_lang.proofs.LineLemmas.{no_deep, no_great, dot_no_digits, digits_all}
+use Rattle.unit_lang.proofs.Reached.{NoMore, reached_first}
 use Rattle.unit_lang.proofs.Meaning.{Wants, WantsNext}
 use Rattle.unit_lang.proofs.OneLemmas.{blank_says_nothing, blank_names_nothing}
 use Rattle.unit_lang.proofs.StepForth.{step_forth}
@@ -28,7 +29,7 @@ use Rattle.unit_lang.proofs.TokenLemmas.{tokens_go_on}
 use Rattle.unit_lang.proofs.WarnLemmas.{blank_line_is}
 use Rattle.unit_lang.proofs.WordLemmas.{name_no_digits}
 
-not_both : (few many : ℕ) → few ≤ many → many < few → ⊥
+pub not_both : (few many : ℕ) → few ≤ many → many < few → ⊥
 not_both few many le lt = omega arith
 
 -- digits are no other word of a statement
@@ -90,7 +91,7 @@ says_no_great line s (tokens {tokens = all} t h) b =
     let whole : IsStatement 64 greatest (b.front ++ Word b.digits ∷ k.more) s = subst (λ l. IsStatement 64 greatest l s) (k.split ∙ append_assoc b.front (Word b.digits ∷ []) k.more) h in
     not_both (digits_value 10 b.digits) greatest (run_fits 64 greatest s state.Start b.front k.more b.digits b.number whole) b.great
 
-line_says_apart : {line : List ℕ} {cause : UnitCause} (s : Statement) → LineFault line cause → length line ≤ longest_line → Says line s → ⊥
+pub line_says_apart : {line : List ℕ} {cause : UnitCause} (s : Statement) → LineFault line cause → length line ≤ longest_line → Says line s → ⊥
 line_says_apart s (LineFault.long {line = line} h) le p = not_both (length line) longest_line le h
 line_says_apart s (LineFault.deep {line = line} l d) le p = says_no_deep line s p d
 line_says_apart s (LineFault.great {line = line} l n b) le p = says_no_great line s p b
@@ -101,7 +102,7 @@ line_says_apart s (LineFault.bad l n m solid none) le p = none s p
 nothing_found : (s : State) → NoMore s []
 nothing_found s tok after found = absurd (let both : None ≡ Some (tok, after) = found in cc)
 
-line_blank_apart : {line : List ℕ} {cause : UnitCause} → LineFault line cause → length line ≤ longest_line → IsBlankLine line → ⊥
+pub line_blank_apart : {line : List ℕ} {cause : UnitCause} → LineFault line cause → length line ≤ longest_line → IsBlankLine line → ⊥
 line_blank_apart (LineFault.long {line = line} h) le p = not_both (length line) longest_line le h
 line_blank_apart (LineFault.deep {line = line} l d) le p = no_deep line state.Start false [] (reached_first (without_comment line) [] (blank_line_is line p)) (nothing_found state.Start) d
 line_blank_apart (LineFault.great {line = line} l n b) le p = no_great line state.Start [] (reached_first (without_comment line) [] (blank_line_is line p)) (nothing_found state.Start) b
@@ -118,11 +119,11 @@ body_apart (Body.says {s = s} le p h) (BodyFault.here f) = line_says_apart s f l
 body_apart (Body.says {line = line} {s = s} le p h) (BodyFault.blank lf q g) = blank_says_nothing line s q p
 body_apart (Body.says le p h) (BodyFault.says lf q g) = body_apart h g
 
-heading_blank_apart : {line : List ℕ} {cause : UnitCause} → HeadingFault line cause → length line ≤ longest_line → IsBlankLine line → ⊥
+pub heading_blank_apart : {line : List ℕ} {cause : UnitCause} → HeadingFault line cause → length line ≤ longest_line → IsBlankLine line → ⊥
 heading_blank_apart (HeadingFault.long {line = line} h) le p = not_both (length line) longest_line le h
 heading_blank_apart (HeadingFault.none l solid nameless) le p = solid p
 
-heading_names_apart : {line : List ℕ} {cause : UnitCause} (title : List ℕ) → HeadingFault line cause → length line ≤ longest_line → Names line title → ⊥
+pub heading_names_apart : {line : List ℕ} {cause : UnitCause} (title : List ℕ) → HeadingFault line cause → length line ≤ longest_line → Names line title → ⊥
 heading_names_apart title (HeadingFault.long {line = line} h) le p = not_both (length line) longest_line le h
 heading_names_apart title (HeadingFault.none l solid nameless) le p = nameless title p
 
@@ -134,14 +135,14 @@ file_apart (Makes.heading {name = title} le p h) (FileFault.here f) = heading_na
 file_apart (Makes.heading {line = line} {name = title} le p h) (FileFault.blank lf q g) = blank_names_nothing line title q p
 file_apart (Makes.heading le p h) (FileFault.heading title lf q g) = body_apart h g
 
-blank_makes_nothing : {number : ℕ} {lines : List (List ℕ)} {u : UnitFile} → Makes number lines u → AllBlank lines → ⊥
-blank_makes_nothing (Makes.blank le p h) all = blank_makes_nothing h all.1
-blank_makes_nothing (Makes.heading {line = line} {name = title} le p h) all = blank_names_nothing line title all.0 p
+unitless_makes_nothing : {number : ℕ} {lines : List (List ℕ)} {u : UnitFile} → Makes number lines u → IsUnitless lines → ⊥
+unitless_makes_nothing (Makes.blank le p h) none = unitless_makes_nothing h none.1
+unitless_makes_nothing (Makes.heading {name = title} le p h) none = none.0 (title, p)
 
 first_apart : {text : List ℕ} {at : ℕ} {cause : UnitCause} (u : UnitFile) → Spells text u → FirstFault text at cause → ⊥
 first_apart u s (FirstFault.long {text = text} h) = not_both (length text) longest_file s.short h
-first_apart u s (FirstFault.blank le all first) = blank_makes_nothing s.makes all
-first_apart u s (FirstFault.line le first f) = file_apart s.makes f
+first_apart u s (FirstFault.unitless le none f) = unitless_makes_nothing s.makes none
+first_apart u s (FirstFault.line le some f) = file_apart s.makes f
 
 -- no text both spells a unit and has a first fault
 pub spells_apart : (text : List ℕ) (u : UnitFile) (at : ℕ) (cause : UnitCause) → Spells text u → FirstFault text at cause → ⊥

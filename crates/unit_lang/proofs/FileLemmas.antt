@@ -1,19 +1,21 @@
 -- The lines of a text, and what the reader of a file knows at each.
-use Rattle.std.proofs.Common.{◌≡◌, ℕ, suc, ◌+◌, ◌<◌, ◌≤◌, ◌==◌, Bool, true, false, List, [], ◌∷◌, ◌++◌, cond, take, drop, length, refl, sym, ap, ◌∙◌, subst, arith, append_assoc, inl, inr}
+use Rattle.std.proofs.Common.{◌≡◌, ℕ, suc, ◌<◌, ◌≤◌, ◌==◌, Bool, true, false, List, [], ◌∷◌, ◌++◌, cond, take, drop, length, refl, sym, ap, ◌∙◌, subst, arith, append_assoc, inl, inr}
 use Rattle.std.specs.Prelude.{◌⊎◌}
 use Rattle.std.proofs.lemmas.Bool.{cases_order}
 use Rattle.std.proofs.lemmas.List.{append-nil}
 use Rattle.unit_lang.specs.declared.error.UnitCause.{UnitCause}
-use Rattle.unit_lang.specs.declared.error.UnitCause.TheVariants.{TooLong, NoUnit}
+use Rattle.unit_lang.specs.declared.error.UnitCause.TheVariants.{NoUnit}
 use Rattle.unit_lang.specs.declared.error.UnitError.{UnitError}
 use Rattle.unit_lang.specs.declared.unit.Line.{Line}
 use Rattle.unit_lang.specs.declared.unit.Statement.{Statement}
 use Rattle.unit_lang.specs.declared.unit.Unit.{Unit as UnitFile}
-use Rattle.unit_lang.specs.Faults.{HeadingFault, BodyFault, FileFault, FirstFault, AllBlank, IsFirstShort, IsFirstFault, LineFault}
+use Rattle.unit_lang.specs.Faults.{HeadingFault, BodyFault, FileFault, FirstFault, IsHeaded, IsUnitless, UnitlessFault, LineFault}
 use Rattle.unit_lang.specs.Lexing.{line_len, rest_of, lines_after}
-use Rattle.unit_lang.specs.Lines.{IsBlankLine, Says}
-use Rattle.unit_lang.specs.Reading.{LongFault, FileFaultAs}
+use Rattle.unit_lang.specs.Lines.{IsBlankLine, IsUnitLine, Says}
+use Rattle.unit_lang.specs.Reading.{Refuses}
 use Rattle.unit_lang.specs.Spells.{Makes, Body, lines_of, with_byte, longest_line, longest_file}
+use Rattle.unit_lang.proofs.HeadLemmas.{unit_line_or}
+use Rattle.unit_lang.proofs.OneLemmas.{blank_names_nothing}
 
 line_at : (byte : ℕ) (text : List ℕ) (t : Bool) → lines_of text ≡ take (line_len text) text ∷ lines_after (rest_of (drop (line_len text) text)) → cond t ([] ∷ lines_of text) (with_byte byte (lines_of text)) ≡ take (cond t 0 (suc (line_len text))) (byte ∷ text) ∷ lines_after (rest_of (drop (cond t 0 (suc (line_len text))) (byte ∷ text)))
 line_at byte text true h = refl
@@ -24,12 +26,18 @@ pub first_line_is : (text : List ℕ) → lines_of text ≡ take (line_len text)
 first_line_is [] = refl
 first_line_is (byte ∷ text) = line_at byte text (byte == 10) (first_line_is text)
 
+-- what the first line needs, for `NoUnit` to be told there
+abbrev pub IsFirstShort : List (List ℕ) → Type 0
+IsFirstShort [] = Unit {0}
+IsFirstShort (line ∷ lines) = length line ≤ longest_line
+
 -- where the first line that isn't blank is sought
 pub record Sought (text : List ℕ) (number : ℕ) (rest : List (List ℕ)) : Type 0 where
   pub makes : (u : UnitFile) → Makes number rest u → Makes 1 (lines_of text) u
   pub faults : (at : ℕ) (cause : UnitCause) → FileFault number rest at cause → FileFault 1 (lines_of text) at cause
-  pub blank_on : AllBlank (lines_of text) → AllBlank rest
-  pub blank_back : AllBlank rest → AllBlank (lines_of text)
+  pub headed : IsHeaded rest → IsHeaded (lines_of text)
+  pub unitless_on : IsUnitless (lines_of text) → IsUnitless rest
+  pub unitless_back : IsUnitless rest → IsUnitless (lines_of text)
   pub at_first : number ≡ 1 → rest ≡ lines_of text
   pub short : 1 < number → IsFirstShort (lines_of text)
   pub low : 1 ≤ number
@@ -38,8 +46,9 @@ pub sought_first : (text : List ℕ) → Sought text 1 (lines_of text)
 sought_first text = record {
   makes = λ u h. h;
   faults = λ at cause h. h;
-  blank_on = λ h. h;
-  blank_back = λ h. h;
+  headed = λ h. h;
+  unitless_on = λ h. h;
+  unitless_back = λ h. h;
   at_first = λ e. refl;
   short = λ h. absurd (omega arith);
   low = omega arith;
@@ -54,8 +63,9 @@ pub sought_next : (text : List ℕ) (number next : ℕ) (line : List ℕ) (rest 
 sought_next text number next line rest is s le blank = record {
   makes = λ u h. s.makes u (Makes.blank le blank (subst (λ n. Makes n rest u) is h));
   faults = λ at cause h. s.faults at cause (FileFault.blank le blank (subst (λ n. FileFault n rest at cause) is h));
-  blank_on = λ h. (s.blank_on h).1;
-  blank_back = λ h. s.blank_back (blank, h);
+  headed = λ h. s.headed (IsHeaded.blank le blank h);
+  unitless_on = λ h. (s.unitless_on h).1;
+  unitless_back = λ h. s.unitless_back (λ n. blank_names_nothing line n.0 blank n.1, h);
   at_first = λ e. absurd (let low = s.low in omega arith);
   short = λ h. first_short text number line rest s le (cases_order number 1);
   low = omega arith;
@@ -87,32 +97,49 @@ heard_all begin all number said h = subst (λ l. Body begin all l) (append-nil s
 pub heard_fault : (begin : ℕ) (all : List (List ℕ)) (number : ℕ) (line : List ℕ) (rest : List (List ℕ)) (said : List Line) (cause : UnitCause) → Heard begin all number (line ∷ rest) said → LineFault line cause → BodyFault begin all number cause
 heard_fault begin all number line rest said cause h f = h.faults number cause (BodyFault.here f)
 
--- the faults of the whole text
+-- a file without a `unit` line
 
-some_lines : (text : List ℕ) → lines_of text ≡ [] → ⊥
+pub some_lines : (text : List ℕ) → lines_of text ≡ [] → ⊥
 some_lines text e = let f = first_line_is text in cc
 
-pub all_blank_fault : (text : List ℕ) (number : ℕ) → length text ≤ longest_file → Sought text number [] → FirstFault text 1 NoUnit
-all_blank_fault text number le s = blank_fault (cases_order number 1)
+first_none : (lines : List (List ℕ)) → (lines ≡ [] → ⊥) → IsFirstShort lines → UnitlessFault lines NoUnit
+first_none [] some short = absurd (some refl)
+first_none (line ∷ lines) some short = UnitlessFault.none short
+
+first_refused : (line : List ℕ) (lines : List (List ℕ)) (cause : UnitCause) → HeadingFault line cause → UnitlessFault (line ∷ lines) cause
+first_refused line lines cause (HeadingFault.long h) = UnitlessFault.long h
+first_refused line lines cause (HeadingFault.none short solid nameless) = UnitlessFault.none short
+
+pub unitless_or : (lines : List (List ℕ)) → IsUnitless lines ⊎ (IsUnitless lines → ⊥)
+unitless_or [] = inl tt
+unitless_or (line ∷ lines) = both (unit_line_or line) (unitless_or lines)
   where
-    blank_fault : (number ≡ 1) ⊎ ((number < 1) ⊎ (1 < number)) → FirstFault text 1 NoUnit
-    blank_fault (inl e) = absurd (some_lines text (sym (s.at_first e)))
-    blank_fault (inr (inl h)) = absurd (let low = s.low in omega arith)
-    blank_fault (inr (inr h)) = FirstFault.blank le (s.blank_back tt) (s.short h)
+    both : IsUnitLine line ⊎ (IsUnitLine line → ⊥) → IsUnitless lines ⊎ (IsUnitless lines → ⊥) → IsUnitless (line ∷ lines) ⊎ (IsUnitless (line ∷ lines) → ⊥)
+    both (inl n) rest = inr (λ u. u.0 n)
+    both (inr n) (inl u) = inl (n, u)
+    both (inr n) (inr m) = inr (λ u. m u.1)
 
-long_at : (text : List ℕ) (number : ℕ) (line : List ℕ) (rest : List (List ℕ)) → length text ≤ longest_file → Sought text number (line ∷ rest) → longest_line < length line → (1 < number → AllBlank (line ∷ rest) → ⊥) → FirstFault text number TooLong
-long_at text number line rest le s long solid =
-    FirstFault.line le (λ all. at_first all (cases_order number 1)) (s.faults number TooLong (FileFault.here (HeadingFault.long long)))
+-- all lines are blank
+pub blank_fault : (text : List ℕ) (number : ℕ) → length text ≤ longest_file → Sought text number [] → FirstFault text 1 NoUnit
+blank_fault text number le s = at (cases_order number 1)
   where
-    at_first : AllBlank (lines_of text) → (number ≡ 1) ⊎ ((number < 1) ⊎ (1 < number)) → number ≡ 1
-    at_first all (inl e) = e
-    at_first all (inr (inl h)) = absurd (let low = s.low in omega arith)
-    at_first all (inr (inr h)) = absurd (solid h (s.blank_on all))
+    at : (number ≡ 1) ⊎ ((number < 1) ⊎ (1 < number)) → FirstFault text 1 NoUnit
+    at (inl e) = absurd (some_lines text (sym (s.at_first e)))
+    at (inr (inl h)) = absurd (let low = s.low in omega arith)
+    at (inr (inr h)) = FirstFault.unitless le (s.unitless_back tt) (first_none (lines_of text) (some_lines text) (s.short h))
 
-pub long_fault : (text : List ℕ) (number : ℕ) (line : List ℕ) (rest : List (List ℕ)) (error : UnitError) → length text ≤ longest_file → Sought text number (line ∷ rest) → longest_line < length line → LongFault number (line ∷ rest) error → FirstFault text error.line error.cause
-long_fault text number line rest error le s long (inl f) = subst (λ (e : UnitError). FirstFault text e.line e.cause) (sym f.0) (FirstFault.blank le (s.blank_back f.2) (s.short f.1))
-long_fault text number line rest error le s long (inr f) = subst (λ (e : UnitError). FirstFault text e.line e.cause) (sym f.0) (long_at text number line rest le s long f.1)
+-- a line that only blank lines come before is no `unit` line
+told_there : (text : List ℕ) (number : ℕ) (line : List ℕ) (rest : List (List ℕ)) (cause : UnitCause) → length text ≤ longest_file → Sought text number (line ∷ rest) → HeadingFault line cause → (1 < number → IsUnitless (line ∷ rest) → ⊥) → FirstFault text number cause
+told_there text number line rest cause le s f follows = by (unitless_or (lines_of text)) (cases_order number 1)
+  where
+    by : IsUnitless (lines_of text) ⊎ (IsUnitless (lines_of text) → ⊥) → (number ≡ 1) ⊎ ((number < 1) ⊎ (1 < number)) → FirstFault text number cause
+    by (inr n) order = FirstFault.line le n (s.faults number cause (FileFault.here f))
+    by (inl u) (inl e) = subst (λ n. FirstFault text n cause) (sym e) (FirstFault.unitless le u (subst (λ l. UnitlessFault l cause) (s.at_first e) (first_refused line rest cause f)))
+    by (inl u) (inr (inl h)) = absurd (let low = s.low in omega arith)
+    by (inl u) (inr (inr h)) = absurd (follows h (s.unitless_on u))
 
-pub found_fault : (text : List ℕ) (number : ℕ) (line : List ℕ) (rest : List (List ℕ)) (error : UnitError) → length text ≤ longest_file → Sought text number (line ∷ rest) → (IsBlankLine line → ⊥) → FileFaultAs number (line ∷ rest) error → IsFirstFault text error
-found_fault text number line rest error le s solid (inl m) = inl m
-found_fault text number line rest error le s solid (inr f) = inr (FirstFault.line le (λ all. absurd (solid (s.blank_on all).0)) (s.faults error.line error.cause f))
+pub refused_fault : (text : List ℕ) (number : ℕ) (line : List ℕ) (rest : List (List ℕ)) (cause : UnitCause) (error : UnitError) → length text ≤ longest_file → Sought text number (line ∷ rest) → HeadingFault line cause → Refuses number (line ∷ rest) cause error → FirstFault text error.line error.cause
+refused_fault text number line rest cause error le s f (inl r) =
+    subst (λ (e : UnitError). FirstFault text e.line e.cause) (sym r.0) (FirstFault.unitless le (s.unitless_back r.2) (first_none (lines_of text) (some_lines text) (s.short r.1)))
+refused_fault text number line rest cause error le s f (inr r) =
+    subst (λ (e : UnitError). FirstFault text e.line e.cause) (sym r.0) (told_there text number line rest cause le s f r.1)

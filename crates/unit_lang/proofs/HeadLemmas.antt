@@ -1,68 +1,94 @@
--- The name in the first line that isn't blank.
-use Rattle.std.proofs.Common.{◌≡◌, ℕ, Bool, true, false, List, [], ◌∷◌, Option, Some, None, cond, codes, refl, sym, ap, ◌∙◌, subst}
-use Rattle.std.proofs.lemmas.Bool.{false≢true}
+-- The name in a `unit` line.
+use Rattle.std.proofs.Common.{◌≡◌, ℕ, ◌<◌, ◌&&◌, ◌++◌, Bool, true, false, List, [], ◌∷◌, Option, Some, None, cond, eqb, take, drop, length, codes, bytes_eq, refl, sym, ap, ◌∙◌, subst, inl, inr, arith, lit<}
+use Rattle.std.specs.Prelude.{◌⊎◌, ◌↔◌, MatchOption, is_some, option_map}
+use Rattle.std.specs.List.{list_all}
+use Rattle.std.proofs.lemmas.Bool.{and_parts, eqb-true, false≢true}
+use Rattle.std.proofs.lemmas.List.{take_at, drop_at, take-append-drop, nil_from_length}
 use Rattle.std.proofs.lemmas.Slice.Eq.{bytes_eq-Decides}
 use Rattle.unit_lang.specs.declared.token.Token.{Token}
-use Rattle.unit_lang.specs.declared.token.Token.TheVariants.{Word, Equals, Plus, Minus, Star, Open, Close}
-use Rattle.unit_lang.specs.Gives.{is_unit_keyword, name_of, alone, title_at, title_after, title_of}
-use Rattle.unit_lang.specs.Lexing.{first_token}
-use Rattle.unit_lang.specs.Lines.{IsWarnLine, Names}
-use Rattle.unit_lang.specs.Names.{is_name}
-use Rattle.unit_lang.specs.Tokens.{Leads, end, without_blanks, without_comment}
-use Rattle.unit_lang.proofs.TokenLemmas.{leads_none, leads_next, next_leads}
+use Rattle.unit_lang.specs.declared.token.Token.TheVariants.{Word}
+use Rattle.unit_lang.specs.Lexing.{first_token, word_len, front_word, after_word, name_alone, title_of}
+use Rattle.unit_lang.specs.Lines.{IsUnitLine, IsWarnLine, Names}
+use Rattle.unit_lang.specs.Names.{is_name, is_word_byte}
+use Rattle.unit_lang.specs.Tokens.{is_word, Begins, word, equals, plus, minus, star, parenthesis, closing, Leads, end, token, without_blanks, without_comment}
+use Rattle.unit_lang.proofs.TokenLemmas.{first_begins, leads_none, leads_next, len_word, word_cut}
+use Rattle.unit_lang.proofs.WarnLemmas.{warn_solid}
 
-keyword_is : (tok : Token) → is_unit_keyword tok ≡ true → tok ≡ Word (codes "unit")
-keyword_is (Word bytes) h = ap Word ((bytes_eq-Decides bytes (codes "unit")).0 h)
-keyword_is Equals h = absurd (false≢true h)
-keyword_is Plus h = absurd (false≢true h)
-keyword_is Minus h = absurd (false≢true h)
-keyword_is Star h = absurd (false≢true h)
-keyword_is Open h = absurd (false≢true h)
-keyword_is Close h = absurd (false≢true h)
+-- a word that the function finds, the text begins with
+front_begins : (text bytes : List ℕ) → front_word text ≡ bytes → is_word bytes ≡ true → Begins text (Word bytes) (after_word text)
+front_begins text bytes e w =
+    word w (word_cut text).1 (sym (take-append-drop (word_len text) text) ∙ ap (λ b. b ++ drop (word_len text) text) e)
 
-word_named : (bytes title : List ℕ) (t : Bool) → is_name bytes ≡ t → cond t (Some bytes) None ≡ Some title → (Word bytes ≡ Word title) × (is_name title ≡ true)
-word_named bytes title true n h = let same : bytes ≡ title = cc in (ap Word same, ap is_name (sym same) ∙ n)
-word_named bytes title false n h = absurd (cc)
+word_all : (bytes : List ℕ) → is_word bytes ≡ true → list_all is_word_byte bytes ≡ true
+word_all [] h = absurd (false≢true h)
+word_all (byte ∷ bytes) h = h
 
-named : (tok : Token) (title : List ℕ) → name_of tok ≡ Some title → (tok ≡ Word title) × (is_name title ≡ true)
-named (Word bytes) title h = word_named bytes title (is_name bytes) refl h
-named Equals title h = absurd (cc)
-named Plus title h = absurd (cc)
-named Minus title h = absurd (cc)
-named Star title h = absurd (cc)
-named Open title h = absurd (cc)
-named Close title h = absurd (cc)
+name_is_word : (name : List ℕ) → is_name name ≡ true → list_all is_word_byte name ≡ true → is_word name ≡ true
+name_is_word [] n h = absurd (false≢true n)
+name_is_word (byte ∷ name) n h = h
+
+-- and a word that a text begins with, it finds
+abbrev FrontIs : List ℕ → Token → List ℕ → Type 0
+FrontIs text (Word bytes) rest = (front_word text ≡ bytes) × (after_word text ≡ rest)
+FrontIs text tok rest = Unit {0}
+
+begins_front : {text : List ℕ} {tok : Token} {rest : List ℕ} → Begins text tok rest → FrontIs text tok rest
+begins_front (word {rest = rest} {bytes = bytes} w ends split) =
+    let n = len_word bytes rest (word_all bytes w) ends in (
+      ap front_word split ∙ ap (λ k. take k (bytes ++ rest)) n ∙ take_at bytes rest (length bytes) refl,
+      ap after_word split ∙ ap (λ k. drop k (bytes ++ rest)) n ∙ drop_at bytes rest (length bytes) refl,
+    )
+begins_front equals = tt
+begins_front plus = tt
+begins_front minus = tt
+begins_front star = tt
+begins_front parenthesis = tt
+begins_front closing = tt
+
+first_front : (text bytes rest : List ℕ) → first_token text ≡ Some (Word bytes, rest) → (front_word text ≡ bytes) × (after_word text ≡ rest)
+first_front text bytes rest e = begins_front (first_begins text (Word bytes) rest e)
 
 -- a name alone
 record Titled (text : List ℕ) (title : List ℕ) : Type 0 where
   leads : Leads text (Word title ∷ []) []
   is : is_name title ≡ true
 
-alone_at : (text : List ℕ) (found : Token × List ℕ) (title left : List ℕ) → first_token (without_blanks text) ≡ Some found → without_blanks found.1 ≡ left → alone left (name_of found.0) ≡ Some title → Titled text title
-alone_at text found title [] f e h =
-    let n = named found.0 title h in
-    record { leads = next_leads text [] (Word title) [] found.1 (f ∙ ap (λ t. Some (t, found.1)) n.0) (end e); is = n.1 }
-alone_at text found title (byte ∷ left) f e h = absurd (cc)
+alone_at : (text title : List ℕ) (t : Bool) → (is_name (front_word (without_blanks text)) && eqb (length (without_blanks (after_word (without_blanks text)))) 0) ≡ t → cond t (Some (front_word (without_blanks text))) None ≡ Some title → Titled text title
+alone_at text title false t h = absurd (cc)
+alone_at text title true t h =
+    let rest = without_blanks text in
+    let parts = and_parts (is_name (front_word rest)) (eqb (length (without_blanks (after_word rest))) 0) t in
+    let same : front_word rest ≡ title = cc in
+    let named = ap is_name (sym same) ∙ parts.0 in
+    let w = name_is_word title named (ap (list_all is_word_byte) (sym same) ∙ (word_cut rest).0) in
+    record {
+      leads = token (front_begins rest title same w) (end (nil_from_length (without_blanks (after_word rest)) (eqb-true (length (without_blanks (after_word rest))) 0 parts.1)));
+      is = named;
+    }
 
-title_from : (text title : List ℕ) (o : Option (Token × List ℕ)) → first_token (without_blanks text) ≡ o → title_at o ≡ Some title → Titled text title
-title_from text title None f h = absurd (cc)
-title_from text title (Some found) f h = alone_at text found title (without_blanks found.1) f refl h
+alone_titled : (text title : List ℕ) → name_alone (without_blanks text) ≡ Some title → Titled text title
+alone_titled text title h = alone_at text title (is_name (front_word (without_blanks text)) && eqb (length (without_blanks (after_word (without_blanks text)))) 0) refl h
 
-after_keyword : (text title : List ℕ) (found : Token × List ℕ) (t : Bool) → first_token (without_blanks text) ≡ Some found → is_unit_keyword found.0 ≡ t → cond t (title_at (first_token (without_blanks found.1))) None ≡ Some title → Leads text (Word (codes "unit") ∷ Word title ∷ []) [] × (is_name title ≡ true)
-after_keyword text title found true f k h =
-    let n = title_from found.1 title (first_token (without_blanks found.1)) refl h in
-    (next_leads text [] (Word (codes "unit")) (Word title ∷ []) found.1 (f ∙ ap (λ t. Some (t, found.1)) (keyword_is found.0 k)) n.leads, n.is)
-after_keyword text title found false f k h = absurd (cc)
+first_differs : (a b : ℕ) (x y : List ℕ) → b < a → a ∷ x ≡ b ∷ y → ⊥
+first_differs a b x y less e = let same : a ≡ b = cc in omega arith
 
-heading_from : (text title : List ℕ) (o : Option (Token × List ℕ)) → first_token (without_blanks text) ≡ o → title_after o ≡ Some title → Leads text (Word (codes "unit") ∷ Word title ∷ []) [] × (is_name title ≡ true)
-heading_from text title None f h = absurd (cc)
-heading_from text title (Some found) f h = after_keyword text title found (is_unit_keyword found.0) f refl h
+-- a line that begins with `unit` is no `warn` line
+unit_no_warn : (line : List ℕ) → front_word (without_blanks (without_comment line)) ≡ codes "unit" → IsWarnLine line → ⊥
+unit_no_warn line e w =
+    let s = warn_solid line w.0 w.1 in
+    first_differs 119 117 (take (word_len s.0) s.0) (codes "nit") (lit< tt) (ap front_word (sym s.1) ∙ e)
+
+keyword_at : (line title : List ℕ) (t : Bool) → bytes_eq (front_word (without_blanks (without_comment line))) (codes "unit") ≡ t → cond t (name_alone (without_blanks (after_word (without_blanks (without_comment line))))) None ≡ Some title → Names line title
+keyword_at line title false k h = absurd (cc)
+keyword_at line title true k h =
+    let rest = without_blanks (without_comment line) in
+    let e = (bytes_eq-Decides (front_word rest) (codes "unit")).0 k in
+    let n = alone_titled (after_word rest) title h in
+    (Word (codes "unit") ∷ Word title ∷ [], record { plain = unit_no_warn line e; cut = token (front_begins rest (codes "unit") e refl) n.leads }, (n.is, refl))
 
 -- the name that is found is the line's
-pub title_names : (line title : List ℕ) → (IsWarnLine line → ⊥) → title_of (without_comment line) ≡ Some title → Names line title
-title_names line title plain h =
-    let k = heading_from (without_comment line) title (first_token (without_blanks (without_comment line))) refl h in
-    (Word (codes "unit") ∷ Word title ∷ [], record { plain = plain; cut = k.0 }, (k.1, refl))
+pub title_names : (line title : List ℕ) → title_of (without_comment line) ≡ Some title → Names line title
+title_names line title h = keyword_at line title (bytes_eq (front_word (without_blanks (without_comment line))) (codes "unit")) refl h
 
 -- and a line's name is found
 pub names_title : (line title : List ℕ) → Names line title → title_of (without_comment line) ≡ Some title
@@ -71,11 +97,31 @@ names_title line title p =
     let l : Leads text (Word (codes "unit") ∷ Word title ∷ []) [] = subst (λ k. Leads text k []) p.2.1 p.1.cut in
     let n = leads_next text [] (Word (codes "unit")) (Word title ∷ []) l in
     let m = leads_next n.after [] (Word title) [] n.leads in
-    let e = leads_none m.after [] m.leads in
-    ap title_after n.is ∙ ap title_at m.is ∙ ap (λ k. alone k (name_of (Word title))) e ∙ ap (λ b. cond b (Some title) None) p.2.0
+    let first = first_front (without_blanks text) (codes "unit") n.after n.is in
+    let second = first_front (without_blanks n.after) title m.after m.is in
+    let rest = without_blanks n.after in
+    ap (λ w. cond (bytes_eq w (codes "unit")) (name_alone (without_blanks (after_word (without_blanks text)))) None) first.0
+    ∙ ap (λ r. name_alone (without_blanks r)) first.1
+    ∙ ap (λ w. cond (is_name w && eqb (length (without_blanks (after_word rest))) 0) (Some w) None) second.0
+    ∙ ap (λ r. cond (is_name title && eqb (length (without_blanks r)) 0) (Some title) None) second.1
+    ∙ ap (λ r. cond (is_name title && eqb (length r) 0) (Some title) None) (leads_none m.after [] m.leads)
+    ∙ ap (λ b. cond (b && true) (Some title) None) p.2.0
 
-pub no_title : (line title : List ℕ) → title_of (without_comment line) ≡ None → Names line title → ⊥
-no_title line title h p = let e = names_title line title p in cc
+pub no_title : (line : List ℕ) → title_of (without_comment line) ≡ None → IsUnitLine line → ⊥
+no_title line h p = let e = names_title line p.0 p.1 in cc
 
-pub warn_no_name : (line title : List ℕ) → IsWarnLine line → Names line title → ⊥
-warn_no_name line title w p = p.1.plain w
+-- a line is a `unit` line, or isn't
+pub unit_line_or : (line : List ℕ) → IsUnitLine line ⊎ (IsUnitLine line → ⊥)
+unit_line_or line = at (title_of (without_comment line)) refl
+  where
+    at : (o : Option (List ℕ)) → title_of (without_comment line) ≡ o → IsUnitLine line ⊎ (IsUnitLine line → ⊥)
+    at None e = inr (no_title line e)
+    at (Some title) e = inl (title, title_names line title e)
+
+pub heading_found : {X : Type 0} (line : List ℕ) (found : Option X) (view : X → List ℕ) → option_map view found ≡ title_of (without_comment line) → MatchOption found (IsUnitLine line → ⊥) (λ x. Names line (view x))
+heading_found line None view e = no_title line (sym e)
+heading_found line (Some x) view e = title_names line (view x) (sym e)
+
+pub unit_line_test : {X : Type 0} (line : List ℕ) (found : Option X) (view : X → List ℕ) (some : Bool) → MatchOption found (IsUnitLine line → ⊥) (λ x. Names line (view x)) → some ≡ is_some found → (some ≡ true) ↔ IsUnitLine line
+unit_line_test line None view some none e = (λ h. absurd (false≢true (sym e ∙ h)), λ n. absurd (none n))
+unit_line_test line (Some x) view some named e = (λ h. (view x, named), λ n. e)

@@ -6,6 +6,7 @@ pub mod StepBack
 pub mod Ends
 pub mod Steps
 pub mod TokenLemmas
+pub mod Reached
 pub mod LineLemmas
 pub mod WarnLemmas
 pub mod FileLemmas
@@ -14,3 +15,5 @@ pub mod HeadLemmas
 pub mod Outcomes
 pub mod FileOutcomes
 pub mod Apart
+pub mod OneFault
+pub mod Answered

@@ -1,11 +1,10 @@
--- What the reader of a line knows at each token, and the fault of a line that it refuses.
-use Rattle.std.proofs.Common.{◌≡◌, ℕ, ◌+◌, ◌<◌, ◌≤◌, ◌&&◌, ◌||◌, Bool, true, false, List, [], ◌∷◌, ◌++◌, Option, Some, None, cond, eqb, length, is_none, codes, bytes_eq, refl, sym, ap, ◌∙◌, subst, arith}
+-- The fault of a line that the reader refuses.
+use Rattle.std.proofs.Common.{◌≡◌, ℕ, ◌<◌, ◌≤◌, ◌&&◌, ◌||◌, Bool, true, false, List, [], ◌∷◌, ◌++◌, Option, Some, None, cond, length, is_none, codes, bytes_eq, refl, sym, ap, ◌∙◌, subst, arith}
 use Rattle.std.specs.Prelude.{option_map}
 use Rattle.std.specs.Char.{is_ascii_digit}
 use Rattle.std.specs.List.{list_any, list_all}
 use Rattle.std.specs.Str.Parse.{digits_value}
-use Rattle.std.proofs.lemmas.Bool.{and_parts, and_right, or_left, or_right, eqb-true, eqb-false, true≢false, false≢true}
-use Rattle.std.proofs.lemmas.List.{nil_from_length}
+use Rattle.std.proofs.lemmas.Bool.{and_parts, and_right, or_left, or_right, true≢false, false≢true}
 use Rattle.std.proofs.lemmas.Slice.Eq.{bytes_eq-Decides}
 use Rattle.unit_lang.specs.declared.error.UnitCause.TheVariants.{NumberTooBig, BadLine}
 use Rattle.unit_lang.specs.declared.token.Token.{Token}
@@ -17,7 +16,7 @@ use Rattle.unit_lang.specs.declared.level.Level.{Level}
 use Rattle.unit_lang.specs.declared.level.Hole.{Hole}
 use Rattle.unit_lang.specs.declared.state.State.{State}
 use Rattle.unit_lang.specs.declared.state.State.TheVariants as state
-use Rattle.unit_lang.specs.Faults.{BeginsLet, IsTooDeep, IsTooBig, LineFault, deep, great, bad}
+use Rattle.unit_lang.specs.Faults.{BeginsLet, IsTooDeep, IsTooBig, LineFault, great, bad}
 use Rattle.unit_lang.specs.Grammar.{IsStatement}
 use Rattle.unit_lang.specs.Lexing.{too_great, number_of, dotted, operand, first_token}
 use Rattle.unit_lang.specs.Lines.{IsWarnLine, IsBlankLine, Says, warn, tokens, greatest}
@@ -26,50 +25,12 @@ use Rattle.unit_lang.specs.Names.{are_digits, is_name}
 use Rattle.unit_lang.specs.Spells.{longest_line}
 use Rattle.unit_lang.specs.Tokens.{Leads, end, without_blanks, without_comment}
 use Rattle.unit_lang.proofs.Meaning.{WantsNext}
+use Rattle.unit_lang.proofs.Reached.{Reached, NoMore}
 use Rattle.unit_lang.proofs.StepForth.{step_forth}
 use Rattle.unit_lang.proofs.Ends.{can_let, deep_can, wants_end, wants_depth}
 use Rattle.unit_lang.proofs.Steps.{Steps, steps_push, steps_take, steps_more, steps_forth, most_of, steps_whole, steps_begins, begins_wants, begins_can, steps_say, steps_said}
 use Rattle.unit_lang.proofs.TokenLemmas.{leads_push, leads_solid, leads_none, leads_next, next_leads, leads_meet, Meets, within, beyond, tokens_go_on}
 use Rattle.unit_lang.proofs.WordLemmas.{NumberIs, number_of_is, dotted_back, name_no_digits}
-
-pub empty_is : (rest : List ℕ) (empty : Bool) → empty ≡ eqb (length rest) 0 → empty ≡ true → rest ≡ []
-empty_is rest empty e h = nil_from_length rest (eqb-true (length rest) 0 (sym e ∙ h))
-
-pub more_is : (rest : List ℕ) (empty : Bool) → empty ≡ eqb (length rest) 0 → empty ≡ false → rest ≡ [] → ⊥
-more_is rest empty e h r = eqb-false (length rest) 0 (sym e ∙ h) (ap length r)
-
--- the text leads with tokens to the rest, and they lead to the state
-pub record Reached (text : List ℕ) (s : State) (seen : Bool) (rest : List ℕ) : Type 0 where
-  pub front : List Token
-  pub leads : Leads text front rest
-  pub steps : Steps 64 state.Start front s
-  pub flag : seen ≡ list_any too_great front
-
-pub reached_first : (text rest : List ℕ) → without_blanks text ≡ rest → Reached text state.Start false rest
-reached_first text rest e = record { front = []; leads = end e; steps = refl; flag = refl }
-
-any_push : (front : List Token) (tok : Token) (seen : Bool) → seen ≡ list_any too_great front → (seen || too_great tok) ≡ list_any too_great (front ++ tok ∷ [])
-any_push front tok seen e = ap (λ b. b || too_great tok) e ∙ any_last front
-  where
-    or_false : (b : Bool) → b ≡ (b || false)
-    or_false true = refl
-    or_false false = refl
-
-    or_assoc : (a b c : Bool) → (a || (b || c)) ≡ ((a || b) || c)
-    or_assoc true b c = refl
-    or_assoc false b c = refl
-
-    any_last : (front : List Token) → (list_any too_great front || too_great tok) ≡ list_any too_great (front ++ tok ∷ [])
-    any_last [] = or_false (too_great tok)
-    any_last (t ∷ front) = sym (or_assoc (too_great t) (list_any too_great front) (too_great tok)) ∙ ap (λ b. too_great t || b) (any_last front)
-
-pub reached_next : (text : List ℕ) (s next : State) (seen : Bool) (rest after later : List ℕ) (tok : Token) → Reached text s seen rest → first_token rest ≡ Some (tok, after) → step s tok ≡ Some next → depth next ≤ 64 → later ≡ without_blanks after → Reached text next (seen || too_great tok) later
-reached_next text s next seen rest after later tok r found stepped room is = record {
-  front = r.front ++ tok ∷ [];
-  leads = subst (λ l. Leads text (r.front ++ tok ∷ []) l) (sym is) (leads_push text rest after r.front tok r.leads found);
-  steps = steps_push 64 state.Start s next r.front tok r.steps stepped room;
-  flag = any_push r.front tok seen r.flag;
-}
 
 -- a line of which a token opens too many levels
 pub deep_line : (line : List ℕ) (s next : State) (seen : Bool) (rest after : List ℕ) (tok : Token) → (IsWarnLine line → ⊥) → Reached (without_comment line) s seen rest → first_token rest ≡ Some (tok, after) → step s tok ≡ Some next → 64 < depth next → IsTooDeep line
@@ -81,10 +42,6 @@ deep_line line s next seen rest after tok plain r found stepped many =
       fronts = record { plain = plain; rest = without_blanks after; leads = leads_push (without_comment line) rest after r.front tok r.leads found; begins = steps_begins (depth next) front next steps (deep_can next (omega arith)) };
       deep = λ most more u h. let k = steps_forth (depth next) 64 most u state.Start next front more steps h in let room = wants_depth 64 most k.v next more k.wants in omega arith;
     }
-
--- no token goes on from the state
-abbrev pub NoMore : State → List ℕ → Type 0
-NoMore s rest = (tok : Token) (after : List ℕ) → first_token rest ≡ Some (tok, after) → step s tok ≡ None
 
 -- no `let` line goes on with a token that the state doesn't take
 stuck_beyond : (s : State) (rest after : List ℕ) (front other more : List Token) (tok : Token) → NoMore s rest → Steps 64 state.Start front s → BeginsLet other → other ≡ front ++ tok ∷ more → first_token rest ≡ Some (tok, after) → ⊥

@@ -2,7 +2,7 @@
 use Rattle.std.proofs.Common.{◌≡◌, ℕ, suc, ◌+◌, Bool, true, false, List, [], ◌∷◌, ◌++◌, Option, Some, None, length, IsTrue}
 use Rattle.mx_base.specs.AppName.{IsAppName}
 use Rattle.unit_lang.specs.declared.token.Token.{Token}
-use Rattle.unit_lang.specs.declared.token.Token.TheVariants.{Word, Equals, Minus, Close}
+use Rattle.unit_lang.specs.declared.token.Token.TheVariants.{Word, Equals, Close}
 use Rattle.unit_lang.specs.declared.unit.Expression.{Expression}
 use Rattle.unit_lang.specs.declared.unit.Expression.TheVariants.{Negate}
 use Rattle.unit_lang.specs.declared.unit.Statement.{Statement}

@@ -2,6 +2,7 @@
 use Rattle.std.proofs.Common.{◌≡◌, ℕ, ◌≤◌, Bool, true, false, eqb, List, [], ◌++◌, Some, None, Result, Ok, Err, length, refl, sym, ap, ◌∙◌, subst, inl, inr}
 use Rattle.std.specs.Prelude.{◌⊎◌, ◌↔◌}
 use Rattle.std.specs.Result.{MatchResult}
+use Rattle.mx_base.specs.Blame.Blame.{Input}
 use Rattle.unit_lang.specs.declared.error.UnitCause.{UnitCause}
 use Rattle.unit_lang.specs.declared.error.UnitCause.TheVariants.{TooLong, NoUnit, TooDeep, NumberTooBig, BadLine, OutOfMemory}
 use Rattle.unit_lang.specs.declared.progress.Progress.{Progress}
@@ -10,15 +11,16 @@ use Rattle.unit_lang.specs.declared.token.Token.{Token}
 use Rattle.unit_lang.specs.declared.unit.Statement.{Statement}
 use Rattle.unit_lang.specs.declared.unit.Statement.TheVariants as statement
 use Rattle.unit_lang.specs.Faults.{LineFault}
-use Rattle.unit_lang.specs.Gives.{is_memory, Gives, FaultsAs, IsWarning, fault, title_of, Heads}
+use Rattle.unit_lang.specs.Blame.{cause_blame}
+use Rattle.unit_lang.specs.Gives.{FaultsAs, IsWarning, fault}
 use Rattle.unit_lang.specs.Lexing.{after_warn, first_token}
 use Rattle.unit_lang.specs.Lines.{IsBlankLine, IsWarnLine, StartsWarn, Says, warn, tokens, are_blanks}
 use Rattle.unit_lang.specs.Machine.{step, finished}
 use Rattle.unit_lang.specs.Progress.{Advances, Stops, memory, stuck, deep, FinishesAs}
 use Rattle.unit_lang.specs.Spells.{longest_line}
 use Rattle.unit_lang.specs.Tokens.{without_blanks, without_comment}
-use Rattle.unit_lang.proofs.HeadLemmas.{title_names, no_title}
-use Rattle.unit_lang.proofs.LineLemmas.{Reached, reached_next, NoMore, deep_line, bad_fault, great_fault, line_says, empty_is}
+use Rattle.unit_lang.proofs.LineLemmas.{deep_line, bad_fault, great_fault, line_says}
+use Rattle.unit_lang.proofs.Reached.{Reached, reached_next, NoMore, empty_is}
 use Rattle.unit_lang.proofs.TokenLemmas.{some_pair}
 use Rattle.unit_lang.proofs.WarnLemmas.{starts_warn, no_warn, warns, warning_of, warn_rest_one, is_blank_line, blank_line_is, no_warning}
 
@@ -50,28 +52,21 @@ stop_by : (line : List ℕ) (s : State) (seen : Bool) (rest : List ℕ) → leng
 stop_by line s true rest short plain solid r none unfinished = inr (great_fault line s rest short plain r none)
 stop_by line s false rest short plain solid r none unfinished = inr (bad_fault line s rest short plain solid r none unfinished)
 
-lex_none : (s : State) (rest : List ℕ) → first_token rest ≡ None → NoMore s rest
+pub lex_none : (s : State) (rest : List ℕ) → first_token rest ≡ None → NoMore s rest
 lex_none s rest e tok after found = absurd (let both : None ≡ Some (tok, after) = sym e ∙ found in cc)
 
-cause_by : (cause : UnitCause) (m : Bool) → is_memory cause ≡ m → (is_memory cause ≡ true → cause ≡ OutOfMemory) → (cause ≡ OutOfMemory) ⊎ (is_memory cause ≡ false)
-cause_by cause true e f = inl (f e)
-cause_by cause false e f = inr e
+pub memory_or : (cause : UnitCause) → (cause ≡ OutOfMemory) ⊎ (cause_blame cause ≡ Input)
+memory_or TooLong = inr refl
+memory_or NoUnit = inr refl
+memory_or TooDeep = inr refl
+memory_or NumberTooBig = inr refl
+memory_or BadLine = inr refl
+memory_or OutOfMemory = inl refl
 
-memory_is : (cause : UnitCause) → is_memory cause ≡ true → cause ≡ OutOfMemory
-memory_is TooLong e = absurd (cc)
-memory_is NoUnit e = absurd (cc)
-memory_is TooDeep e = absurd (cc)
-memory_is NumberTooBig e = absurd (cc)
-memory_is BadLine e = absurd (cc)
-memory_is OutOfMemory e = refl
-
-pub memory_or : (cause : UnitCause) → (cause ≡ OutOfMemory) ⊎ (is_memory cause ≡ false)
-memory_or cause = cause_by cause (is_memory cause) refl (memory_is cause)
-
-pub lex_fault : (line : List ℕ) (s : State) (seen : Bool) (rest : List ℕ) (cause told : UnitCause) → length line ≤ longest_line → (IsWarnLine line → ⊥) → (IsBlankLine line → ⊥) → Reached (without_comment line) s seen rest → (rest ≡ [] → ⊥) → (is_memory cause ≡ false → (cause ≡ BadLine) × (first_token rest ≡ None)) → told ≡ fault cause seen → FaultsAs line told
+pub lex_fault : (line : List ℕ) (s : State) (seen : Bool) (rest : List ℕ) (cause told : UnitCause) → length line ≤ longest_line → (IsWarnLine line → ⊥) → (IsBlankLine line → ⊥) → Reached (without_comment line) s seen rest → (rest ≡ [] → ⊥) → (cause_blame cause ≡ Input → (cause ≡ BadLine) × (first_token rest ≡ None)) → told ≡ fault cause seen → FaultsAs line told
 lex_fault line s seen rest cause told short plain solid r some refused is = subst (FaultsAs line) (sym is) (by (memory_or cause))
   where
-    by : (cause ≡ OutOfMemory) ⊎ (is_memory cause ≡ false) → FaultsAs line (fault cause seen)
+    by : (cause ≡ OutOfMemory) ⊎ (cause_blame cause ≡ Input) → FaultsAs line (fault cause seen)
     by (inl m) = inl (ap (λ c. fault c seen) m)
     by (inr n) = let k = refused n in subst (λ c. FaultsAs line (fault c seen)) (sym k.0) (stop_by line s seen rest short plain solid r (lex_none s rest k.1) (λ e. absurd (some e)))
 
@@ -87,10 +82,10 @@ reached_advance line p next rest after later tok r found a is =
     subst (λ b. Reached (without_comment line) next.state b later) (sym a.flag) (reached_next (without_comment line) p.state next.state p.great rest after later tok r found a.stepped a.room is)
 
 -- a token that is refused
-pub stops_by : (p : Progress) (tok : Token) (cause told : UnitCause) → (is_memory cause ≡ false → (cause ≡ BadLine) × (step p.state tok ≡ None)) → told ≡ fault cause p.great → Stops p tok told
+pub stops_by : (p : Progress) (tok : Token) (cause told : UnitCause) → (cause_blame cause ≡ Input → (cause ≡ BadLine) × (step p.state tok ≡ None)) → told ≡ fault cause p.great → Stops p tok told
 stops_by p tok cause told refused is = subst (Stops p tok) (sym is) (by (memory_or cause))
   where
-    by : (cause ≡ OutOfMemory) ⊎ (is_memory cause ≡ false) → Stops p tok (fault cause p.great)
+    by : (cause ≡ OutOfMemory) ⊎ (cause_blame cause ≡ Input) → Stops p tok (fault cause p.great)
     by (inl m) = subst (λ c. Stops p tok (fault c p.great)) (sym m) memory
     by (inr n) = let k = refused n in subst (λ c. Stops p tok (fault c p.great)) (sym k.0) (stuck k.1)
 
@@ -105,14 +100,6 @@ finish_outcome line p rest (Err cause) short plain solid r empty (inr (inl g)) =
     inr (subst (LineFault line) (sym g.1) (great_fault line p.state rest short plain (subst (λ b. Reached (without_comment line) p.state b rest) g.0 r) (no_more_at_end p.state rest empty)))
 finish_outcome line p rest (Err cause) short plain solid r empty (inr (inr b)) =
     inr (subst (LineFault line) (sym b.1) (bad_fault line p.state rest short plain solid (subst (λ t. Reached (without_comment line) p.state t rest) b.0 r) (no_more_at_end p.state rest empty) (λ e. b.2)))
-
--- the first line
-pub heads_from : (line : List ℕ) (result : Result (List ℕ) UnitCause) → None ≡ after_warn (without_blanks line) → Gives result (title_of (without_comment line)) → Heads line result
-heads_from line (Ok title) e g = title_names line title (plain_of line e) g
-heads_from line (Err cause) e g = λ m title n. no_title line title (g m).1 n
-
-pub heads_warn : (line rest : List ℕ) (cause : UnitCause) → Some rest ≡ after_warn (without_blanks line) → Heads line (Err cause)
-heads_warn line rest cause e = λ m title n. n.1.plain (rest, starts_warn line rest (sym e))
 
 -- the text of a warning
 pub warning_none : (rest text skipped : List ℕ) (cause : UnitCause) (empty : Bool) → skipped ≡ without_blanks rest → ((after : List ℕ) × (are_blanks after ≡ true) × (skipped ≡ text ++ after)) → empty ≡ eqb (length text) 0 → empty ≡ true → (u : List ℕ) → IsWarning rest u → ⊥

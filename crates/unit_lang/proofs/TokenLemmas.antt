@@ -1,5 +1,5 @@
 -- The first token of a text is the one that the function finds, and tokens lead to one place.
-use Rattle.std.proofs.Common.{◌≡◌, ℕ, zero, suc, ◌+◌, ◌<◌, Bool, true, false, not, List, [], ◌∷◌, ◌++◌, Option, Some, None, length, take, drop, cond, eqb, refl, sym, ap, ◌∙◌, arith, subst}
+use Rattle.std.proofs.Common.{◌≡◌, ℕ, zero, suc, ◌<◌, Bool, true, false, not, List, [], ◌∷◌, ◌++◌, Option, Some, None, length, take, drop, cond, eqb, refl, sym, ap, ◌∙◌, arith, subst}
 use Rattle.std.specs.List.{list_all}
 use Rattle.std.proofs.lemmas.Bool.{and_parts, and_from, eqb-true, ne_eqb, true≢false, false≢true, not-true}
 use Rattle.std.proofs.lemmas.List.{take_at, drop_at, take-append-drop, length-append, append-nil}
@@ -19,7 +19,7 @@ len_ends : (rest : List ℕ) → ends_word rest ≡ true → word_len rest ≡ 0
 len_ends [] h = refl
 len_ends (byte ∷ rest) h = ap (λ b. cond b (suc (word_len rest)) 0) (not-true (is_word_byte byte) h)
 
-len_word : (bytes rest : List ℕ) → list_all is_word_byte bytes ≡ true → ends_word rest ≡ true → word_len (bytes ++ rest) ≡ length bytes
+pub len_word : (bytes rest : List ℕ) → list_all is_word_byte bytes ≡ true → ends_word rest ≡ true → word_len (bytes ++ rest) ≡ length bytes
 len_word [] rest h ends = len_ends rest ends
 len_word (byte ∷ bytes) rest h ends =
     let parts = and_parts (is_word_byte byte) (list_all is_word_byte bytes) h in
@@ -61,14 +61,14 @@ abbrev Found : List ℕ → Option (Token × List ℕ) → Type 0
 Found text None = Unit {0}
 Found text (Some found) = Begins text found.0 found.1
 
-abbrev WordCut : List ℕ → Type 0
+abbrev pub WordCut : List ℕ → Type 0
 WordCut text = (list_all is_word_byte (take (word_len text) text) ≡ true) × (ends_word (drop (word_len text) text) ≡ true)
 
 cut_at : (byte : ℕ) (text : List ℕ) (t : Bool) → is_word_byte byte ≡ t → WordCut text → (list_all is_word_byte (take (cond t (suc (word_len text)) 0) (byte ∷ text)) ≡ true) × (ends_word (drop (cond t (suc (word_len text)) 0) (byte ∷ text)) ≡ true)
 cut_at byte text true t h = (and_from (is_word_byte byte) (list_all is_word_byte (take (word_len text) text)) t h.0, h.1)
 cut_at byte text false t h = (refl, ap not t)
 
-word_cut : (text : List ℕ) → WordCut text
+pub word_cut : (text : List ℕ) → WordCut text
 word_cut [] = (refl, refl)
 word_cut (byte ∷ text) = cut_at byte text (is_word_byte byte) refl (word_cut text)
 

@@ -98,12 +98,17 @@ solid_stays (byte ∷ before) more h =
     ∙ ap (λ t. cond t (without_blanks (without_comment (before ++ 119 ∷ more))) (byte ∷ without_comment (before ++ 119 ∷ more))) parts.0
     ∙ solid_stays before more parts.1
 
-blank_no_warn : (line rest : List ℕ) → without_blanks (without_comment line) ≡ [] → StartsWarn line rest → ⊥
-blank_no_warn line rest e s =
+-- a `warn` line begins with that word
+pub warn_solid : (line rest : List ℕ) → StartsWarn line rest → (more : List ℕ) × (without_blanks (without_comment line) ≡ 119 ∷ more)
+warn_solid line rest s =
     let more = 97 ∷ 114 ∷ 110 ∷ s.blank ∷ rest in
     let split : line ≡ s.before ++ 119 ∷ more = s.split ∙ append_assoc s.before (codes "warn") (s.blank ∷ rest) in
-    let solid = ap (λ l. without_blanks (without_comment l)) split ∙ solid_stays s.before more s.before_blank in
-    let both : [] ≡ 119 ∷ without_comment more = sym e ∙ solid in
+    (without_comment more, ap (λ l. without_blanks (without_comment l)) split ∙ solid_stays s.before more s.before_blank)
+
+blank_no_warn : (line rest : List ℕ) → without_blanks (without_comment line) ≡ [] → StartsWarn line rest → ⊥
+blank_no_warn line rest e s =
+    let solid = warn_solid line rest s in
+    let both : [] ≡ 119 ∷ solid.0 = sym e ∙ solid.1 in
     cc
 
 pub is_blank_line : (line : List ℕ) → without_blanks (without_comment line) ≡ [] → IsBlankLine line

@@ -1,19 +1,20 @@
 -- The first fault of a text that spells no unit.
-use Rattle.std.specs.Prelude.{◌≡◌, ℕ, suc, ◌+◌, ◌<◌, ◌≤◌, ◌⊎◌, List, [], ◌∷◌, ◌++◌, length, IsTrue}
+use Rattle.std.specs.Prelude.{ℕ, suc, ◌<◌, ◌≤◌, List, [], ◌∷◌, ◌++◌, length, IsTrue, Result, Ok, Err}
 use Rattle.std.specs.List.{AllByRecursion}
 use Rattle.std.specs.Str.Parse.{digits_value}
 use Rattle.unit_lang.specs.declared.error.UnitCause.{UnitCause}
-use Rattle.unit_lang.specs.declared.error.UnitCause.TheVariants.{TooLong, NoUnit, TooDeep, NumberTooBig, BadLine, OutOfMemory}
+use Rattle.unit_lang.specs.declared.error.UnitCause.TheVariants.{TooLong, NoUnit, TooDeep, NumberTooBig, BadLine}
 use Rattle.unit_lang.specs.declared.error.UnitError.{UnitError}
 use Rattle.unit_lang.specs.declared.token.Token.{Token}
 use Rattle.unit_lang.specs.declared.token.Token.TheVariants.{Word}
 use Rattle.unit_lang.specs.declared.unit.Expression.{Expression}
 use Rattle.unit_lang.specs.declared.unit.Statement.{Statement}
 use Rattle.unit_lang.specs.declared.unit.Statement.TheVariants.{Let}
+use Rattle.unit_lang.specs.declared.unit.Unit.{Unit as UnitFile}
 use Rattle.unit_lang.specs.Grammar.{IsStatement}
-use Rattle.unit_lang.specs.Lines.{IsWarnLine, IsBlankLine, Names, Says, deepest, greatest}
+use Rattle.unit_lang.specs.Lines.{IsWarnLine, IsBlankLine, IsUnitLine, Names, Says, deepest, greatest}
 use Rattle.unit_lang.specs.Names.{are_digits}
-use Rattle.unit_lang.specs.Spells.{lines_of, longest_file, longest_line}
+use Rattle.unit_lang.specs.Spells.{Spells, lines_of, longest_file, longest_line}
 use Rattle.unit_lang.specs.Tokens.{Leads, without_comment}
 
 -- the tokens begin a `let` line, but for how deep it nests and how great its numbers are
@@ -70,20 +71,32 @@ pub data FileFault : ℕ → List (List ℕ) → ℕ → UnitCause → Type 0 wh
   blank : {number at : ℕ} {line : List ℕ} {lines : List (List ℕ)} {cause : UnitCause} → length line ≤ longest_line → IsBlankLine line → FileFault (suc number) lines at cause → FileFault number (line ∷ lines) at cause
   heading : {number at : ℕ} {line : List ℕ} (name : List ℕ) {lines : List (List ℕ)} {cause : UnitCause} → length line ≤ longest_line → Names line name → BodyFault (suc number) lines at cause → FileFault number (line ∷ lines) at cause
 
--- all lines are blank, of any length
-abbrev pub AllBlank : List (List ℕ) → Type 0
-AllBlank lines = AllByRecursion IsBlankLine lines
+-- no line is a `unit` line
+abbrev pub IsUnitless : List (List ℕ) → Type 0
+IsUnitless lines = AllByRecursion (λ line. IsUnitLine line → ⊥) lines
 
-abbrev pub IsFirstShort : List (List ℕ) → Type 0
-IsFirstShort [] = Unit {0}
-IsFirstShort (line ∷ lines) = length line ≤ longest_line
+-- the fault of a file without a `unit` line, which is told at its first line
+pub data UnitlessFault : List (List ℕ) → UnitCause → Type 0 where
+  long : {line : List ℕ} {lines : List (List ℕ)} → longest_line < length line → UnitlessFault (line ∷ lines) TooLong
+  none : {line : List ℕ} {lines : List (List ℕ)} → length line ≤ longest_line → UnitlessFault (line ∷ lines) NoUnit
 
--- the first fault of a text, by lines. A file without a `unit` line, all blank, is told of at line 1
+-- the first fault of a text, by lines
 pub data FirstFault : List ℕ → ℕ → UnitCause → Type 0 where
   long : {text : List ℕ} → longest_file < length text → FirstFault text 1 TooLong
-  blank : {text : List ℕ} → length text ≤ longest_file → AllBlank (lines_of text) → IsFirstShort (lines_of text) → FirstFault text 1 NoUnit
-  line : {text : List ℕ} {at : ℕ} {cause : UnitCause} → length text ≤ longest_file → (AllBlank (lines_of text) → at ≡ 1) → FileFault 1 (lines_of text) at cause → FirstFault text at cause
+  unitless : {text : List ℕ} {cause : UnitCause} → length text ≤ longest_file → IsUnitless (lines_of text) → UnitlessFault (lines_of text) cause → FirstFault text 1 cause
+  line : {text : List ℕ} {at : ℕ} {cause : UnitCause} → length text ≤ longest_file → (IsUnitless (lines_of text) → ⊥) → FileFault 1 (lines_of text) at cause → FirstFault text at cause
 
--- the error is the first fault of the text, or want of memory
-abbrev pub IsFirstFault : List ℕ → UnitError → Type 0
-IsFirstFault text error = (error.cause ≡ OutOfMemory) ⊎ FirstFault text error.line error.cause
+-- what a text is read as
+abbrev pub IsRead : List ℕ → Result UnitFile UnitError → Type 0
+IsRead text (Ok u) = Spells text u
+IsRead text (Err error) = FirstFault text error.line error.cause
+
+-- the first of the lines that isn't blank is a `unit` line, and none up to it is too long
+pub data IsHeaded : List (List ℕ) → Type 0 where
+  heading : {line : List ℕ} {lines : List (List ℕ)} → length line ≤ longest_line → IsUnitLine line → IsHeaded (line ∷ lines)
+  blank : {line : List ℕ} {lines : List (List ℕ)} → length line ≤ longest_line → IsBlankLine line → IsHeaded lines → IsHeaded (line ∷ lines)
+
+-- a file that isn't too long, of such lines
+pub record HasHeading (text : List ℕ) : Type 0 where
+  pub short : length text ≤ longest_file
+  pub headed : IsHeaded (lines_of text)

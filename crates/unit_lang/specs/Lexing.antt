@@ -1,5 +1,5 @@
 -- The first token of a text and the parts of a word, as functions. What they are is said without these (Tokens.antt, Grammar.antt).
-use Rattle.std.specs.Prelude.{ℕ, suc, ◌+◌, ◌*◌, ◌-◌, ◌&&◌, ◌==◌, nat_le, Bool, false, is_none, unwrap_or, List, [], ◌∷◌, Option, Some, None, if◌then◌else◌, take, drop, length, pos}
+use Rattle.std.specs.Prelude.{ℕ, suc, ◌+◌, ◌*◌, ◌-◌, ◌&&◌, ◌==◌, nat_le, Bool, false, bytes_eq, codes, is_none, unwrap_or, List, [], ◌∷◌, Option, Some, None, if◌then◌else◌, take, drop, length, pos}
 use Rattle.std.specs.Char.{is_ascii_digit}
 use Rattle.unit_lang.specs.declared.token.Token.{Token}
 use Rattle.unit_lang.specs.declared.token.Token.TheVariants.{Word, Equals, Plus, Minus, Star, Open, Close}
@@ -8,6 +8,7 @@ use Rattle.unit_lang.specs.declared.unit.Expression.TheVariants.{Number, Name, R
 use Rattle.unit_lang.specs.Names.{is_blank, is_word_byte, is_name, are_digits}
 use Rattle.unit_lang.specs.Lines.{greatest}
 use Rattle.unit_lang.specs.Spells.{lines_of}
+use Rattle.unit_lang.specs.Tokens.{without_blanks}
 
 -- how many bytes stand before a comment
 abbrev pub plain_len : List ℕ → ℕ
@@ -42,6 +43,21 @@ first_token (byte ∷ text) = sign_or_word (sign byte) (byte ∷ text) text
 abbrev pub after_warn : List ℕ → Option (List ℕ)
 after_warn (w ∷ a ∷ r ∷ n ∷ blank ∷ rest) = if w == 119 && a == 97 && r == 114 && n == 110 && is_blank blank then Some rest else None
 after_warn line = None
+
+-- the word at the front, empty where there is none, and what follows it
+abbrev pub front_word : List ℕ → List ℕ
+front_word text = take (word_len text) text
+
+abbrev pub after_word : List ℕ → List ℕ
+after_word text = drop (word_len text) text
+
+-- the name that a text begins with, where nothing but blanks follows
+abbrev pub name_alone : List ℕ → Option (List ℕ)
+name_alone text = if is_name (front_word text) && length (without_blanks (after_word text)) == 0 then Some (front_word text) else None
+
+-- the name in a `unit` line without its comment
+abbrev pub title_of : List ℕ → Option (List ℕ)
+title_of text = if bytes_eq (front_word (without_blanks text)) (codes "unit") then name_alone (without_blanks (after_word (without_blanks text))) else None
 
 -- how many bytes the first line has
 abbrev pub line_len : List ℕ → ℕ

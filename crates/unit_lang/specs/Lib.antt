@@ -5,6 +5,7 @@ pub mod Lines
 pub mod Spells
 pub mod Faults
 pub mod Lexing
+pub mod Blame
 pub mod Gives
 pub mod Machine
 pub mod Progress

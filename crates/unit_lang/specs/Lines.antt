@@ -60,9 +60,12 @@ pub record LineTokens (line : List ℕ) (tokens : List Token) : Type 0 where
 abbrev pub IsBlankLine : List ℕ → Type 0
 IsBlankLine line = LineTokens line []
 
--- the first line that isn't blank
+-- a `unit` line, and its name
 abbrev pub Names : List ℕ → List ℕ → Type 0
 Names line name = (tokens : List Token) × LineTokens line tokens × IsHeading tokens name
+
+abbrev pub IsUnitLine : List ℕ → Type 0
+IsUnitLine line = (name : List ℕ) × Names line name
 
 -- what another line says
 pub data Says : List ℕ → Statement → Type 0 where

@@ -7,7 +7,7 @@ ghost use Rattle.unit_lang.specs.Lines.{are_blanks, ends_solid};
 use crate::bytes::is_blank;
 
 /// The text without the blanks at its beginning.
-pub fn skip_blanks(text: &[u8]) -> &[u8]
+pub(crate) fn skip_blanks(text: &[u8]) -> &[u8]
     ensures value { result.now ≡ without_blanks text.now }
     ensures shorter { length result.now ≤ length text.now }
 {
@@ -22,7 +22,7 @@ pub fn skip_blanks(text: &[u8]) -> &[u8]
 }
 
 /// The text without the blanks at its end.
-pub fn trim_end(text: &[u8]) -> &[u8]
+pub(crate) fn trim_end(text: &[u8]) -> &[u8]
     ensures blanks { (after : List ℕ) × IsTrue (are_blanks after) × (text.now ≡ result.now ++ after) }
     ensures solid { (result.now ≡ []) ⊎ IsTrue (ends_solid result.now) }
 {
@@ -37,7 +37,7 @@ pub fn trim_end(text: &[u8]) -> &[u8]
 }
 
 /// The line without its comment.
-pub fn before_comment(line: &[u8]) -> &[u8]
+pub(crate) fn before_comment(line: &[u8]) -> &[u8]
     ensures { result.now ≡ without_comment line.now }
 {
     line.split_at(plain_len(line)).0

@@ -13,7 +13,7 @@ const LONGEST_NAME: usize = 64;
 const GREATEST: u64 = 9_223_372_036_854_775_807;
 
 /// A space or a tab.
-pub fn is_blank(byte: u8) -> bool
+pub(crate) fn is_blank(byte: u8) -> bool
     ensures { result ≡ is_blank byte }
 {
     byte == b' ' || byte == b'\t'
@@ -33,14 +33,14 @@ fn is_name_byte(byte: u8) -> bool
 }
 
 /// What a word is made of.
-pub fn is_word_byte(byte: u8) -> bool
+pub(crate) fn is_word_byte(byte: u8) -> bool
     ensures { result ≡ is_word_byte byte }
 {
     is_name_byte(byte) || (b'A' <= byte && byte <= b'Z') || byte == b'.'
 }
 
 /// Whether the bytes are a name: a small letter and what goes on, at most 64 bytes.
-pub fn is_name(bytes: &[u8]) -> bool
+pub(crate) fn is_name(bytes: &[u8]) -> bool
     ensures { result ≡ is_name bytes.now }
 {
     match bytes {
@@ -52,7 +52,7 @@ pub fn is_name(bytes: &[u8]) -> bool
 }
 
 /// Whether the bytes are decimal digits, at least one.
-pub fn are_digits(bytes: &[u8]) -> bool
+pub(crate) fn are_digits(bytes: &[u8]) -> bool
     ensures { result ≡ are_digits bytes.now }
 {
     match bytes {
@@ -74,7 +74,7 @@ fn all_digits(bytes: &[u8]) -> bool
 }
 
 /// The number that decimal digits stand for, where it is at most 2^63 - 1.
-pub fn number_of(digits: &[u8]) -> Option<u64>
+pub(crate) fn number_of(digits: &[u8]) -> Option<u64>
     ensures value { result ≡ number_of digits.now }
     ensures small { IfSome result (λ number. number ≤ greatest) }
 {

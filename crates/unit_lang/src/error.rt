@@ -1,9 +1,9 @@
 // Why a text is no unit, and where.
 
-use std::alloc::{AllocError, AllocFailed};
+use std::alloc::AllocError;
 
 /// The first fault of a unit file.
-#[derive(Clone, Copy, Debug, PartialEq, Eq, Drop)]
+#[derive(Drop)]
 pub struct UnitError {
     /// The number of the faulty line, from 1.
     pub line: u32,
@@ -11,11 +11,11 @@ pub struct UnitError {
 }
 
 /// What is wrong with a line, in the order in which the faults of one line are told.
-#[derive(Clone, Copy, Debug, PartialEq, Eq, Drop)]
+#[derive(Drop)]
 pub enum UnitCause {
     /// The line has more than 4,096 bytes. The file has more than 1 MiB: then it is told at line 1, before all else.
     TooLong,
-    /// The first line that isn't blank is no `unit` line. Where all lines are blank, this is told at line 1.
+    /// The first line that isn't blank is no `unit` line. Of a file without one this is told at line 1.
     NoUnit,
     /// Parentheses and minus signs nest more than 64 deep.
     TooDeep,
@@ -34,17 +34,6 @@ impl From<AllocError> for UnitCause {
     ghost from_gives = { λ _ cause. cause ≡ OutOfMemory };
 
     fn from(_error: AllocError) -> UnitCause {
-        UnitCause::OutOfMemory
-    }
-}
-
-impl<T: Drop> From<AllocFailed<T>> for UnitCause {
-    ghost use Rattle.std.specs.Prelude.{◌≡◌};
-    ghost use Rattle.unit_lang.specs.declared.error.UnitCause.TheVariants.{OutOfMemory};
-
-    ghost from_gives = { λ _ cause. cause ≡ OutOfMemory };
-
-    fn from(_error: AllocFailed<T>) -> UnitCause {
         UnitCause::OutOfMemory
     }
 }

@@ -7,24 +7,24 @@ use sqlite_items::Boxed;
 use std::alloc::{AllocError, Global};
 
 /// The terms that are whole, with the sign after them.
-#[derive(Debug, Drop)]
-pub enum Sum {
+#[derive(Drop)]
+pub(crate) enum Sum {
     Nothing,
-    Plus(Expression),
-    Minus(Expression),
+    Plus(Boxed<Expression>),
+    Minus(Boxed<Expression>),
 }
 
 /// What stands before a factor, up to the parenthesis around it.
-#[derive(Debug, Drop)]
-pub struct Level {
+#[derive(Drop)]
+pub(crate) struct Level {
     pub sum: Sum,
     /// The factors since then, with `*` after them.
-    pub product: Option<Expression>,
+    pub product: Option<Boxed<Expression>>,
 }
 
 /// What is open around a factor.
-#[derive(Debug, Drop)]
-pub enum Hole {
+#[derive(Drop)]
+pub(crate) enum Hole {
     /// A parenthesis, and what stands before it.
     Parenthesis(Level),
     /// A minus sign that a factor follows.
@@ -33,7 +33,7 @@ pub enum Hole {
 
 impl Level {
     /// Where nothing was read yet.
-    pub fn fresh() -> Level
+    pub(crate) fn fresh() -> Level
         ensures { result ≡ fresh }
     {
         Level {
@@ -45,36 +45,31 @@ impl Level {
 
 impl Sum {
     /// The sum with a term after it.
-    pub fn joined(self, alloc: Global, term: Expression) -> Result<Expression, AllocError>
+    pub(crate) fn joined(
+        self,
+        alloc: Global,
+        term: Boxed<Expression>,
+    ) -> Result<Boxed<Expression>, AllocError>
         ensures { IfOk result (λ e. e ≡ joined self term) }
     {
         match self {
             Sum::Nothing => Ok(term),
-            Sum::Plus(left) => {
-                let left = Boxed::new(alloc, left)?;
-                Ok(Expression::Add(left, Boxed::new(alloc, term)?))
-            }
-            Sum::Minus(left) => {
-                let left = Boxed::new(alloc, left)?;
-                Ok(Expression::Subtract(left, Boxed::new(alloc, term)?))
-            }
+            Sum::Plus(left) => Boxed::new(alloc, Expression::Add(left, term)),
+            Sum::Minus(left) => Boxed::new(alloc, Expression::Subtract(left, term)),
         }
     }
 }
 
 /// A product with a factor after it.
-pub fn times(
+pub(crate) fn times(
     alloc: Global,
-    product: Option<Expression>,
-    factor: Expression,
-) -> Result<Expression, AllocError>
+    product: Option<Boxed<Expression>>,
+    factor: Boxed<Expression>,
+) -> Result<Boxed<Expression>, AllocError>
     ensures { IfOk result (λ e. e ≡ times product factor) }
 {
     match product {
         None => Ok(factor),
-        Some(left) => {
-            let left = Boxed::new(alloc, left)?;
-            Ok(Expression::Multiply(left, Boxed::new(alloc, factor)?))
-        }
+        Some(left) => Boxed::new(alloc, Expression::Multiply(left, factor)),
     }
 }

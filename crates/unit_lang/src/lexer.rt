@@ -1,7 +1,7 @@
 // The first token of a text.
 ghost use Rattle.std.specs.Prelude.{◌≡◌, ◌≤◌, ◌<◌, length, IfOk};
 ghost use Rattle.unit_lang.specs.Gives.{GivesBy};
-ghost use Rattle.unit_lang.specs.Lexing.{word_len, sign, word_at, first_token};
+ghost use Rattle.unit_lang.specs.Lexing.{word_len, sign, word_at, first_token, front_word, after_word};
 
 use crate::bytes::is_word_byte;
 use crate::error::UnitCause;
@@ -10,7 +10,7 @@ use mx_base::Text;
 use std::alloc::Global;
 
 /// The token that a text begins with, and the text after it.
-pub fn first_token(alloc: Global, text: &[u8]) -> Result<(Token, &[u8]), UnitCause>
+pub(crate) fn first_token(alloc: Global, text: &[u8]) -> Result<(Token, &[u8]), UnitCause>
     ensures { GivesBy (λ found. (found.0, found.1.now)) result (first_token text.now) }
 {
     match text {
@@ -47,6 +47,14 @@ fn word(alloc: Global, text: &[u8]) -> Result<(Token, &[u8]), UnitCause>
     }
     let (bytes, rest) = text.split_at(len);
     Ok((Token::Word(Text::from_slice(alloc, bytes)?), rest))
+}
+
+/// The word at the front, empty where there is none, and what follows it.
+pub(crate) fn front_word(text: &[u8]) -> (&[u8], &[u8])
+    ensures word { result.0.now ≡ front_word text.now }
+    ensures after { result.1.now ≡ after_word text.now }
+{
+    text.split_at(word_len(text))
 }
 
 /// How many bytes the word at the front has: 0 where there is none.

@@ -23,6 +23,5 @@ mod unit;
 mod words;
 
 pub use error::{UnitCause, UnitError};
-pub use parse::{faults_stand_apart, one_unit, parse_unit};
-pub use token::Token;
+pub use parse::{faults_stand_apart, one_fault, one_unit, parse_unit, some_answer};
 pub use unit::{Expression, Line, Lines, Statement, Unit};

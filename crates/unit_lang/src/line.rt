@@ -1,31 +1,30 @@
 // What one line says.
 ghost use Rattle.std.specs.Prelude.{◌≡◌, ◌≤◌, ◌↔◌, ◌⊎◌, ℕ, List, length, IsTrue, MatchResult, MatchOption, option_map};
 ghost use Rattle.unit_lang.specs.declared.error.UnitCause.TheVariants.{BadLine, OutOfMemory};
-ghost use Rattle.unit_lang.specs.Gives.{FaultsAs, IsWarning, Gives, name_of, title_of, is_unit_keyword, Heads};
-ghost use Rattle.unit_lang.specs.Lexing.{after_warn};
-ghost use Rattle.unit_lang.specs.Lines.{IsBlankLine, IsWarnLine, Says};
+ghost use Rattle.unit_lang.specs.Gives.{FaultsAs, IsWarning};
+ghost use Rattle.unit_lang.specs.Lexing.{after_warn, name_alone, title_of};
+ghost use Rattle.unit_lang.specs.Lines.{IsBlankLine, IsUnitLine, IsWarnLine, Names, Says};
 ghost use Rattle.unit_lang.specs.Spells.{longest_line};
 ghost use Rattle.unit_lang.specs.Tokens.{without_blanks};
 
 use crate::blanks::{before_comment, skip_blanks, trim_end};
 use crate::bytes::{is_blank, is_name};
 use crate::error::UnitCause;
-use crate::lexer::first_token;
+use crate::lexer::{first_token, front_word};
 use crate::progress::{Progress, fault};
-use crate::token::Token;
 use crate::unit::Statement;
-use mx_base::{Bytes, Text};
+use mx_base::Bytes;
 use std::alloc::Global;
 
 /// Whether the line has nothing but blanks and a comment.
-pub fn is_blank_line(line: &[u8]) -> bool
+pub(crate) fn is_blank_line(line: &[u8]) -> bool
     ensures { IsTrue result ↔ IsBlankLine line.now }
 {
     skip_blanks(before_comment(line)).is_empty()
 }
 
 /// What a line after the first says: nothing where it is blank.
-pub fn statement(alloc: Global, line: &[u8]) -> Result<Option<Statement>, UnitCause>
+pub(crate) fn statement(alloc: Global, line: &[u8]) -> Result<Option<Statement>, UnitCause>
     requires { length line.now ≤ longest_line }
     ensures { MatchResult result (λ said. MatchOption said (IsBlankLine line.now) (Says line.now)) (FaultsAs line.now) }
 {
@@ -63,7 +62,11 @@ fn said(alloc: Global, line: &[u8]) -> Result<Statement, UnitCause>
     while !rest.is_empty() {
         let (token, after) = match first_token(alloc, rest) {
             Ok(found) => found,
-            Err(cause) => return Err(fault(cause, progress.great)),
+            Err(cause) => {
+                let cause = fault(cause, progress.great);
+                drop(progress);
+                return Err(cause);
+            }
         };
         progress = progress.advanced(alloc, token)?;
         rest = skip_blanks(after);
@@ -92,47 +95,40 @@ fn warning(alloc: Global, rest: &[u8]) -> Result<Bytes, UnitCause>
     Ok(Bytes::from_slice(alloc, text)?)
 }
 
-/// The name in the first line that isn't blank, or `BadLine`.
-pub fn heading(alloc: Global, line: &[u8]) -> Result<Text, UnitCause>
-    ensures { Heads line.now result }
+/// The name in a `unit` line.
+pub(crate) fn heading(line: &[u8]) -> Option<&[u8]>
+    ensures { MatchOption result (IsUnitLine line.now → ⊥) (λ name. Names line.now name.now) }
 {
-    match after_warn(line) {
-        Some(_) => Err(UnitCause::BadLine),
-        None => heading_of(alloc, before_comment(line)),
+    title(before_comment(line))
+}
+
+/// Whether the line is a `unit` line.
+pub(crate) fn is_unit_line(line: &[u8]) -> bool
+    ensures { IsTrue result ↔ IsUnitLine line.now }
+{
+    heading(line).is_some()
+}
+
+/// The name in a `unit` line without its comment.
+fn title(text: &[u8]) -> Option<&[u8]>
+    ensures { option_map (λ name. name.now) result ≡ title_of text.now }
+{
+    let (keyword, after) = front_word(skip_blanks(text));
+    if keyword == b"unit".as_slice() {
+        name_alone(skip_blanks(after))
+    } else {
+        None
     }
 }
 
-/// The name in the tokens of the first line that isn't blank, or `BadLine`.
-fn heading_of(alloc: Global, text: &[u8]) -> Result<Text, UnitCause>
-    ensures { Gives result (title_of text.now) }
+/// The name that a text begins with, where nothing but blanks follows.
+fn name_alone(text: &[u8]) -> Option<&[u8]>
+    ensures { option_map (λ name. name.now) result ≡ name_alone text.now }
 {
-    let (keyword, after) = first_token(alloc, skip_blanks(text))?;
-    if !is_unit_keyword(&keyword) {
-        return Err(UnitCause::BadLine);
-    }
-    let (name, after) = first_token(alloc, skip_blanks(after))?;
-    if !skip_blanks(after).is_empty() {
-        return Err(UnitCause::BadLine);
-    }
-    name_of(name)
-}
-
-/// Whether the token is the word `unit`.
-fn is_unit_keyword(token: &Token) -> bool
-    ensures { result ≡ is_unit_keyword token.now }
-{
-    match token {
-        Token::Word(word) => word.as_slice() == b"unit".as_slice(),
-        _ => false,
-    }
-}
-
-/// The name that the token is.
-fn name_of(token: Token) -> Result<Text, UnitCause>
-    ensures { Gives result (name_of token) }
-{
-    match token {
-        Token::Word(name) if is_name(name.as_slice()) => Ok(name),
-        _ => Err(UnitCause::BadLine),
+    let (name, after) = front_word(text);
+    if is_name(name) && skip_blanks(after).is_empty() {
+        Some(name)
+    } else {
+        None
     }
 }

@@ -1,18 +1,22 @@
 // The reader of a whole unit file.
-ghost use Rattle.std.specs.Prelude.{◌≡◌, ◌+◌, ◌<◌, ◌≤◌, ◌↔◌, [], ◌∷◌, ◌++◌, ℕ, List, length, IsTrue, IfOk, IfErr, IfSome, MatchResult, MatchOption, option_map};
-ghost use Rattle.unit_lang.specs.Faults.{IsFirstFault, FirstFault, AllBlank};
+ghost use Rattle.std.specs.Prelude.{◌≡◌, ◌+◌, ◌<◌, ◌≤◌, ◌↔◌, ◌⊎◌, [], ◌∷◌, ◌++◌, ℕ, suc, List, length, IsTrue, IfErr, MatchResult, MatchOption, option_map};
+ghost use Rattle.mx_base.specs.Blame.{Answers};
+ghost use Rattle.mx_base.specs.Blame.Blame.{Memory};
+ghost use Rattle.unit_lang.specs.Blame.{blame_of};
+ghost use Rattle.unit_lang.specs.Faults.{FirstFault, HasHeading, IsRead, IsUnitless};
 ghost use Rattle.unit_lang.specs.Gives.{FaultsAs};
 ghost use Rattle.unit_lang.specs.Lexing.{line_len, lines_after, rest_of, rest_size};
 ghost use Rattle.unit_lang.specs.Lines.{IsBlankLine, Says};
-ghost use Rattle.unit_lang.specs.Reading.{LongFault, heading_fault, BodyFaultAs, FileFaultAs, Hears, HearsFault};
+ghost use Rattle.unit_lang.specs.Reading.{BodyFaultAs, Follows, Hears, HearsFault, Refuses};
 ghost use Rattle.unit_lang.specs.declared.error.UnitCause.{UnitCause as FaultCause};
 ghost use Rattle.unit_lang.specs.declared.error.UnitCause.TheVariants.{OutOfMemory};
-ghost use Rattle.unit_lang.specs.Spells.{Spells, Makes, Body, lines_of, longest_line};
+ghost use Rattle.unit_lang.specs.Spells.{Spells, Body, lines_of, longest_line};
 ghost use Rattle.unit_lang.specs.declared.unit.Unit.{Unit as UnitFile};
 
 use crate::error::{UnitCause, UnitError};
-use crate::line::{heading, is_blank_line, statement};
+use crate::line::{heading, is_blank_line, is_unit_line, statement};
 use crate::unit::{Line, Lines, Statement, Unit};
+use mx_base::Text;
 use std::alloc::Global;
 
 /// The most bytes that a file has.
@@ -23,12 +27,15 @@ const LONGEST_LINE: usize = 4_096;
 
 /// Reads the unit that the whole text spells, or else tells its first fault by line.
 ///
-/// Goes once over the text, and takes memory for the unit and for what is open in an expression.
+/// Goes once over the text, and takes memory for the unit and for what is open in an expression. Only a text whose
+/// first line is told of in place of a later one is gone over once more.
+///
+/// # Errors
+///
+/// The first fault. Memory runs out only from the `unit` line on: what is refused before it always is.
 pub fn parse_unit(alloc: Global, text: &[u8]) -> Result<Unit, UnitError>
-    // What is read is what the text spells.
-    ensures read { IfOk result (λ unit. Spells text.now unit) }
-    // What is refused has the fault, unless memory ran out.
-    ensures refused { IfErr result (λ error. IsFirstFault text.now error) }
+    ensures answer { Answers blame_of result (IsRead text.now) }
+    ensures memory { IfErr result (λ error. blame_of error ≡ Memory → HasHeading text.now) }
 {
     if text.len() > LONGEST_FILE {
         return Err(UnitError {
@@ -41,10 +48,13 @@ pub fn parse_unit(alloc: Global, text: &[u8]) -> Result<Unit, UnitError>
     while let Some(lines) = rest {
         let (line, after) = first_line(lines);
         if line.len() > LONGEST_LINE {
-            return Err(long_before_heading(number, lines));
+            return Err(refusal(number, lines, UnitCause::TooLong));
+        }
+        if let Some(name) = heading(line) {
+            return unit_after(alloc, name, number, after);
         }
         if !is_blank_line(line) {
-            return unit_from(alloc, number, line, after);
+            return Err(refusal(number, lines, UnitCause::NoUnit));
         }
         number += 1;
         rest = after;
@@ -55,49 +65,11 @@ pub fn parse_unit(alloc: Global, text: &[u8]) -> Result<Unit, UnitError>
     })
 }
 
-/// The unit whose first line that isn't blank is here.
-fn unit_from(
-    alloc: Global,
-    number: u32,
-    line: &[u8],
-    rest: Option<&[u8]>,
-) -> Result<Unit, UnitError>
-    requires short { length line.now ≤ longest_line }
-    requires solid { IsBlankLine line.now → ⊥ }
-    requires room { number + rest_size (option_map (λ text. text.now) rest) < 4294967295 }
-    ensures { MatchResult result (Makes number (line.now ∷ lines_after (option_map (λ text. text.now) rest.entry))) (FileFaultAs number (line.now ∷ lines_after (option_map (λ text. text.now) rest.entry))) }
+/// How a file is refused at a line that only blank lines come before: at line 1 where it has no `unit` line.
+fn refusal(number: u32, lines: &[u8], cause: UnitCause) -> UnitError
+    ensures { Refuses number (lines_of lines.now) cause result }
 {
-    match heading(alloc, line) {
-        Ok(name) => {
-            let lines = body(alloc, number + 1, rest)?;
-            Ok(Unit {
-                name,
-                line: number,
-                lines,
-            })
-        }
-        Err(cause) => Err(UnitError {
-            line: number,
-            cause: heading_fault(cause),
-        }),
-    }
-}
-
-/// The fault where the first line that isn't blank is refused.
-fn heading_fault(cause: UnitCause) -> UnitCause
-    ensures { result ≡ heading_fault cause }
-{
-    match cause {
-        UnitCause::OutOfMemory => UnitCause::OutOfMemory,
-        _ => UnitCause::NoUnit,
-    }
-}
-
-/// The fault where a line is too long and only blank lines come before it.
-fn long_before_heading(number: u32, lines: &[u8]) -> UnitError
-    ensures { LongFault number (lines_of lines.now) result }
-{
-    if number > 1 && are_blank_lines(lines) {
+    if number > 1 && lacks_unit_line(lines) {
         return UnitError {
             line: 1,
             cause: UnitCause::NoUnit,
@@ -105,23 +77,52 @@ fn long_before_heading(number: u32, lines: &[u8]) -> UnitError
     }
     UnitError {
         line: number,
-        cause: UnitCause::TooLong,
+        cause,
     }
 }
 
-/// Whether all lines of a text are blank.
-fn are_blank_lines(text: &[u8]) -> bool
-    ensures { IsTrue result ↔ AllBlank (lines_of text.now) }
+/// Whether no line of a text is a `unit` line.
+fn lacks_unit_line(text: &[u8]) -> bool
+    ensures { IsTrue result ↔ IsUnitless (lines_of text.now) }
 {
     let mut rest = Some(text);
     while let Some(lines) = rest {
         let (line, after) = first_line(lines);
-        if !is_blank_line(line) {
+        if is_unit_line(line) {
             return false;
         }
         rest = after;
     }
     true
+}
+
+/// The unit of this name, from the lines after the one with this number.
+fn unit_after(
+    alloc: Global,
+    name: &[u8],
+    number: u32,
+    rest: Option<&[u8]>,
+) -> Result<Unit, UnitError>
+    requires room { number + rest_size (option_map (λ text. text.now) rest) < 4294967295 }
+    ensures { MatchResult result
+        (Follows name.now number (lines_after (option_map (λ text. text.now) rest.entry)))
+        (BodyFaultAs (suc number) (lines_after (option_map (λ text. text.now) rest.entry))) }
+{
+    let name = match Text::from_slice(alloc, name) {
+        Ok(name) => name,
+        Err(_) => {
+            return Err(UnitError {
+                line: number,
+                cause: UnitCause::OutOfMemory,
+            });
+        }
+    };
+    let lines = body(alloc, number + 1, rest)?;
+    Ok(Unit {
+        name,
+        line: number,
+        lines,
+    })
 }
 
 /// What the lines from this number on say.
@@ -217,7 +218,20 @@ pub fn one_unit()
     ensures { (text : List ℕ) (unit other : UnitFile) → Spells text unit → Spells text other → unit ≡ other }
 {}
 
+/// No text has two first faults.
+pub fn one_fault()
+    ensures { (text : List ℕ) (at other_at : ℕ) (cause other : FaultCause)
+        → FirstFault text at cause → FirstFault text other_at other → (at ≡ other_at) × (cause ≡ other) }
+{}
+
+/// Each text spells a unit or has a first fault.
+pub fn some_answer()
+    ensures { (text : List ℕ) → ((unit : UnitFile) × Spells text unit)
+        ⊎ ((at : ℕ) × (cause : FaultCause) × FirstFault text at cause) }
+{}
+
 /// No text both spells a unit and has a first fault.
 pub fn faults_stand_apart()
-    ensures { (text : List ℕ) (unit : UnitFile) (at : ℕ) (cause : FaultCause) → Spells text unit → FirstFault text at cause → ⊥ }
+    ensures { (text : List ℕ) (unit : UnitFile) (at : ℕ) (cause : FaultCause)
+        → Spells text unit → FirstFault text at cause → ⊥ }
 {}

@@ -14,8 +14,8 @@ use std::alloc::Global;
 const DEEPEST: usize = 64;
 
 /// How far a line was read.
-#[derive(Debug, Drop)]
-pub struct Progress {
+#[derive(Drop)]
+pub(crate) struct Progress {
     pub state: State,
     /// Whether a number was too great.
     pub great: bool,
@@ -23,7 +23,7 @@ pub struct Progress {
 
 impl Progress {
     /// At the beginning of a line.
-    pub fn first() -> Progress
+    pub(crate) fn first() -> Progress
         ensures { result ≡ first }
     {
         Progress {
@@ -33,7 +33,7 @@ impl Progress {
     }
 
     /// After one more token.
-    pub fn advanced(self, alloc: Global, token: Token) -> Result<Progress, UnitCause>
+    pub(crate) fn advanced(self, alloc: Global, token: Token) -> Result<Progress, UnitCause>
         ensures { MatchResult result (Advances self token) (Stops self token) }
     {
         let Progress { state, great } = self;
@@ -43,6 +43,7 @@ impl Progress {
             Err(cause) => return Err(fault(cause, great)),
         };
         if state.depth() > DEEPEST {
+            drop(state);
             return Err(UnitCause::TooDeep);
         }
         Ok(Progress {
@@ -52,18 +53,20 @@ impl Progress {
     }
 
     /// The statement of a line that ends here.
-    pub fn finished(self, alloc: Global) -> Result<Statement, UnitCause>
+    pub(crate) fn finished(self, alloc: Global) -> Result<Statement, UnitCause>
         ensures { FinishesAs self result }
     {
-        if self.great {
+        let Progress { state, great } = self;
+        if great {
+            drop(state);
             return Err(UnitCause::NumberTooBig);
         }
-        self.state.finished(alloc)
+        state.finished(alloc)
     }
 }
 
 /// The fault of a line that ends here: a number that was too great comes before it.
-pub fn fault(cause: UnitCause, great: bool) -> UnitCause
+pub(crate) fn fault(cause: UnitCause, great: bool) -> UnitCause
     ensures { result ≡ fault cause great }
 {
     match cause {

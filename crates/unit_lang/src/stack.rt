@@ -7,8 +7,8 @@ use std::alloc::{AllocError, Global};
 use std::marker::Model;
 
 /// A stack that contracts see as a list, its top first.
-#[derive(Debug, Drop)]
-pub struct Stack<T> {
+#[derive(Drop)]
+pub(crate) struct Stack<T> {
     items: Vec<T>,
 }
 
@@ -24,7 +24,7 @@ impl<T> Model for Stack<T> {
 }
 
 impl<T> Stack<T> {
-    pub fn new(alloc: Global) -> Stack<T>
+    pub(crate) fn new(alloc: Global) -> Stack<T>
         ensures { result ≡ [] }
     {
         Stack {
@@ -32,25 +32,25 @@ impl<T> Stack<T> {
         }
     }
 
-    pub fn len(&self) -> usize
+    pub(crate) fn len(&self) -> usize
         ensures { result ≡ length self.now }
     {
         self.items.len()
     }
 
-    pub fn is_empty(&self) -> bool
+    pub(crate) fn is_empty(&self) -> bool
         ensures { result ≡ (length self.now == 0) }
     {
         self.items.is_empty()
     }
 
-    pub fn top(&self) -> Option<&T>
+    pub(crate) fn top(&self) -> Option<&T>
         ensures { option_copied result ≡ first self.now }
     {
         self.items.last()
     }
 
-    pub fn pop(&mut self) -> Option<T>
+    pub(crate) fn pop(&mut self) -> Option<T>
         ensures { MatchOption result ((self.old ≡ []) × (self.new ≡ [])) (λ top. self.old ≡ top ∷ self.new) }
     {
         self.items.pop()
@@ -58,7 +58,7 @@ impl<T> Stack<T> {
 }
 
 impl<T: Drop> Stack<T> {
-    pub fn push(&mut self, item: T) -> Result<(), AllocError>
+    pub(crate) fn push(&mut self, item: T) -> Result<(), AllocError>
         ensures { OnOk result (self.new ≡ item ∷ self.old) }
     {
         self.items.push(item)?;

@@ -3,7 +3,7 @@ ghost use Rattle.std.specs.Prelude.{◌≡◌, Some, IfOk};
 ghost use Rattle.std.specs.Option.{option_copied};
 ghost use Rattle.unit_lang.specs.Gives.{Gives};
 ghost use Rattle.unit_lang.specs.Machine.{at_start, at_use, at_let, at_named, at_export, at_factor, at_operator, at_settled, after_factor, step, settled, is_minus, whole, whole_settled, finished, depth};
-ghost use Rattle.unit_lang.specs.declared.token.Token.TheVariants.{Close};
+ghost use Rattle.unit_lang.specs.declared.token.Token.TheVariants.{Close, Minus, Open, Word};
 
 use crate::bytes::is_name;
 use crate::error::UnitCause;
@@ -11,14 +11,14 @@ use crate::level::{Hole, Level, Sum, times};
 use crate::stack::Stack;
 use crate::token::Token;
 use crate::unit::{Expression, Statement};
-use crate::words::{operand, used};
+use crate::words::{boxed_operand, used};
 use mx_base::Text;
 use sqlite_items::Boxed;
 use std::alloc::{AllocError, Global};
 
 /// What the reader of a line knows between two tokens.
-#[derive(Debug, Drop)]
-pub enum State {
+#[derive(Drop)]
+pub(crate) enum State {
     /// At the beginning of the line.
     Start,
     /// After `use`.
@@ -41,18 +41,18 @@ pub enum State {
     Operator {
         name: Text,
         level: Level,
-        factor: Expression,
+        factor: Boxed<Expression>,
         holes: Stack<Hole>,
     },
     /// After a whole `use` or `export` line.
     Done {
-        statement: Statement,
+        statement: Boxed<Statement>,
     },
 }
 
 impl State {
     /// The state after one more token, or `BadLine` where it may not stand here.
-    pub fn step(self, alloc: Global, token: Token) -> Result<State, UnitCause>
+    pub(crate) fn step(self, alloc: Global, token: Token) -> Result<State, UnitCause>
         ensures { Gives result (step self token) }
     {
         match self {
@@ -60,7 +60,7 @@ impl State {
             State::Use => at_use(alloc, token),
             State::Let => at_let(token),
             State::Named { name } => at_named(alloc, name, token),
-            State::Export => at_export(token),
+            State::Export => at_export(alloc, token),
             State::Factor { name, level, holes } => at_factor(alloc, name, level, holes, token),
             State::Operator {
                 name,
@@ -73,7 +73,7 @@ impl State {
     }
 
     /// How many parentheses and minus signs are open.
-    pub fn depth(&self) -> usize
+    pub(crate) fn depth(&self) -> usize
         ensures { result ≡ depth self.now }
     {
         match self {
@@ -84,11 +84,11 @@ impl State {
     }
 
     /// The statement that the line's tokens make, or `BadLine` where they make none.
-    pub fn finished(self, alloc: Global) -> Result<Statement, UnitCause>
+    pub(crate) fn finished(self, alloc: Global) -> Result<Statement, UnitCause>
         ensures { Gives result (finished self) }
     {
         match self {
-            State::Done { statement } => Ok(statement),
+            State::Done { statement } => Ok(statement.into_inner()),
             State::Operator {
                 name,
                 level,
@@ -96,9 +96,12 @@ impl State {
                 holes,
             } => Ok(Statement::Let {
                 name,
-                value: whole(alloc, level, factor, holes)?,
+                value: whole(alloc, level, factor, holes)?.into_inner(),
             }),
-            _ => Err(UnitCause::BadLine),
+            state => {
+                drop(state);
+                Err(UnitCause::BadLine)
+            }
         }
     }
 }
@@ -108,10 +111,23 @@ fn at_start(token: Token) -> Result<State, UnitCause>
     ensures { Gives result (at_start token) }
 {
     match token {
-        Token::Word(word) if word.as_slice() == b"let".as_slice() => Ok(State::Let),
-        Token::Word(word) if word.as_slice() == b"use".as_slice() => Ok(State::Use),
-        Token::Word(word) if word.as_slice() == b"export".as_slice() => Ok(State::Export),
+        Token::Word(word) => at_keyword(word.as_slice()),
         _ => Err(UnitCause::BadLine),
+    }
+}
+
+/// The first word of a line.
+fn at_keyword(word: &[u8]) -> Result<State, UnitCause>
+    ensures { Gives result (at_start (Word word.now)) }
+{
+    if word == b"let".as_slice() {
+        Ok(State::Let)
+    } else if word == b"use".as_slice() {
+        Ok(State::Use)
+    } else if word == b"export".as_slice() {
+        Ok(State::Export)
+    } else {
+        Err(UnitCause::BadLine)
     }
 }
 
@@ -150,12 +166,12 @@ fn at_named(alloc: Global, name: Text, token: Token) -> Result<State, UnitCause>
 }
 
 /// A token after `export`.
-fn at_export(token: Token) -> Result<State, UnitCause>
+fn at_export(alloc: Global, token: Token) -> Result<State, UnitCause>
     ensures { Gives result (at_export token) }
 {
     match token {
         Token::Word(name) if is_name(name.as_slice()) => Ok(State::Done {
-            statement: Statement::Export { name },
+            statement: Boxed::new(alloc, Statement::Export { name })?,
         }),
         _ => Err(UnitCause::BadLine),
     }
@@ -166,31 +182,68 @@ fn at_factor(
     alloc: Global,
     name: Text,
     level: Level,
-    mut holes: Stack<Hole>,
+    holes: Stack<Hole>,
     token: Token,
 ) -> Result<State, UnitCause>
     ensures { Gives result (at_factor name level holes token) }
 {
     match token {
-        Token::Minus => {
-            holes.push(Hole::Minus)?;
-            Ok(State::Factor { name, level, holes })
+        Token::Minus => after_minus(name, level, holes),
+        Token::Open => after_open(name, level, holes),
+        Token::Word(word) => after_word(alloc, name, level, holes, word),
+        _ => {
+            drop(level);
+            Err(UnitCause::BadLine)
         }
-        Token::Open => {
-            holes.push(Hole::Parenthesis(level))?;
-            Ok(State::Factor {
-                name,
-                level: Level::fresh(),
-                holes,
-            })
+    }
+}
+
+/// A minus sign opens where a factor is wanted.
+fn after_minus(name: Text, level: Level, mut holes: Stack<Hole>) -> Result<State, UnitCause>
+    ensures { Gives result (at_factor name level holes Minus) }
+{
+    match holes.push(Hole::Minus) {
+        Ok(()) => Ok(State::Factor { name, level, holes }),
+        Err(_) => {
+            drop(level);
+            Err(UnitCause::OutOfMemory)
         }
-        Token::Word(word) => Ok(State::Operator {
+    }
+}
+
+/// A parenthesis opens where a factor is wanted.
+fn after_open(name: Text, level: Level, mut holes: Stack<Hole>) -> Result<State, UnitCause>
+    ensures { Gives result (at_factor name level holes Open) }
+{
+    holes.push(Hole::Parenthesis(level))?;
+    Ok(State::Factor {
+        name,
+        level: Level::fresh(),
+        holes,
+    })
+}
+
+/// A word stands where a factor is wanted.
+fn after_word(
+    alloc: Global,
+    name: Text,
+    level: Level,
+    holes: Stack<Hole>,
+    word: Text,
+) -> Result<State, UnitCause>
+    ensures { Gives result (at_factor name level holes (Word word)) }
+{
+    match boxed_operand(alloc, word) {
+        Ok(factor) => Ok(State::Operator {
             name,
             level,
-            factor: operand(alloc, word)?,
+            factor,
             holes,
         }),
-        _ => Err(UnitCause::BadLine),
+        Err(cause) => {
+            drop(level);
+            Err(cause)
+        }
     }
 }
 
@@ -199,7 +252,7 @@ fn at_operator(
     alloc: Global,
     name: Text,
     level: Level,
-    factor: Expression,
+    factor: Boxed<Expression>,
     mut holes: Stack<Hole>,
     token: Token,
 ) -> Result<State, UnitCause>
@@ -216,7 +269,7 @@ fn at_settled(
     alloc: Global,
     name: Text,
     level: Level,
-    factor: Expression,
+    factor: Boxed<Expression>,
     holes: Stack<Hole>,
     token: Token,
 ) -> Result<State, UnitCause>
@@ -232,7 +285,7 @@ fn after_factor(
     alloc: Global,
     name: Text,
     sum: Sum,
-    term: Expression,
+    term: Boxed<Expression>,
     mut holes: Stack<Hole>,
     token: Token,
 ) -> Result<State, UnitCause>
@@ -252,7 +305,10 @@ fn after_factor(
             product: Some(term),
         },
         Token::Close => return after_close(alloc, name, sum, term, holes),
-        _ => return Err(UnitCause::BadLine),
+        _ => {
+            drop(sum);
+            return Err(UnitCause::BadLine);
+        }
     };
     Ok(State::Factor { name, level, holes })
 }
@@ -262,7 +318,7 @@ fn after_close(
     alloc: Global,
     name: Text,
     sum: Sum,
-    term: Expression,
+    term: Boxed<Expression>,
     mut holes: Stack<Hole>,
 ) -> Result<State, UnitCause>
     ensures { Gives result (after_factor name sum term holes Close) }
@@ -274,7 +330,11 @@ fn after_close(
             factor: sum.joined(alloc, term)?,
             holes,
         }),
-        _ => Err(UnitCause::BadLine),
+        hole => {
+            drop(hole);
+            drop(sum);
+            Err(UnitCause::BadLine)
+        }
     }
 }
 
@@ -282,9 +342,9 @@ fn after_close(
 fn whole(
     alloc: Global,
     level: Level,
-    factor: Expression,
+    factor: Boxed<Expression>,
     mut holes: Stack<Hole>,
-) -> Result<Expression, UnitCause>
+) -> Result<Boxed<Expression>, UnitCause>
     ensures { Gives result (whole level factor holes) }
 {
     match settled(alloc, factor, &mut holes) {
@@ -297,9 +357,9 @@ fn whole(
 fn whole_settled(
     alloc: Global,
     level: Level,
-    factor: Expression,
+    factor: Boxed<Expression>,
     holes: Stack<Hole>,
-) -> Result<Expression, UnitCause>
+) -> Result<Boxed<Expression>, UnitCause>
     ensures { Gives result (whole_settled level (factor, holes)) }
 {
     if !holes.is_empty() {
@@ -313,15 +373,15 @@ fn whole_settled(
 /// The factor with the minus signs before it, which are taken off.
 fn settled(
     alloc: Global,
-    factor: Expression,
+    factor: Boxed<Expression>,
     holes: &mut Stack<Hole>,
-) -> Result<Expression, AllocError>
+) -> Result<Boxed<Expression>, AllocError>
     ensures { IfOk result (λ e. (e, holes.new) ≡ settled factor holes.old) }
 {
     let mut factor = factor;
     while is_minus(holes.top()) {
         holes.pop();
-        factor = Expression::Negate(Boxed::new(alloc, factor)?);
+        factor = Boxed::new(alloc, Expression::Negate(factor))?;
     }
     Ok(factor)
 }

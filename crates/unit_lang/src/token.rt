@@ -3,8 +3,8 @@
 use mx_base::Text;
 
 /// A token of a line.
-#[derive(Debug, Drop)]
-pub enum Token {
+#[derive(Drop)]
+pub(crate) enum Token {
     /// Letters, digits, `_` and `.` in a row: a word, a number or two names with a dot between them.
     Word(Text),
     /// `=`

@@ -7,7 +7,7 @@ use sqlite_items::Boxed;
 pub type Lines = ListOf<Line>;
 
 /// A unit file: its name, and the lines after that name which aren't blank.
-#[derive(Debug, Drop)]
+#[derive(Drop)]
 pub struct Unit {
     pub name: Text,
     /// The number of the `unit` line, from 1.
@@ -16,14 +16,14 @@ pub struct Unit {
 }
 
 /// A line that isn't blank, with its number from 1.
-#[derive(Debug, Drop)]
+#[derive(Drop)]
 pub struct Line {
     pub number: u32,
     pub statement: Statement,
 }
 
 /// What a line says.
-#[derive(Debug, Drop)]
+#[derive(Drop)]
 pub enum Statement {
     /// `use APP.UNIT`: the exports of another app's unit.
     Use { app: AppName, unit: Text },
@@ -36,7 +36,7 @@ pub enum Statement {
 }
 
 /// An expression. Parentheses aren't kept: they have shaped the tree.
-#[derive(Debug, Drop)]
+#[derive(Drop)]
 pub enum Expression {
     /// Decimal digits, at most 2^63 - 1.
     Number(i64),

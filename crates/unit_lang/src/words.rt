@@ -11,10 +11,11 @@ use crate::state::State;
 use crate::token::Token;
 use crate::unit::{Expression, Statement};
 use mx_base::{AppName, NameError, Text};
+use sqlite_items::Boxed;
 use std::alloc::Global;
 
 /// Whether the token is a number that is too great.
-pub fn is_too_great(token: &Token) -> bool
+pub(crate) fn is_too_great(token: &Token) -> bool
     ensures { result ≡ too_great token.now }
 {
     match token {
@@ -24,7 +25,7 @@ pub fn is_too_great(token: &Token) -> bool
 }
 
 /// What a word is in an expression. 0 stands for a number that is too great: its line is refused in the end.
-pub fn operand(alloc: Global, word: Text) -> Result<Expression, UnitCause>
+fn operand(alloc: Global, word: Text) -> Result<Expression, UnitCause>
     ensures { Gives result (operand word) }
 {
     if are_digits(word.as_slice()) {
@@ -35,6 +36,14 @@ pub fn operand(alloc: Global, word: Text) -> Result<Expression, UnitCause>
         return Ok(Expression::Name(word));
     }
     reference(alloc, word.as_slice())
+}
+
+/// The same in a box.
+pub(crate) fn boxed_operand(alloc: Global, word: Text) -> Result<Boxed<Expression>, UnitCause>
+    ensures { Gives result (operand word) }
+{
+    let operand = operand(alloc, word)?;
+    Ok(Boxed::new(alloc, operand)?)
 }
 
 /// The number that digits stand for, or 0 where it is too great.
@@ -61,17 +70,15 @@ fn reference(alloc: Global, word: &[u8]) -> Result<Expression, UnitCause>
 }
 
 /// Another app's unit, which ends its line.
-pub fn used(alloc: Global, word: &[u8]) -> Result<State, UnitCause>
+pub(crate) fn used(alloc: Global, word: &[u8]) -> Result<State, UnitCause>
     ensures { Gives result (used (dotted word.now)) }
 {
     match dotted(word) {
         Some((app, unit)) if is_name(unit) => {
             let app = app_name(alloc, app)?;
+            let unit = Text::from_slice(alloc, unit)?;
             Ok(State::Done {
-                statement: Statement::Use {
-                    app,
-                    unit: Text::from_slice(alloc, unit)?,
-                },
+                statement: Boxed::new(alloc, Statement::Use { app, unit })?,
             })
         }
         _ => Err(UnitCause::BadLine),

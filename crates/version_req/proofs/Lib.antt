@@ -7,3 +7,4 @@ pub mod RunSound
 pub mod ScanSteps
 pub mod Sound
 pub mod Turns
+pub mod Answered

@@ -17,4 +17,6 @@ mod scanned;
 pub use error::ReqError;
 pub use matching::{compare, matches};
 pub use operator::Operator;
-pub use requirement::{Comparison, Requirement, one_requirement};
+pub use requirement::{
+    Comparison, Requirement, each_is_read_or_refused, one_refusal, one_requirement,
+};

@@ -18,8 +18,9 @@ pub fn compare(left: &Version, right: &Version) -> Ordering
     left.cmp_precedence(right)
 }
 
-/// Whether the requirement takes the version, where `allow_pre` says whether pre-releases are welcome
-/// even if the requirement names none.
+/// Whether the requirement takes the version: it meets all comparisons of some alternative. Without
+/// `allow_pre` a comparison by `>`, `>=` or `~>` refuses a pre-release, unless its own operand is one; the
+/// other operators take pre-releases by precedence alone.
 pub fn matches(requirement: &Requirement, version: &Version, allow_pre: bool) -> bool
     ensures { result ≡ sat requirement.now (parts_of version.now) allow_pre }
 {

@@ -1,7 +1,7 @@
 // The operators of comparisons.
 
 /// How a version is to stand to the operand of a comparison, by precedence.
-#[derive(Clone, Copy, Debug, PartialEq, Eq)]
+#[derive(Clone, Copy)]
 pub enum Operator {
     /// `==`, or no operator.
     Equal,

@@ -1,8 +1,8 @@
 // Comparisons and requirements, which contracts see without where they lie in memory.
-ghost use Rattle.std.specs.Prelude.{◌≡◌, ℕ, List, IfOk, IfErr};
+ghost use Rattle.std.specs.Prelude.{◌≡◌, ◌⊎◌, ℕ, List, IfOk, IfErr};
 ghost use Rattle.version_req.specs.Condition.{Alternatives};
 ghost use Rattle.version_req.specs.Grammar.{Spells};
-ghost use Rattle.version_req.specs.Refusal.{HasCause};
+ghost use Rattle.version_req.specs.Refusal.{HasCause, IsRefusedAt};
 
 use crate::error::ReqError;
 use crate::operator::Operator;
@@ -13,7 +13,7 @@ use std::alloc::{AllocError, Global};
 use std::marker::Model;
 
 /// An operator and its operand, as `>= 1.2.0`.
-#[derive(Debug, Drop)]
+#[derive(Drop)]
 pub struct Comparison {
     pub(crate) operator: Operator,
     pub(crate) version: Version,
@@ -49,7 +49,7 @@ impl Clone for Comparison {
 }
 
 /// What a version has to meet: all comparisons of any one alternative.
-#[derive(Debug, Drop)]
+#[derive(Drop)]
 pub struct Requirement {
     pub(crate) alternatives: ListOf<ListOf<Comparison>>,
 }
@@ -96,4 +96,18 @@ impl Requirement {
 /// No text spells two requirements.
 pub fn one_requirement()
     ensures { (text : List ℕ) (a b : Alternatives) → Spells text a → Spells text b → a ≡ b }
+{}
+
+/// Each text spells a requirement, or is refused at a place.
+pub fn each_is_read_or_refused()
+    ensures { (text : List ℕ) → ((requirement : Alternatives) × Spells text requirement)
+        ⊎ ((at : ℕ) × IsRefusedAt text at) }
+{}
+
+/// A text is refused at one place, and only where it spells nothing.
+pub fn one_refusal()
+    ensures places { (text : List ℕ) (at other : ℕ) → IsRefusedAt text at → IsRefusedAt text other
+        → at ≡ other }
+    ensures apart { (text : List ℕ) (at : ℕ) (requirement : Alternatives) → IsRefusedAt text at
+        → Spells text requirement → ⊥ }
 {}

@@ -6,7 +6,7 @@ use Rattle.build_plan.proofs.jobs.job_of.Goals as goal
 
 pub returns-in_ok-described-in-Some-clause-job : goal.returns-in_ok-described-in-Some-clause-job
 returns-in_ok-described-in-Some-clause-job g c =
-    let told = g.S.Store.sources c.args.store.now in
+    let told = (g.S.Store.known c.args.store.now).sources in
     let s = c.args.scene.now in
     let post = c.args.post.now in
     let read : IfSome told (λ files. IsFound files post.found.now → AreSources files post.found.now.dir c.min.result (Some c.in-Some.sources)) =
@@ -15,7 +15,7 @@ returns-in_ok-described-in-Some-clause-job g c =
 
 pub returns-in-None-clause-job : goal.returns-in-None-clause-job
 returns-in-None-clause-job g c =
-    let told = g.S.Store.sources c.args.store.now in
+    let told = (g.S.Store.known c.args.store.now).sources in
     let s = c.args.scene.now in
     let post = c.args.post.now in
     let read : IfSome told (λ files. IsFound files post.found.now → AreSources files post.found.now.dir c.min.result None) =

@@ -1,39 +1,40 @@
-use Rattle.std.proofs.Common.{◌≡◌, ℕ, ◌+◌, ◌-◌, ◌<◌, ◌≤◌, false, List, [], ◌∷◌, ◌++◌, length, Option, IfSome, refl, ◌∙◌, ap, subst, arith}
+use Rattle.std.proofs.Common.{◌≡◌, ℕ, ◌+◌, ◌-◌, ◌<◌, ◌≤◌, List, [], ◌∷◌, ◌++◌, length, IfSome, ◌∙◌, ap, subst, arith}
 use Rattle.std.proofs.lemmas.List.{length-append}
 use Rattle.std.proofs.lemmas.Result.{err_from_is_err_and}
-use Rattle.mx_base.specs.declared.file.File.{File}
+use Rattle.tree_store.specs.Known.{Known}
 use Rattle.compile_model.specs.Planned.{most_jobs}
 use Rattle.dep_order.specs.Listing.{IsOrderOf}
 use Rattle.build_plan.specs.Jobs.{IsJobAt}
 use Rattle.build_plan.specs.Scenes.{RefusesJob}
 use Rattle.build_plan.specs.Sources.{bytes_in}
-use Rattle.build_plan.proofs.JobLemmas.{fit_more, if_jobs_more, if_refuses_jobs, known_more, room_more, sent_more}
+use Rattle.build_plan.proofs.ReadLemmas.{all_same}
+use Rattle.build_plan.proofs.JobLemmas.{fit_more, if_jobs_more, if_makes, if_refuses_jobs, known_more, room_more, sent_more}
 use Rattle.build_plan.proofs.PlannedLemmas.{are_planned}
 use Rattle.build_plan.proofs.jobs.jobs.Goals as goal
 
-pub returns-in_err-job-clause-refused : goal.returns-in_err-job-clause-refused
-returns-in_err-job-clause-refused g c =
+pub returns-in_err-job-clause-answer : goal.returns-in_err-job-clause-answer
+returns-in_err-job-clause-answer g c =
     let s = c.args.scene.now in
     let l = c.loop-at in
     let error = c.in_err-job.field-0.0 in
     let within : l.at < length s.order.now = omega (arith, c.loop-at-test.true) in
     let p = err_from_is_err_and c.from_residual.result c.from_residual.ensures.1 in
-    rw (p.1, p.2) (λ no_read no_memory.
-    if_refuses_jobs (g.S.Store.sources c.args.store.now) s.settings.now s.rows.now s.places.now s.order.now l.jobs.items l.at l.room error within l.invariant.long l.invariant.meant l.invariant.fit l.invariant.room
-    (subst (λ (told : Option (List File)). IfSome told (λ files. RefusesJob files s.settings.now s.rows.now s.places.now s.order.now l.at l.room error)) l.invariant.sources (c.in_err-job.ensures.refused no_read no_memory)))
+    rw (p.1, p.2) (λ input.
+    if_refuses_jobs (g.S.Store.known c.args.store.now).sources s.settings.now s.rows.now s.places.now s.order.now l.jobs.items l.at l.room error within l.invariant.long l.invariant.meant l.invariant.fit l.invariant.room
+    (subst (λ (k : Known). IfSome k.sources (λ files. RefusesJob files s.settings.now s.rows.now s.places.now s.order.now l.at l.room error)) l.invariant.same (c.in_err-job.ensures.answer input)))
 
 pub loop-at-preserved : goal.loop-at-preserved
 loop-at-preserved g c =
     let s = c.args.scene.now in
     let l = c.loop-at in
-    let told = g.S.Store.sources c.args.store.now in
+    let told = (g.S.Store.known c.args.store.now).sources in
     let jobs = l.jobs.items in
     let new = c.push.new.self.items in
     let job = c.in_ok-job.job in
     let fits = c.in_ok-job.ensures.fits in
     let pushed : new ≡ jobs ++ job ∷ [] = c.in_ok-push.ensures.items in
     let stands : IfSome told (λ files. IsJobAt files s.settings.now s.rows.now s.places.now s.order.now l.at job) =
-    subst (λ (o : Option (List File)). IfSome o (λ files. IsJobAt files s.settings.now s.rows.now s.places.now s.order.now l.at job)) l.invariant.sources c.in_ok-job.ensures.job in
+    subst (λ (k : Known). IfSome k.sources (λ files. IsJobAt files s.settings.now s.rows.now s.places.now s.order.now l.at job)) l.invariant.same c.in_ok-job.ensures.answer in
     let taken : c.bytes_in-room.result ≡ bytes_in job.sources = c.bytes_in-room.ensures ∙ ap bytes_in c.as_slice.ensures.value in
     let left : (l.room - c.bytes_in-room.result) + bytes_in job.sources ≡ l.room = omega (arith, taken, fits.within) in
     record {
@@ -44,11 +45,15 @@ loop-at-preserved g c =
       sent = sent_more jobs new job pushed l.invariant.sent fits.sent;
       fit = fit_more jobs new l.at l.room job pushed l.invariant.long l.invariant.room l.invariant.fit fits;
       room = room_more jobs new l.room (l.room - c.bytes_in-room.result) job pushed left l.invariant.room;
-      sources = c.in_ok-job.ensures.sources ∙ l.invariant.sources;
-      same = c.in_ok-job.ensures.same ∙ l.invariant.same;
-      returned = c.in_ok-job.ensures.returned ∙ l.invariant.returned;
-      faults = c.in_ok-job.ensures.cause.kept (refl {a = false}) ∙ l.invariant.faults;
+      same = all_same c.in_ok-job.ensures.reads ∙ l.invariant.same;
     }
+
+pub returns-clause-answer : goal.returns-clause-answer
+returns-clause-answer g c =
+    let s = c.args.scene.now in
+    let l = c.loop-at in
+    let all : length l.jobs.items ≡ length s.order.now = omega (arith, l.invariant.long, c.loop-at-test.false, l.auto.at-end) in
+    if_makes (g.S.Store.known c.args.store.now).sources s.settings.now s.rows.now s.places.now s.order.now l.jobs.items all l.invariant.fit l.invariant.meant
 
 pub returns-clause-planned : goal.returns-clause-planned
 returns-clause-planned g c =

@@ -1,5 +1,5 @@
 use Rattle.std.proofs.Common.{◌≡◌, ℕ, List, map, take}
-use Rattle.elixir_terms.specs.declared.term.Term.TheVariants.{Str}
+use Rattle.term_values.specs.declared.term.Term.TheVariants.{Str}
 use Rattle.build_plan.proofs.options.words_term.Given as goal
 
 abbrev pub invariant-loop-word : goal.invariant-loop-word

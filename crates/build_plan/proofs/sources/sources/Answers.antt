@@ -1,19 +1,21 @@
-use Rattle.std.proofs.Common.{◌≡◌, ◌⊎◌, inl, inr, ℕ, ◌+◌, ◌<◌, ◌≤◌, ◌++◌, List, [], ◌∷◌, Option, IfSome, length, get_or, drop, false, refl, sym, ◌∙◌, ap, subst, arith}
+use Rattle.std.proofs.Common.{◌≡◌, ◌⊎◌, inl, inr, ℕ, ◌+◌, ◌<◌, ◌≤◌, ◌++◌, List, [], ◌∷◌, Option, IfSome, length, get_or, drop, sym, ◌∙◌, ap, subst, arith}
 use Rattle.std.proofs.lemmas.Grind.{common_steps}
 use Rattle.std.proofs.lemmas.List.{length-append}
 use Rattle.mx_base.specs.declared.file.File.{File}
 use Rattle.mx_base.specs.Order.{ArePathsInOrder}
 use Rattle.mx_base.specs.Path.{folder_text}
+use Rattle.tree_store.specs.Known.{Known}
 use Rattle.build_plan.specs.Found.{IsFound}
 use Rattle.build_plan.specs.Jobs.{most_files}
 use Rattle.build_plan.specs.Sources.{bytes_in, source_at, sources_of}
+use Rattle.build_plan.proofs.ReadLemmas.{all_same}
 use Rattle.build_plan.proofs.SourceLemmas.{GoesOn, behind, bytes-push, found_list, goes_on, goes_to_end, order_end, order_step, passes}
 use Rattle.build_plan.proofs.sources.sources.Goals as goal
 use Rattle.build_plan.proofs.sources.sources.Goals.{then-len-eq-MOST_FILES-via-then-len-eq-MOST_FILES, then-len-eq-MOST_FILES-via-else-len-eq-MOST_FILES+then-size-left, in-Some+else-len-eq-MOST_FILES+else-size-left+in_ok-push, in_default}
 
 pub returns-then-len-eq-MOST_FILES-clause-read : goal.returns-then-len-eq-MOST_FILES-clause-read
 returns-then-len-eq-MOST_FILES-clause-read g c =
-    let told = g.S.Store.sources c.args.store.now in
+    let told = (g.S.Store.known c.args.store.now).sources in
     let at = c.loop-path in
     let found = c.args.found.now in
     let i = at.path-index in
@@ -21,7 +23,7 @@ returns-then-len-eq-MOST_FILES-clause-read g c =
     let file = c.in-Some.source in
     let within = subst (λ (ps : List (List ℕ)). i < length ps) c.deref-path-items.ensures.value c.loop-path-test.true in
     let is = subst (λ (ps : List (List ℕ)). path ≡ get_or ps i path) c.deref-path-items.ensures.value c.path-item.is in
-    let answered = subst (λ (o : Option (List File)). IfSome o (λ files. IsFound files found → c.in_ok-source.field-0 ≡ source_at found.dir files path)) at.invariant.sources c.in_ok-source.ensures.source in
+    let answered = subst (λ (k : Known). IfSome k.sources (λ files. IsFound files found → c.in_ok-source.field-0 ≡ source_at found.dir files path)) at.invariant.same c.in_ok-source.ensures.source in
     let one = subst (λ (o : Option File). IfSome told (λ files. IsFound files found → o ≡ source_at found.dir files path)) c.in-Some.is answered in
     let many = at.sources.ok.0 in
     let counts = c.len.ensures in
@@ -35,7 +37,7 @@ returns-then-len-eq-MOST_FILES-clause-read g c =
 
 pub loop-path-preserved : goal.loop-path-preserved
 loop-path-preserved g c =
-    let told = g.S.Store.sources c.args.store.now in
+    let told = (g.S.Store.known c.args.store.now).sources in
     let at = c.loop-path in
     let found = c.args.found.now in
     let paths = found.paths.items in
@@ -44,7 +46,7 @@ loop-path-preserved g c =
     let source = c.in_ok-source.field-0 in
     let within = subst (λ (ps : List (List ℕ)). i < length ps) c.deref-path-items.ensures.value c.loop-path-test.true in
     let is = subst (λ (ps : List (List ℕ)). path ≡ get_or ps i path) c.deref-path-items.ensures.value c.path-item.is in
-    let answered = subst (λ (o : Option (List File)). IfSome o (λ files. IsFound files found → source ≡ source_at found.dir files path)) at.invariant.sources c.in_ok-source.ensures.source in
+    let answered = subst (λ (k : Known). IfSome k.sources (λ files. IsFound files found → source ≡ source_at found.dir files path)) at.invariant.same c.in_ok-source.ensures.source in
     let items : c.match-branch-2.sources.items ≡ at.sources.items ++ found_list source =
     elim c.match-branch-2.branch [ in-Some+else-len-eq-MOST_FILES+else-size-left+in_ok-push w ↦ grind (arith, common_steps) | in_default w ↦ grind (arith, common_steps) ] in
     let few : length c.match-branch-2.sources.items ≤ most_files =
@@ -75,10 +77,7 @@ loop-path-preserved g c =
           (order_step (folder_text found.dir) at.sources.items source paths i path within is c.in_ok-source.ensures.place at.invariant.order);
       few = few;
       room = room;
-      sources = c.in_ok-source.ensures.sources ∙ at.invariant.sources;
-      same = c.in_ok-source.ensures.same ∙ at.invariant.same;
-      returned = c.in_ok-source.ensures.returned ∙ at.invariant.returned;
-      faults = c.in_ok-source.ensures.cause.kept (refl {a = false}) ∙ at.invariant.faults;
+      same = all_same c.in_ok-source.ensures.reads ∙ at.invariant.same;
     }
 
 pub from_vec-requires : goal.from_vec-requires
@@ -91,5 +90,5 @@ pub returns-clause-read : goal.returns-clause-read
 returns-clause-read g c =
     let found = c.args.found.now in
     let past = subst (λ (ps : List (List ℕ)). length ps ≤ c.loop-path.path-index) c.deref-path-items.ensures.value c.loop-path-test.false in
-    subst (λ (fs : List File). IfSome (g.S.Store.sources c.args.store.now) (λ files. IsFound files found → fs ≡ sources_of found.dir files)) (sym c.from_vec.ensures)
-    (goes_to_end (g.S.Store.sources c.args.store.now) found c.loop-path.sources.items c.loop-path.path-index past c.loop-path.invariant.found)
+    subst (λ (fs : List File). IfSome (g.S.Store.known c.args.store.now).sources (λ files. IsFound files found → fs ≡ sources_of found.dir files)) (sym c.from_vec.ensures)
+    (goes_to_end (g.S.Store.known c.args.store.now).sources found c.loop-path.sources.items c.loop-path.path-index past c.loop-path.invariant.found)

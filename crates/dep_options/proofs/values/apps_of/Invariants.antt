@@ -1,5 +1,5 @@
 use Rattle.std.proofs.Common.{◌≡◌, ◌++◌, drop, option_map}
-use Rattle.elixir_terms.specs.Views.{all_of}
+use Rattle.term_values.specs.Views.{all_of}
 use Rattle.dep_options.specs.Views.{app_of}
 use Rattle.dep_options.proofs.values.apps_of.Given as goal
 

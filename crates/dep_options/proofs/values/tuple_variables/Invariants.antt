@@ -1,6 +1,6 @@
 use Rattle.std.proofs.Common.{◌≡◌, ◌++◌, drop, option_map}
-use Rattle.elixir_terms.specs.Views.{all_of}
-use Rattle.dep_options.specs.Values.{tuple_variable_of}
+use Rattle.term_values.specs.Views.{all_of}
+use Rattle.dep_options.specs.Options.{tuple_variable_of}
 use Rattle.dep_options.proofs.values.tuple_variables.Given as goal
 
 abbrev pub invariant-loop-item : goal.invariant-loop-item

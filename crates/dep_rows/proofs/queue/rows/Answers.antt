@@ -1,6 +1,7 @@
-use Rattle.std.proofs.Common.{ℕ, List, ◌<◌, ◌≤◌, length, false, refl, sym, ◌∙◌, subst, arith, IfSome, Option}
+use Rattle.std.proofs.Common.{ℕ, List, ◌<◌, ◌≤◌, length, false, refl, sym, ◌∙◌, ap, subst, arith, IfSome, Option}
 use Rattle.dep_rows.specs.Growing.{BringsIn, Hinders}
 use Rattle.dep_rows.specs.Children.{rows_blame}
+use Rattle.dep_rows.specs.Listed.{Listed}
 use Rattle.dep_rows.specs.Refusal.{IsListing}
 use Rattle.dep_rows.specs.Rows.{AreRows}
 use Rattle.dep_rows.specs.declared.row.Row.{Row}
@@ -16,8 +17,7 @@ pub loop-asked-init : goal.loop-asked-init
 loop-asked-init g c =
     let few = c.if-root-gt-MOST_ROWS.false in
     record {
-      stands = stands_root g.C.Children.children_of (g.C.Children.meaning c.args.children.now) c.args.root.now c.in_ok-copied.field-0.items c.new-listing.result.rows.items c.add_all.new.self.rows.items c.new-listing.result.winners.items c.add_all.new.self.winners.items c.new-listing.ensures.rows c.new-listing.ensures.winners c.in_ok-copied.ensures c.in_ok-add_all.ensures.rows c.in_ok-add_all.ensures.winners (omega (arith, few));
-      apps = c.in_ok-add_all.ensures.apps;
+      stands = stands_root g.C.Children.children_of (g.C.Children.meaning c.args.children.now) c.args.root.now c.in_ok-decls.decls.items c.new.result.rows.items c.in_ok-listing.listing.rows.items c.new.result.winners.items c.in_ok-listing.listing.winners.items c.new.ensures.rows c.new.ensures.winners c.in_ok-decls.ensures c.in_ok-listing.ensures.rows c.in_ok-listing.ensures.winners (omega (arith, few));
       meaning = refl;
       made_over = refl;
       standing = c.requires;
@@ -35,19 +35,19 @@ bring_in-requires-clause-within g c =
     let within = winner_within g.C.Children.children_of (g.C.Children.meaning c.args.children.now) c.args.root.now at.listing.rows.items at.listing.winners.items at.asked c.index-winner.result.now at.invariant.stands next c.index-winner.ensures in
     omega (arith, within, rows_long)
 
-pub returns-in_err-bring_in-clause-answer : goal.returns-in_err-bring_in-clause-answer
-returns-in_err-bring_in-clause-answer g c =
+pub returns-in_err-listing-2-clause-answer : goal.returns-in_err-listing-2-clause-answer
+returns-in_err-listing-2-clause-answer g c =
     let at = c.loop-asked in
     let test = c.loop-asked-test.true in
     let counts = c.len.ensures in
     let winners_long = at.listing.winners.ok.0 in
     let next : at.asked < length at.listing.winners.items = omega (arith, test, counts, winners_long) in
-    let error = c.in_err-bring_in.field-0.0 in
+    let error = c.in_err-listing-2.field-0.0 in
     let rows = at.listing.rows.items in
     let winner = c.index-winner.result.now in
-    let hindered = subst (λ (o : Option _). IfSome o (λ known. Hinders g.C.Children.blame (g.C.Children.children_of known) rows winner error)) at.invariant.meaning c.in_err-bring_in.ensures.err in
+    let hindered = subst (λ (o : Option _). IfSome o (λ known. Hinders g.C.Children.blame (g.C.Children.children_of known) rows winner error)) at.invariant.meaning c.in_err-listing-2.ensures.err in
     let meaning = g.C.Children.meaning c.args.children.now in
-    told_on meaning (rows_blame g.C.Children.blame) (λ known. IsListing (g.C.Children.children_of known) c.args.root.now) c.from_residual-in_err-bring_in.result error c.from_residual-in_err-bring_in.ensures.1
+    told_on meaning (rows_blame g.C.Children.blame) (λ known. IsListing (g.C.Children.children_of known) c.args.root.now) c.from_residual-in_err-listing-2.result error c.from_residual-in_err-listing-2.ensures.1
     (stands_hindered g.C.Children.children_of meaning c.args.root.now rows at.listing.winners.items at.asked winner at.invariant.stands next c.index-winner.ensures g.C.Children.blame error hindered)
 
 pub loop-asked-preserved : goal.loop-asked-preserved
@@ -57,16 +57,15 @@ loop-asked-preserved g c =
     let counts = c.len.ensures in
     let winners_long = at.listing.winners.ok.0 in
     let next : at.asked < length at.listing.winners.items = omega (arith, test, counts, winners_long) in
-    let new = c.bring_in.new.listing in
+    let new = c.in_ok-listing-2.listing in
     let winner = c.index-winner.result.now in
-    let brings = subst (λ (o : Option _). BringsIn g.C.Children.children_of o winner at.listing.rows.items new.rows.items at.listing.winners.items new.winners.items) at.invariant.meaning c.in_ok-bring_in.ensures.ok in
+    let brings = subst (λ (o : Option _). BringsIn g.C.Children.children_of o winner at.listing.rows.items new.rows.items at.listing.winners.items new.winners.items) at.invariant.meaning c.in_ok-listing-2.ensures.ok in
     record {
       stands = stands_more g.C.Children.children_of (g.C.Children.meaning c.args.children.now) c.args.root.now at.listing.rows.items at.listing.winners.items at.asked winner at.invariant.stands next c.index-winner.ensures new.rows.items new.winners.items brings;
-      apps = c.in_ok-bring_in.ensures.apps;
-      meaning = c.in_ok-bring_in.ensures.meaning ∙ at.invariant.meaning;
-      made_over = c.in_ok-bring_in.ensures.made_over ∙ at.invariant.made_over;
-      standing = c.in_ok-bring_in.ensures.stands;
-      faults = c.in_ok-bring_in.ensures.cause.kept (refl {a = false}) ∙ at.invariant.faults;
+      meaning = c.in_ok-listing-2.ensures.meaning ∙ at.invariant.meaning;
+      made_over = c.in_ok-listing-2.ensures.made_over ∙ at.invariant.made_over;
+      standing = c.in_ok-listing-2.ensures.stands;
+      faults = c.in_ok-listing-2.ensures.cause.kept (refl {a = false}) ∙ at.invariant.faults;
     }
 
 pub returns-clause-answer : goal.returns-clause-answer
@@ -78,7 +77,7 @@ returns-clause-answer g c =
     let past : length at.listing.winners.items ≤ at.asked = omega (arith, test, counts, winners_long) in
     let meaning = g.C.Children.meaning c.args.children.now in
     let root = c.args.root.now in
-    let found = c.into_rows.result in
-    subst (λ (rs : List Row). IfSome meaning (λ known. AreRows (g.C.Children.children_of known) root rs found.winners)) (sym c.into_rows.ensures.rows)
-    (subst (λ (ws : List ℕ). IfSome meaning (λ known. AreRows (g.C.Children.children_of known) root at.listing.rows.items ws)) (sym c.into_rows.ensures.winners)
+    let found = c.of.result in
+    subst (λ (rs : List Row). IfSome meaning (λ known. AreRows (g.C.Children.children_of known) root rs found.winners)) (sym (ap (λ (l : Listed). l.rows) c.of.ensures.value))
+    (subst (λ (ws : List ℕ). IfSome meaning (λ known. AreRows (g.C.Children.children_of known) root at.listing.rows.items ws)) (sym (ap (λ (l : Listed). l.winners) c.of.ensures.value))
     (stands_end g.C.Children.children_of meaning root at.listing.rows.items at.listing.winners.items at.asked at.invariant.stands past))

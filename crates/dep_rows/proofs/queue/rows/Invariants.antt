@@ -1,5 +1,4 @@
 use Rattle.std.proofs.Common.{◌≡◌, ◌-◌}
-use Rattle.dep_rows.specs.Growing.{HasRequiredApps}
 use Rattle.dep_rows.specs.Rows.{most_rows}
 use Rattle.dep_rows.proofs.Asking.{Stands}
 use Rattle.dep_rows.proofs.queue.rows.Given as goal
@@ -7,7 +6,6 @@ use Rattle.dep_rows.proofs.queue.rows.Given as goal
 abbrev pub invariant-loop-asked : goal.invariant-loop-asked
 invariant-loop-asked g l = record {
   stands : Stands g.C.Children.children_of (g.C.Children.meaning l.fn.children) l.fn.root l.listing.rows.items l.listing.winners.items l.asked;
-  apps : HasRequiredApps l.listing.apps l.listing.rows.items;
   meaning : g.C.Children.meaning l.children ≡ g.C.Children.meaning l.fn.children;
   made_over : g.C.Children.made_over l.children ≡ g.C.Children.made_over l.fn.children;
   standing : g.C.Children.stands l.children;

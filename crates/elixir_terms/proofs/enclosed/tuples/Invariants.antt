@@ -1,5 +1,5 @@
 use Rattle.std.proofs.Common.{◌≡◌, ◌++◌, map, reverse, length}
-use Rattle.elixir_terms.specs.Grammar.{pair_tuple}
+use Rattle.term_print.specs.Grammar.{pair_tuple}
 use Rattle.elixir_terms.proofs.enclosed.tuples.Given as goal
 
 abbrev pub invariant-loop-key : goal.invariant-loop-key

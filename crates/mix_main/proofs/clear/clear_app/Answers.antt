@@ -3,33 +3,33 @@ use Rattle.tree_store.specs.Slot.{emptied_slot}
 use Rattle.tree_store.specs.Slot.Slot.{Here, Out}
 use Rattle.tree_store.specs.declared.key.BuildKey.{BuildKey}
 use Rattle.tree_store.proofs.StoreLemmas.{slot_after_set, lent_and_back}
-use Rattle.mix_main.proofs.StandLemmas.{same_part, none_left, lent_part}
+use Rattle.mix_main.proofs.PartLemmas.{same_part, none_left, lent_part}
 use Rattle.mix_main.proofs.clear.clear_app.Goals as goal
 
 pub give_back-requires : goal.give_back-requires
 give_back-requires g c =
     let key : BuildKey = record { env = c.args.env.now; app = c.args.app.now } in
-    slot_after_set key (g.S.F.Folder.key c.clear-cleared.new.self) Out (g.S.Store.slot c.args.store.now) (g.S.Store.slot c.folder.new.self) c.in_ok-folder.ensures.out (c.clear-cleared.ensures.key ∙ c.in_ok-folder.ensures.key)
+    slot_after_set key (g.S.F.Folder.key c.clear-cleared.new.self) Out (g.S.Store.known c.args.store.now).slot (g.S.Store.known c.folder.new.self).slot c.in_ok-folder.ensures.lends.out (c.clear-cleared.ensures.key ∙ c.in_ok-folder.ensures.key)
 
 pub returns-in-Ok-clause-cleared : goal.returns-in-Ok-clause-cleared
 returns-in-Ok-clause-cleared g c =
     let key : BuildKey = record { env = c.args.env.now; app = c.args.app.now } in
-    lent_and_back key (g.S.F.Folder.key c.clear-cleared.new.self) emptied_slot (g.S.F.Folder.held c.clear-cleared.new.self) (g.S.Store.slot c.args.store.now) (g.S.Store.slot c.folder.new.self) (g.S.Store.slot c.give_back.new.self)
-    c.in_ok-folder.ensures.out (c.clear-cleared.ensures.key ∙ c.in_ok-folder.ensures.key) c.give_back.ensures.back (ap emptied_slot (sym c.in_ok-folder.ensures.folder) ∙ ap Here (sym c.in-Ok.ensures.held))
+    lent_and_back key (g.S.F.Folder.key c.clear-cleared.new.self) emptied_slot (g.S.F.Folder.held c.clear-cleared.new.self) (g.S.Store.known c.args.store.now).slot (g.S.Store.known c.folder.new.self).slot (g.S.Store.known c.give_back.new.self).slot
+    c.in_ok-folder.ensures.lends.out (c.clear-cleared.ensures.key ∙ c.in_ok-folder.ensures.key) c.give_back.ensures.back (ap emptied_slot (sym c.in_ok-folder.ensures.folder) ∙ ap Here (sym c.in-Ok.ensures.held))
 
 pub returns-in_err-folder-clause-part : goal.returns-in_err-folder-clause-part
-returns-in_err-folder-clause-part g c = same_part (g.S.Store.slot c.args.store.now) (g.S.Store.slot c.folder.new.self) c.in_err-folder.ensures.err
+returns-in_err-folder-clause-part g c = same_part (g.S.Store.known c.args.store.now).slot (g.S.Store.known c.folder.new.self).slot c.in_err-folder.ensures.lends.kept
 
 pub returns-in-Ok-clause-part : goal.returns-in-Ok-clause-part
 returns-in-Ok-clause-part g c =
     let key : BuildKey = record { env = c.args.env.now; app = c.args.app.now } in
-    lent_part key (g.S.F.Folder.key c.clear-cleared.new.self) (g.S.F.Folder.held c.in_ok-folder.folder) (g.S.F.Folder.held c.clear-cleared.new.self) (g.S.Store.slot c.args.store.now) (g.S.Store.slot c.folder.new.self) (g.S.Store.slot c.give_back.new.self)
-    c.in_ok-folder.ensures.out (c.clear-cleared.ensures.key ∙ c.in_ok-folder.ensures.key) c.give_back.ensures.back c.in_ok-folder.ensures.folder
+    lent_part key (g.S.F.Folder.key c.clear-cleared.new.self) (g.S.F.Folder.held c.in_ok-folder.folder) (g.S.F.Folder.held c.clear-cleared.new.self) (g.S.Store.known c.args.store.now).slot (g.S.Store.known c.folder.new.self).slot (g.S.Store.known c.give_back.new.self).slot
+    c.in_ok-folder.ensures.lends.out (c.clear-cleared.ensures.key ∙ c.in_ok-folder.ensures.key) c.give_back.ensures.back c.in_ok-folder.ensures.folder
     (none_left (g.S.F.Folder.held c.in_ok-folder.folder) (g.S.F.Folder.held c.clear-cleared.new.self) c.in-Ok.ensures.held)
 
 pub returns-in-Err-clause-part : goal.returns-in-Err-clause-part
 returns-in-Err-clause-part g c =
     let key : BuildKey = record { env = c.args.env.now; app = c.args.app.now } in
-    lent_part key (g.S.F.Folder.key c.clear-cleared.new.self) (g.S.F.Folder.held c.in_ok-folder.folder) (g.S.F.Folder.held c.clear-cleared.new.self) (g.S.Store.slot c.args.store.now) (g.S.Store.slot c.folder.new.self) (g.S.Store.slot c.give_back.new.self)
-    c.in_ok-folder.ensures.out (c.clear-cleared.ensures.key ∙ c.in_ok-folder.ensures.key) c.give_back.ensures.back c.in_ok-folder.ensures.folder
+    lent_part key (g.S.F.Folder.key c.clear-cleared.new.self) (g.S.F.Folder.held c.in_ok-folder.folder) (g.S.F.Folder.held c.clear-cleared.new.self) (g.S.Store.known c.args.store.now).slot (g.S.Store.known c.folder.new.self).slot (g.S.Store.known c.give_back.new.self).slot
+    c.in_ok-folder.ensures.lends.out (c.clear-cleared.ensures.key ∙ c.in_ok-folder.ensures.key) c.give_back.ensures.back c.in_ok-folder.ensures.folder
     c.in-Err.ensures.partly

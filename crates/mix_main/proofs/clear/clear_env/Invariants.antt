@@ -7,11 +7,11 @@ use Rattle.mix_main.proofs.clear.clear_env.Given as goal
 
 abbrev pub invariant-loop-app : goal.invariant-loop-app
 invariant-loop-app g l = record {
-  rest : (q : BuildKey) → cleared_by l.env (drop l.app-index l.app-items) q (g.S.Store.slot l.store q) ≡ cleared_by l.env l.app-items q (g.S.Store.slot l.fn.store q);
-  part : EachLeavesPart (g.S.Store.slot l.fn.store) (g.S.Store.slot l.store);
-  here : AllHere (g.S.Store.slot l.store);
-  elsewhere : StaysElsewhere l.env (g.S.Store.slot l.fn.store) (g.S.Store.slot l.store);
-  sources : g.S.Store.sources l.store ≡ g.S.Store.sources l.fn.store;
-  faults : g.S.Store.faults l.store ≡ g.S.Store.faults l.fn.store;
-  folder_faults : g.S.Store.folder_faults l.store ≡ g.S.Store.folder_faults l.fn.store;
+  rest : (q : BuildKey) → cleared_by l.env (drop l.app-index l.app-items) q ((g.S.Store.known l.store).slot q) ≡ cleared_by l.env l.app-items q ((g.S.Store.known l.fn.store).slot q);
+  part : EachLeavesPart (g.S.Store.known l.fn.store).slot (g.S.Store.known l.store).slot;
+  here : AllHere (g.S.Store.known l.store).slot;
+  elsewhere : StaysElsewhere l.env (g.S.Store.known l.fn.store).slot (g.S.Store.known l.store).slot;
+  sources : (g.S.Store.known l.store).sources ≡ (g.S.Store.known l.fn.store).sources;
+  faults : (g.S.Store.known l.store).faults ≡ (g.S.Store.known l.fn.store).faults;
+  returned : (g.S.Store.known l.store).returned ≡ (g.S.Store.known l.fn.store).returned;
 }

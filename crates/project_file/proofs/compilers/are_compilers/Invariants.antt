@@ -1,7 +1,7 @@
 use Rattle.std.proofs.Common.{◌≡◌, drop}
 use Rattle.std.specs.List.{list_all}
 use Rattle.project_file.specs.Compilers.{is_compiler}
-use Rattle.elixir_terms.specs.Views.{named}
+use Rattle.term_values.specs.Views.{named}
 use Rattle.project_file.proofs.compilers.are_compilers.Given as goal
 
 abbrev pub invariant-loop-name : goal.invariant-loop-name

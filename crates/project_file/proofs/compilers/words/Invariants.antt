@@ -1,5 +1,5 @@
 use Rattle.std.proofs.Common.{◌≡◌, ◌++◌, drop, option_map}
-use Rattle.elixir_terms.specs.Views.{all_of}
+use Rattle.term_values.specs.Views.{all_of}
 use Rattle.project_file.specs.Entries.{word_of}
 use Rattle.project_file.proofs.compilers.words.Given as goal
 

@@ -1,6 +1,6 @@
 use Rattle.std.proofs.Common.{◌≡◌, drop}
 use Rattle.dep_options.specs.Options.{first_of}
-use Rattle.elixir_terms.specs.Views.{named}
+use Rattle.term_values.specs.Views.{named}
 use Rattle.project_file.proofs.entries.first.Given as goal
 
 abbrev pub invariant-loop-key : goal.invariant-loop-key

@@ -1,5 +1,5 @@
 use Rattle.std.proofs.Common.{◌≡◌, ◌++◌, drop, option_map}
-use Rattle.elixir_terms.specs.Views.{all_of, named_of, named}
+use Rattle.term_values.specs.Views.{all_of, named_of, named}
 use Rattle.project_file.proofs.entries.pair_entries.Given as goal
 
 abbrev pub invariant-loop-key : goal.invariant-loop-key

@@ -2,7 +2,7 @@ use Rattle.std.proofs.Common.{sym, ◌∙◌, ap, arith, subst}
 use Rattle.std.proofs.lemmas.Result.{err_from_is_err_and}
 use Rattle.unit_lang.specs.declared.progress.Progress.{Progress}
 use Rattle.unit_lang.specs.Tokens.{without_blanks, without_comment}
-use Rattle.unit_lang.proofs.LineLemmas.{Reached, reached_first, empty_is, more_is}
+use Rattle.unit_lang.proofs.Reached.{Reached, reached_first, empty_is, more_is}
 use Rattle.unit_lang.proofs.Outcomes.{lex_fault, stop_fault, reached_advance, finish_outcome}
 use Rattle.unit_lang.proofs.TokenLemmas.{first_shorter}
 use Rattle.unit_lang.proofs.line.said.Goals as goal
@@ -21,7 +21,7 @@ pub loop-rest-preserved : goal.loop-rest-preserved
 loop-rest-preserved c = reached_advance c.args.line.now c.loop-rest.progress c.in_ok-progress.progress c.loop-rest.rest.now c.in-Ok.found.1.now c.skip_blanks-rest-in-loop-rest.result.now c.in-Ok.found.0 c.loop-rest.invariant c.in-Ok.ensures c.in_ok-progress.ensures c.skip_blanks-rest-in-loop-rest.ensures.value
 
 pub returns-in-Err : goal.returns-in-Err
-returns-in-Err c = lex_fault c.args.line.now c.loop-rest.progress.state c.loop-rest.progress.great c.loop-rest.rest.now c.in-Err.cause c.fault.result c.requires.short c.requires.plain c.requires.solid c.loop-rest.invariant (more_is c.loop-rest.rest.now c.is_empty.result c.is_empty.ensures c.loop-rest-test.true) c.in-Err.ensures c.fault.ensures
+returns-in-Err c = lex_fault c.args.line.now c.loop-rest.progress.state c.loop-rest.progress.great c.loop-rest.rest.now c.in-Err.cause c.fault-cause.result c.requires.short c.requires.plain c.requires.solid c.loop-rest.invariant (more_is c.loop-rest.rest.now c.is_empty.result c.is_empty.ensures c.loop-rest-test.true) c.in-Err.ensures c.fault-cause.ensures
 
 pub returns-in_err-progress : goal.returns-in_err-progress
 returns-in_err-progress c =

@@ -1,6 +1,6 @@
 use Rattle.std.proofs.Common.{length}
 use Rattle.unit_lang.specs.Tokens.{without_comment}
-use Rattle.unit_lang.proofs.LineLemmas.{Reached}
+use Rattle.unit_lang.proofs.Reached.{Reached}
 use Rattle.unit_lang.proofs.line.said.Given as goal
 
 -- the tokens so far lead to the state

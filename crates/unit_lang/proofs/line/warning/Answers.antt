@@ -1,6 +1,6 @@
 use Rattle.std.proofs.Common.{refl, inr}
 use Rattle.unit_lang.specs.declared.error.UnitCause.TheVariants.{BadLine}
-use Rattle.unit_lang.proofs.LineLemmas.{more_is}
+use Rattle.unit_lang.proofs.Reached.{more_is}
 use Rattle.unit_lang.proofs.Outcomes.{warning_none}
 use Rattle.unit_lang.proofs.WarnLemmas.{is_warning}
 use Rattle.unit_lang.proofs.line.warning.Goals as goal

@@ -5,22 +5,17 @@ use Rattle.build_plan.proofs.FolderLemmas.{unlocked_here}
 use Rattle.build_plan.proofs.KeptLemmas.{kept_at, kept_fewer}
 use Rattle.build_plan.proofs.manifests.Manifests.take.Goals as goal
 
-pub returns-in_ok-clone-in-Hex-clause-refused : goal.returns-in_ok-clone-in-Hex-clause-refused
-returns-in_ok-clone-in-Hex-clause-refused g c =
+pub returns-in_ok-clone-in-Hex-clause-answer : goal.returns-in_ok-clone-in-Hex-clause-answer
+returns-in_ok-clone-in-Hex-clause-answer g c =
     let same : c.in_ok-clone-in-Hex.field-0 ≡ c.args.app.now = search rules in
-    λ read memory. unlocked_here (g.S.Store.sources c.args.self.now.store.now) c.args.app.now c.in_ok-clone-in-Hex.field-0 c.in-Hex.«package» c.args.winner.now same c.in-Hex.is
+    λ input. unlocked_here (g.S.Store.known c.args.self.now.store.now).sources c.args.app.now c.in_ok-clone-in-Hex.field-0 c.in-Hex.«package» c.args.winner.now same c.in-Hex.is
 
-pub returns-in-Some-clause-at : goal.returns-in-Some-clause-at
-returns-in-Some-clause-at g c =
-    let here = kept_at (g.S.Store.sources c.args.self.now.store.now) c.args.self.now.found.now c.in-Path.dir c.in-Some.found c.requires c.in-Some.ensures.value in
-    c.in-Path.is ∙ ap (λ (d : List ℕ). Path d) (sym here.at)
-
-pub returns-in-Some-clause-found : goal.returns-in-Some-clause-found
-returns-in-Some-clause-found g c =
-    let told = g.S.Store.sources c.args.self.now.store.now in
+pub returns-in-Some-clause-answer : goal.returns-in-Some-clause-answer
+returns-in-Some-clause-answer g c =
+    let told = (g.S.Store.known c.args.self.now.store.now).sources in
     let here = kept_at told c.args.self.now.found.now c.in-Path.dir c.in-Some.found c.requires c.in-Some.ensures.value in
-    subst (λ (d : List ℕ). IsFoundIn told d c.in-Some.found) (sym here.at) here
+    (c.in-Path.is ∙ ap (λ (d : List ℕ). Path d) (sym here.at), subst (λ (d : List ℕ). IsFoundIn told d c.in-Some.found) (sym here.at) here)
 
 pub returns-in-Some-clause-kept : goal.returns-in-Some-clause-kept
 returns-in-Some-clause-kept g c =
-    kept_fewer (g.S.Store.sources c.args.self.now.store.now) c.args.self.now.found.now c.remove.new.self c.in-Path.dir c.requires c.in-Some.ensures.updates
+    kept_fewer (g.S.Store.known c.args.self.now.store.now).sources c.args.self.now.found.now c.remove.new.self c.in-Path.dir c.requires c.in-Some.ensures.updates

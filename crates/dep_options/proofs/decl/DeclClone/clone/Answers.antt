@@ -1,7 +1,7 @@
 use Rattle.std.proofs.Common.{◌≡◌, ℕ, List, rules}
 use Rattle.std.proofs.lemmas.List.Elements.{same_from_all_zip}
 use Rattle.mx_base.specs.declared.variable.Variable.{Variable}
-use Rattle.dep_options.proofs.Copies.{same_option}
+use Rattle.dep_options.proofs.Copies.{same_option, same_source}
 use Rattle.dep_options.proofs.decl.DeclClone.clone.Goals as goal
 
 pub returns : goal.returns
@@ -13,4 +13,4 @@ returns c =
     let env : c.in_ok-clone-5.field-0 ≡ c.args.self.now.env = search rules in
     let compile : c.in_ok-clone-6.field-0 ≡ c.args.self.now.compile = c.in_ok-clone-6.ensures.cases in
     let system_env : c.in_ok-clone-7.field-0 ≡ c.args.self.now.system_env = same_from_all_zip {X = Variable} (λ x y. y ≡ x) c.args.self.now.system_env c.in_ok-clone-7.field-0 c.in_ok-clone-7.ensures.cases (λ x y h. h) in
-    record { cases = search (rules, app, requirement, source, only, env, compile, system_env) }
+    record { cases = rw (app, requirement, only, env, compile, system_env) (same_source c.args.self.now c.in_ok-clone-3.field-0 _ source) }

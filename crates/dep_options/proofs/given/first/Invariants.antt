@@ -1,0 +1,7 @@
+use Rattle.std.proofs.Common.{◌≡◌, drop}
+use Rattle.dep_options.specs.Options.{first_of}
+use Rattle.term_values.specs.Views.{named}
+use Rattle.dep_options.proofs.given.first.Given as goal
+
+abbrev pub invariant-loop-key : goal.invariant-loop-key
+invariant-loop-key l = first_of l.name (named (drop l.key-index l.options)) ≡ first_of l.name (named l.options)

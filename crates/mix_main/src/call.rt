@@ -1,0 +1,141 @@
+// The top call.
+ghost use Rattle.std.specs.Prelude.{◌≡◌, map, string_bytes};
+ghost use Rattle.tree_store.specs.Slot.{AllHere};
+ghost use Rattle.mix_main.specs.Answer.{status_in, text_in};
+ghost use Rattle.mix_main.specs.Compile.{Compiles, MayStand};
+ghost use Rattle.mix_main.specs.Ends.{Comes, Does, Ends, EndsBy, Misread, Says};
+ghost use Rattle.mix_main.specs.Tree.{StaysElsewhere};
+ghost use Rattle.mix_main.specs.Words.{dev};
+ghost use Rattle.mix_main.specs.World.{Keeps, Site, site_of, sunk_of, world_of};
+
+use crate::answer::{Answer, Stop};
+use crate::command::{Command, WordsError, read_words};
+use crate::compile::compile;
+use crate::help::help;
+use crate::report::push_number;
+use crate::status::Status;
+use compile_model::Compiler;
+use mx_base::{AppName, Sink};
+use std::alloc::Global;
+use tree_store::Store;
+
+/// Does what the words of the command line say, in the environment `dev`, and writes what there is to say of it.
+///
+/// The answer is the status of the program. What it tells of the tree, of the sink and of what failed is the relation
+/// `Ends`, a way to end for each of its constructors. After any status the builds of `dev` hold some of the files that
+/// they held, each whole, or each the first output files of its app, of which the last may be cut off (`stands`);
+/// elsewhere nothing changed, nor in the project's files, and each folder is given back.
+pub fn run<S: Store, C: Compiler, K: Sink>(
+    alloc: Global,
+    words: &[String],
+    store: &mut S,
+    compiler: &mut C,
+    out: &mut K,
+) -> Status
+    requires { AllHere (S.known store.old).slot }
+    ensures ends { Ends C.compile_of (map (λ word. string_bytes word) words.now)
+        (world_of (S.known store.old) (C.deaths compiler.old) (K.taken out.old) (K.faults out.old))
+        (world_of (S.known store.new) (C.deaths compiler.new) (K.taken out.new) (K.faults out.new)) result }
+    ensures stands { MayStand C.compile_of dev (S.known store.old) (S.known store.new) }
+    ensures elsewhere { StaysElsewhere dev (S.known store.old).slot (S.known store.new).slot }
+    ensures keeps { Keeps (S.known store.old) (S.known store.new) }
+{
+    let answer = answer(alloc, words, store, compiler);
+    say(out, &answer)
+}
+
+/// Compiles the dependencies of a project one after another from an empty environment, and writes the report.
+pub fn plain_compile<S: Store, C: Compiler, K: Sink>(
+    alloc: Global,
+    env: &AppName,
+    store: &mut S,
+    compiler: &mut C,
+    out: &mut K,
+) -> Status
+    requires { AllHere (S.known store.old).slot }
+    ensures ends { EndsBy (Compiles C.compile_of env.now)
+        (world_of (S.known store.old) (C.deaths compiler.old) (K.taken out.old) (K.faults out.old))
+        (world_of (S.known store.new) (C.deaths compiler.new) (K.taken out.new) (K.faults out.new)) result }
+    ensures stands { MayStand C.compile_of env.now (S.known store.old) (S.known store.new) }
+    ensures elsewhere { StaysElsewhere env.now (S.known store.old).slot (S.known store.new).slot }
+    ensures keeps { Keeps (S.known store.old) (S.known store.new) }
+{
+    let built = compile(alloc, env, store, compiler);
+    say(out, &built)
+}
+
+// What the words come to.
+fn answer<S: Store, C: Compiler>(
+    alloc: Global,
+    words: &[String],
+    store: &mut S,
+    compiler: &mut C,
+) -> Result<Answer, Stop>
+    requires { AllHere (S.known store.old).slot }
+    ensures comes { Comes C.compile_of (map (λ word. string_bytes word) words.now) (site_of (S.known store.old) (C.deaths compiler.old)) (site_of (S.known store.new) (C.deaths compiler.new)) (status_in result) (text_in result) }
+    ensures keeps { Keeps (S.known store.old) (S.known store.new) }
+{
+    match read_words(alloc, words) {
+        Ok(command) => answer_to(alloc, &command, store, compiler),
+        Err(WordsError::Refused { at }) => misread(alloc, at),
+        Err(WordsError::OutOfMemory) => Err(Stop::Memory),
+    }
+}
+
+// What a command comes to.
+fn answer_to<S: Store, C: Compiler>(
+    alloc: Global,
+    command: &Command,
+    store: &mut S,
+    compiler: &mut C,
+) -> Result<Answer, Stop>
+    requires { AllHere (S.known store.old).slot }
+    ensures does { Does C.compile_of command.now (site_of (S.known store.old) (C.deaths compiler.old)) (site_of (S.known store.new) (C.deaths compiler.new)) (status_in result) (text_in result) }
+    ensures keeps { Keeps (S.known store.old) (S.known store.new) }
+{
+    match command {
+        Command::Help => help(alloc),
+        Command::Compile { env } => compile(alloc, env, store, compiler),
+    }
+}
+
+// The place of the first word that fits no command.
+fn misread(alloc: Global, at: u64) -> Result<Answer, Stop>
+    ensures { (site : Site) → Misread at site site (status_in result) (text_in result) }
+{
+    let mut text = Vec::from_slice(alloc, b"mixc: bad words at ")?;
+    push_number(alloc, &mut text, at)?;
+    text.extend_from_slice(b"\n")?;
+    Ok(Answer {
+        status: Status::BadWords,
+        text,
+    })
+}
+
+// Writes the text of an answer, with which its status goes.
+fn say<K: Sink>(out: &mut K, answer: &Result<Answer, Stop>) -> Status
+    ensures { Says (status_in answer.now) (text_in answer.now) (sunk_of (K.taken out.old) (K.faults out.old)) (sunk_of (K.taken out.new) (K.faults out.new)) result }
+{
+    match out.write(text_in(answer)) {
+        Ok(()) => status_in(answer),
+        Err(_) => Status::WriteFault,
+    }
+}
+
+fn status_in(answer: &Result<Answer, Stop>) -> Status
+    ensures { result ≡ status_in answer.now }
+{
+    match answer {
+        Ok(answer) => answer.status,
+        Err(stop) => stop.status(),
+    }
+}
+
+fn text_in(answer: &Result<Answer, Stop>) -> &[u8]
+    ensures { result.now ≡ text_in answer.now }
+{
+    match answer {
+        Ok(answer) => &answer.text,
+        Err(stop) => stop.line(),
+    }
+}

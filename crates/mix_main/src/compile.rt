@@ -1,0 +1,72 @@
+// The command `deps.compile`.
+ghost use Rattle.std.specs.Prelude.{◌≡◌, length};
+ghost use Rattle.compile_model.specs.Planned.{ArePlanned};
+ghost use Rattle.tree_store.specs.Slot.{AllHere};
+ghost use Rattle.mix_main.specs.Answer.{status_in, text_in};
+ghost use Rattle.mix_main.specs.Compile.{Builds, Compiles, Stands, status_by};
+ghost use Rattle.mix_main.specs.Tree.{StaysElsewhere};
+ghost use Rattle.mix_main.specs.World.{Keeps, site_of};
+
+use crate::answer::{Answer, Stop};
+use crate::clear::clear_env;
+use crate::fill::fill_env;
+use crate::refusal::refuse;
+use crate::report::{any_failed, report_of};
+use crate::status::Status;
+use build_plan::plan;
+use compile_model::{Compiler, Fate, Plan, seq_build};
+use mx_base::AppName;
+use std::alloc::Global;
+use tree_store::Store;
+
+/// Builds the plan of the project from an empty environment.
+pub(crate) fn compile<S: Store, C: Compiler>(
+    alloc: Global,
+    env: &AppName,
+    store: &mut S,
+    compiler: &mut C,
+) -> Result<Answer, Stop>
+    requires { AllHere (S.known store.old).slot }
+    ensures ends { Compiles C.compile_of env.now (site_of (S.known store.old) (C.deaths compiler.old)) (site_of (S.known store.new) (C.deaths compiler.new)) (status_in result) (text_in result) }
+    ensures keeps { Keeps (S.known store.old) (S.known store.new) }
+{
+    match plan(alloc, store, env) {
+        Ok(plan) => build(alloc, env, &plan, store, compiler),
+        Err(error) => refuse(alloc, &error),
+    }
+}
+
+// Builds the jobs of a plan.
+fn build<S: Store, C: Compiler>(
+    alloc: Global,
+    env: &AppName,
+    plan: &Plan,
+    store: &mut S,
+    compiler: &mut C,
+) -> Result<Answer, Stop>
+    requires here { AllHere (S.known store.old).slot }
+    requires planned { ArePlanned plan.now.jobs }
+    ensures ends { Builds C.compile_of env.now plan.now.jobs (site_of (S.known store.old) (C.deaths compiler.old)) (site_of (S.known store.new) (C.deaths compiler.new)) (status_in result) (text_in result) }
+    ensures stands { Stands C.compile_of env.now plan.now.jobs (S.known store.old).slot (S.known store.new).slot }
+    ensures elsewhere { StaysElsewhere env.now (S.known store.old).slot (S.known store.new).slot }
+    ensures keeps { Keeps (S.known store.old) (S.known store.new) }
+{
+    clear_env(alloc, env, store)?;
+    let fates = seq_build(alloc, plan, compiler)?;
+    fill_env(alloc, env, plan.jobs.as_slice(), &fates, store)?;
+    let text = report_of(alloc, plan.jobs.as_slice(), &fates)?;
+    Ok(Answer {
+        status: status_by(&fates),
+        text,
+    })
+}
+
+fn status_by(fates: &[Fate]) -> Status
+    ensures { result ≡ status_by fates.now }
+{
+    if any_failed(fates) {
+        Status::SomeFailed
+    } else {
+        Status::Done
+    }
+}

@@ -1,0 +1,4 @@
+pub mod Shows
+pub mod PrintedBytes
+pub mod PrintedTokens
+pub mod PrintedTerms

@@ -1,0 +1,4 @@
+pub mod Grammar
+pub mod Spells
+pub mod Printed
+pub mod Printable

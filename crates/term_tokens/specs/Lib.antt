@@ -1,0 +1,9 @@
+pub mod Names
+pub mod Strings
+pub mod Numbers
+pub mod Words
+pub mod Tokens
+pub mod Refused
+pub mod Lexing
+pub mod Local
+pub mod Lexed

@@ -1,0 +1,8 @@
+use Rattle.version_req.proofs.Answered.{one_place}
+use Rattle.version_req.proofs.requirement.one_refusal.Goals as goal
+
+pub returns-clause-places : goal.returns-clause-places
+returns-clause-places c = one_place
+
+pub returns-clause-apart : goal.returns-clause-apart
+returns-clause-apart c = λ text at requirement r spells. r.nothing requirement spells
