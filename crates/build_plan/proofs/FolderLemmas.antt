@@ -5,7 +5,6 @@ use Rattle.std.proofs.lemmas.List.{nil_from_length}
 use Rattle.std.specs.Str.{is_utf8, chars}
 use lib.Utf8.{encode}
 use Rattle.semver.proofs.OnLiterals.{semver_on_literals}
-use Rattle.term_values.specs.declared.term.Term.{Term}
 use Rattle.mx_base.specs.Blame.Blame.{Input}
 use Rattle.mx_base.specs.declared.file.File.{File}
 use Rattle.mx_base.specs.Order.{bytes_at}
@@ -13,16 +12,12 @@ use Rattle.tree_store.specs.Files.{paths_below, is_in_build}
 use Rattle.dep_options.specs.declared.decl.Decl.{Decl}
 use Rattle.dep_options.specs.declared.decl.DepSource.TheVariants.{Hex, Path}
 use Rattle.converger.specs.Reach.{admits}
-use Rattle.term_values.specs.Views.{string_of, Named}
-use Rattle.dep_options.specs.Options.{first_of}
 use Rattle.project_file.specs.declared.project.Project.{Project}
 use Rattle.project_file.specs.declared.error.ProjectError.{ProjectError}
 use Rattle.project_file.specs.declared.error.ProjectError.TheVariants as project
 use Rattle.project_file.specs.Blame.{project_blame}
 use Rattle.project_file.specs.Files.{IsLoaded, IsManifest, manifest_at}
-use Rattle.project_file.specs.Files.IsManifest.{read}
-use Rattle.project_file.specs.Manifest.{Stated, entries_of, stated, stated_by, if_version, is_version, version_of, IsProject}
-use Rattle.project_file.specs.Manifest.IsProject.{bare, whole}
+use Rattle.project_file.specs.Version.{is_version}
 use Rattle.build_plan.specs.declared.found.Found.{Found}
 use Rattle.build_plan.specs.declared.error.PlanError.{PlanError}
 use Rattle.build_plan.specs.declared.error.PlanError.TheVariants as plan
@@ -32,43 +27,9 @@ use Rattle.build_plan.specs.Dependencies.{AreChildren, declared_by, has_files, i
 use Rattle.build_plan.specs.Dependencies.AreChildren.{unlocked, missing, refused, declared}
 use Rattle.build_plan.specs.Found.{IsFound}
 
-version_if : (text version : List ℕ) → if_version text ≡ Some version → is_version version ≡ true
-version_if text version = at (is_version text) refl
-  where
-    at : (b : Bool) → is_version text ≡ b → cond b (Some text) None ≡ Some version → is_version version ≡ true
-    at true good is = let same : text ≡ version = cc in subst (λ (v : List ℕ). is_version v ≡ true) same good
-    at false bad is = let clash : ◌≡◌ {A = Option (List ℕ)} None (Some version) = is in cc
-
-version_string : (text : Option (List ℕ)) (version : List ℕ) → option_and_then if_version text ≡ Some version → is_version version ≡ true
-version_string None version is = let clash : ◌≡◌ {A = Option (List ℕ)} None (Some version) = is in cc
-version_string (Some text) version is = version_if text version is
-
-version_term : (term : Option Term) (version : List ℕ) → option_and_then version_of term ≡ Some version → is_version version ≡ true
-version_term None version is = let clash : ◌≡◌ {A = Option (List ℕ)} None (Some version) = is in cc
-version_term (Some term) version is = version_string (string_of term) version is
-
-stated_version : (app version : Option (List ℕ)) (deps : Option (Option Term)) (s : Stated) → stated app version deps ≡ Some s → version ≡ Some s.version
-stated_version None version deps s is = let clash : ◌≡◌ {A = Option Stated} None (Some s) = is in cc
-stated_version (Some app) None deps s is = let clash : ◌≡◌ {A = Option Stated} None (Some s) = is in cc
-stated_version (Some app) (Some version) None s is = let clash : ◌≡◌ {A = Option Stated} None (Some s) = is in cc
-stated_version (Some app) (Some version) (Some deps) s is =
-    let whole : ◌≡◌ {A = Option Stated} (Some (record { app = app; version = version; deps = deps })) (Some s) = is in
-    let same : record { app = app; version = version; deps = deps } ≡ s = cc in
-    ap (λ (x : Stated). Some x.version) same
-
-entries_version : (entries : Option (List Named)) (s : Stated) → option_and_then stated_by entries ≡ Some s → is_version s.version ≡ true
-entries_version None s is = let clash : ◌≡◌ {A = Option Stated} None (Some s) = is in cc
-entries_version (Some entries) s is =
-    version_term (first_of (codes "version") entries) s.version (stated_version _ (option_and_then version_of (first_of (codes "version") entries)) _ s is)
-
--- a manifest that is read has a version
-project_version : {dir : List ℕ} {t : Term} {p : Project} → IsProject dir t (Ok p) → IsTrue (is_version p.version)
-project_version {t = t} (bare s is none) = entries_version (entries_of t) s is
-project_version {t = t} (whole s deps is some are) = entries_version (entries_of t) s is
-
--- the same of its text
+-- the version of a manifest that is read is one
 pub manifest_version : {dir text : List ℕ} {p : Project} → IsManifest dir text (Ok p) → IsTrue (is_version p.version)
-manifest_version (read t spelled says) = project_version says
+manifest_version {p = p} says = p.versioned
 
 both_hold : (a b : Bool) → (not a && not b) ≡ true → b ≡ false
 both_hold true b is = cc

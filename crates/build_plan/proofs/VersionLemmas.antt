@@ -4,7 +4,7 @@ use Rattle.std.specs.Prelude.{IsSome}
 use Rattle.std.specs.List.{All, AllZip}
 use Rattle.std.specs.Str.{is_utf8, IsUtf8}
 use Rattle.std.proofs.lemmas.List.{take_all, take_more}
-use Rattle.project_file.specs.Manifest.{is_version}
+use Rattle.project_file.specs.Version.{is_version}
 use Rattle.project_file.proofs.VersionLemmas.{no_text}
 use Rattle.std.proofs.lemmas.List.Elements.{All-nil, All-cons, All-head, All-tail}
 use Rattle.semver.specs.Identifiers.{parts_of}

@@ -8,7 +8,7 @@ use Rattle.dep_options.specs.declared.decl.DepSource.TheVariants.{Path}
 use Rattle.dep_rows.specs.declared.row.Row.{Row}
 use Rattle.dep_rows.specs.Listed.{Listed, IsWithinLimit}
 use Rattle.project_file.specs.Files.{IsLoaded, manifest_at}
-use Rattle.project_file.specs.Manifest.{is_version}
+use Rattle.project_file.specs.Version.{is_version}
 use Rattle.build_plan.specs.declared.found.Found.{Found}
 use Rattle.build_plan.specs.Dependencies.{is_apart, version_by}
 use Rattle.build_plan.specs.Sources.{sources_of, bytes_in}

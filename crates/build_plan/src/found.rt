@@ -8,7 +8,7 @@ ghost use Rattle.tree_store.specs.Known.{OnlyReads};
 ghost use Rattle.converger.specs.Reach.{admits};
 ghost use Rattle.project_file.specs.Blame.{project_blame};
 ghost use Rattle.project_file.specs.Files.{IsLoaded, manifest_at};
-ghost use Rattle.project_file.specs.Manifest.{is_version};
+ghost use Rattle.project_file.specs.Version.{is_version};
 ghost use Rattle.build_plan.specs.Blame.{blame_of};
 ghost use Rattle.build_plan.specs.Dependencies.{declared_by, is_apart, version_by};
 ghost use Rattle.build_plan.specs.Kept.{ArePathsIn, FindsIn};

@@ -4,7 +4,7 @@ ghost use Rattle.std.specs.List.{All, AllZip};
 ghost use Rattle.semver.specs.Identifiers.{parts_of};
 ghost use Rattle.semver.specs.Parse.{version_parts};
 ghost use Rattle.mx_base.specs.declared.file.File.{File};
-ghost use Rattle.project_file.specs.Manifest.{is_version};
+ghost use Rattle.project_file.specs.Version.{is_version};
 ghost use Rattle.dep_rows.specs.declared.row.Row.{Row};
 ghost use Rattle.build_plan.specs.Dependencies.{AreVersions, version_by};
 ghost use Rattle.build_plan.specs.Found.{IsFound, IsFoundAt, IsSound};

@@ -20,7 +20,7 @@ use std::alloc::{AllocError, Global};
 pub type Versions = ListOf<Option<Version>>;
 
 /// Rows that live together, with a version of each winner.
-#[derive(Debug, Drop)]
+#[derive(Drop)]
 pub struct Converged {
     rows: Rows,
     versions: Versions,
@@ -43,7 +43,7 @@ impl Converged {
 }
 
 /// Why rows can't live together.
-#[derive(Debug, Drop)]
+#[derive(Drop)]
 pub enum ConvergeError {
     /// Some declarations can't live together with the winners of their apps.
     Diverged(Divergences),

@@ -3,7 +3,7 @@
 use mx_base::ListOf;
 
 /// By what rule two declarations of an app can't live together.
-#[derive(Clone, Copy, Debug, PartialEq, Eq, Drop)]
+#[derive(Clone, Copy, PartialEq, Eq, Drop)]
 pub enum Rule {
     /// They have two sources.
     V1,
@@ -16,7 +16,7 @@ pub enum Rule {
 }
 
 /// A row that can't live together with the winner of its app. Both are places in the list of rows.
-#[derive(Clone, Copy, Debug, PartialEq, Eq, Drop)]
+#[derive(Clone, Copy, PartialEq, Eq, Drop)]
 pub struct Divergence {
     pub rule: Rule,
     pub winner: u32,

@@ -3,7 +3,7 @@
 use std::alloc::AllocError;
 
 /// Why there are no rows.
-#[derive(Debug, Drop)]
+#[derive(Drop)]
 pub enum RowsError<F> {
     /// The children of a winner aren't known.
     Children(F),

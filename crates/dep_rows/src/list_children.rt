@@ -12,7 +12,7 @@ use mx_base::{AppName, Faults, ListOf};
 use std::alloc::{AllocError, Global};
 
 /// What an app declares, or a reason why that isn't known.
-#[derive(Debug, Drop)]
+#[derive(Drop)]
 pub struct ListAnswer {
     pub app: AppName,
     pub children: Result<ListOf<Decl>, u32>,
@@ -22,7 +22,7 @@ pub struct ListAnswer {
 pub type ListAnswers = ListOf<ListAnswer>;
 
 /// Why a call has no answer.
-#[derive(Clone, Copy, Debug, PartialEq, Eq)]
+#[derive(Clone, Copy, PartialEq, Eq)]
 pub enum ListFault {
     /// The list has this reason in place of children.
     Refused(u32),
@@ -44,7 +44,7 @@ impl From<AllocError> for ListFault {
 
 /// Answers by the first entry for the app, and no children where there is none. The plan says
 /// which calls fail.
-#[derive(Debug, Drop)]
+#[derive(Drop)]
 pub struct ListChildren<P> {
     answers: ListAnswers,
     plan: P,

@@ -10,7 +10,7 @@ pub type Places = ListOf<u32>;
 pub type RowList = ListOf<Row>;
 
 /// A declaration, and where it stands.
-#[derive(Clone, Debug, Drop)]
+#[derive(Clone, Drop)]
 pub struct Row {
     pub app: AppName,
     /// The place of the row whose child it is, and none for the root's.
