@@ -6,7 +6,13 @@ use unit_lang::UnitCause;
 
 pub(crate) fn term_cause(cause: TermCause) -> &'static str {
     match cause {
-        TermCause::Unsupported(feature) => unsupported(feature),
+        TermCause::Unsupported(Feature::Charlist) => "Unsupported(Charlist)",
+        TermCause::Unsupported(Feature::Sigil) => "Unsupported(Sigil)",
+        TermCause::Unsupported(Feature::Heredoc) => "Unsupported(Heredoc)",
+        TermCause::Unsupported(Feature::Interpolation) => "Unsupported(Interpolation)",
+        TermCause::Unsupported(Feature::Float) => "Unsupported(Float)",
+        TermCause::Unsupported(Feature::Alias) => "Unsupported(Alias)",
+        TermCause::Unsupported(Feature::Bits) => "Unsupported(Bits)",
         TermCause::BadEscape => "BadEscape",
         TermCause::BadUtf8 => "BadUtf8",
         TermCause::NumberTooBig => "NumberTooBig",
@@ -17,18 +23,6 @@ pub(crate) fn term_cause(cause: TermCause) -> &'static str {
         TermCause::Unexpected => "Unexpected",
         TermCause::TooLong => "TooLong",
         TermCause::OutOfMemory => "OutOfMemory",
-    }
-}
-
-fn unsupported(feature: Feature) -> &'static str {
-    match feature {
-        Feature::Charlist => "Unsupported(Charlist)",
-        Feature::Sigil => "Unsupported(Sigil)",
-        Feature::Heredoc => "Unsupported(Heredoc)",
-        Feature::Interpolation => "Unsupported(Interpolation)",
-        Feature::Float => "Unsupported(Float)",
-        Feature::Alias => "Unsupported(Alias)",
-        Feature::Bits => "Unsupported(Bits)",
     }
 }
 

@@ -2,15 +2,15 @@
 
 use crate::fields::Fault;
 use crate::manifests::manager_name;
-use crate::shown::{push_after, refused_whole, say};
+use crate::shown::{push_after, say};
 use crate::stores::{contents_of, store_of};
 use crate::terms::refused_term;
 use compile_model::How;
 use compiler_drive::command;
 use dep_options::{CompileBy, Manager};
 use mx_base::Text;
-use project_file::{Settings, SettingsError, load_settings, manager_by_files};
-use std::alloc::{AllocError, Global};
+use project_file::{SettingsError, load_settings, manager_by_files};
+use std::alloc::Global;
 
 /// The calls of the store that fail, and files: by what each manager compiles.
 pub(crate) fn settings_case(
@@ -22,28 +22,24 @@ pub(crate) fn settings_case(
         return Err(Fault::Form);
     };
     let mut store = store_of(alloc, calls.as_slice(), b"", files)?;
-    match load_settings(alloc, &mut store) {
-        Ok(settings) => push_settings(alloc, out, &settings),
-        Err(error) => refused_settings(out, &error),
-    }
-}
-
-fn push_settings(alloc: Global, out: &mut String, settings: &Settings) -> Result<(), Fault> {
+    let settings = match load_settings(alloc, &mut store) {
+        Ok(settings) => settings,
+        Err(error) => return refused_settings(out, &error),
+    };
     say(out, "ok mix")?;
     push_how(alloc, out, &settings.mix)?;
     say(out, "; rebar3")?;
     push_how(alloc, out, &settings.rebar3)?;
     say(out, "; make")?;
-    push_how(alloc, out, &settings.make)?;
-    Ok(())
+    push_how(alloc, out, &settings.make)
 }
 
-fn push_how(alloc: Global, out: &mut String, how: &How) -> Result<(), AllocError> {
+fn push_how(alloc: Global, out: &mut String, how: &How) -> Result<(), Fault> {
     match how {
-        How::Nothing => out.push_str(" nothing"),
-        How::Unit => out.push_str(" unit"),
+        How::Nothing => say(out, " nothing"),
+        How::Unit => say(out, " unit"),
         How::Program(words) => {
-            out.push_str(" program")?;
+            say(out, " program")?;
             for word in words.as_slice() {
                 push_after(alloc, out, " ", word.as_slice())?;
             }
@@ -54,9 +50,9 @@ fn push_how(alloc: Global, out: &mut String, how: &How) -> Result<(), AllocError
 
 pub(crate) fn refused_settings(out: &mut String, error: &SettingsError) -> Result<(), Fault> {
     match error {
-        SettingsError::Read => refused_whole(out, "Read"),
+        SettingsError::Read => say(out, "refused - Read"),
         SettingsError::Term(error) => refused_term(out, *error),
-        SettingsError::Shape => refused_whole(out, "Shape"),
+        SettingsError::Shape => say(out, "refused - Shape"),
         SettingsError::OutOfMemory => Err(Fault::Memory),
     }
 }
@@ -88,8 +84,7 @@ pub(crate) fn command_case(
     let compile = compile_by(alloc, by.as_slice())?;
     let how = command(alloc, &settings, manager(name.as_slice())?, &compile)?;
     say(out, "ok")?;
-    push_how(alloc, out, &how)?;
-    Ok(())
+    push_how(alloc, out, &how)
 }
 
 fn manager(name: &[u8]) -> Result<Manager, Fault> {

@@ -1,5 +1,6 @@
 // The texts of a case.
 
+use hex::FromHexError;
 use std::alloc::{AllocError, AllocFailed, Global};
 use std::str;
 
@@ -20,6 +21,15 @@ impl From<AllocError> for Fault {
 impl<T: Drop> From<AllocFailed<T>> for Fault {
     fn from(_: AllocFailed<T>) -> Fault {
         Fault::Memory
+    }
+}
+
+impl From<FromHexError> for Fault {
+    fn from(error: FromHexError) -> Fault {
+        match error {
+            FromHexError::OutOfMemory => Fault::Memory,
+            _ => Fault::Form,
+        }
     }
 }
 
@@ -45,39 +55,19 @@ fn text_of(alloc: Global, field: &str) -> Result<Vec<u8>, Fault> {
 
 /// Adds a piece: digits; `N*` before them for so many times the text; `N#` for the numbers below N, each before the text.
 fn push_piece(alloc: Global, text: &mut Vec<u8>, piece: &str) -> Result<(), Fault> {
-    if let Some((count, digits)) = piece.split_once('*') {
-        return push_times(alloc, text, number_of(count)?, digits);
-    }
-    if let Some((count, digits)) = piece.split_once('#') {
-        return push_numbered(alloc, text, number_of(count)?, digits);
-    }
-    push_times(alloc, text, 1, piece)
-}
-
-fn push_times(alloc: Global, text: &mut Vec<u8>, count: u32, digits: &str) -> Result<(), Fault> {
-    let bytes = bytes_of(alloc, digits)?;
-    for _ in 0..count {
-        text.extend_from_slice(bytes.as_slice())?;
-    }
-    Ok(())
-}
-
-fn push_numbered(alloc: Global, text: &mut Vec<u8>, count: u32, digits: &str) -> Result<(), Fault> {
-    let bytes = bytes_of(alloc, digits)?;
+    let (times, digits) = piece.split_once('*').unwrap_or(("1", piece));
+    let (numbers, digits) = digits.split_once('#').unwrap_or(("", digits));
+    let is_numbered = !numbers.is_empty();
+    let count = number_of(if is_numbered { numbers } else { times })?;
+    let bytes = hex::decode(alloc, digits)?;
     for number in 0..count {
-        let number = format!(in alloc; "{number}")?;
-        text.extend_from_slice(number.as_bytes())?;
+        if is_numbered {
+            let number = format!(in alloc; "{number}")?;
+            text.extend_from_slice(number.as_bytes())?;
+        }
         text.extend_from_slice(bytes.as_slice())?;
     }
     Ok(())
-}
-
-fn bytes_of(alloc: Global, digits: &str) -> Result<Vec<u8>, Fault> {
-    match hex::decode(alloc, digits) {
-        Ok(bytes) => Ok(bytes),
-        Err(hex::FromHexError::OutOfMemory) => Err(Fault::Memory),
-        Err(_) => Err(Fault::Form),
-    }
 }
 
 /// A number that is written in decimal digits.

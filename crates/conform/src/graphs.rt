@@ -81,17 +81,13 @@ fn needs_of(alloc: Global, row: &str, place: usize, count: usize) -> Result<Plac
 {
     let mut needs = Places::new(alloc);
     for word in row.split(',') {
-        let need = need_of(word, place);
+        let need = match word.strip_prefix('+') {
+            Some(step) => place.saturating_add(step.parse::<usize>().unwrap_or(usize::MAX)),
+            None => word.parse::<usize>().unwrap_or(usize::MAX),
+        };
         if need < count {
             needs.push(need)?;
         }
     }
     Ok(needs)
-}
-
-fn need_of(word: &str, place: usize) -> usize {
-    match word.strip_prefix('+') {
-        Some(step) => place.saturating_add(step.parse::<usize>().unwrap_or(usize::MAX)),
-        None => word.parse::<usize>().unwrap_or(usize::MAX),
-    }
 }

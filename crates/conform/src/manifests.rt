@@ -2,14 +2,14 @@
 ghost use Rattle.std.specs.Prelude.{IsFalse};
 
 use crate::fields::Fault;
-use crate::shown::{push_after, refused, refused_whole, say};
+use crate::shown::{push_after, refused, say};
 use crate::stores::store_of;
 use crate::terms::{folder, refused_term};
 use dep_options::{CompileBy, Decl, DepSource, Manager, OptionCause, OptionError, decls};
 use elixir_terms::read;
 use mx_base::Text;
 use project_file::{Project, ProjectError, load_project, project_of_text};
-use std::alloc::{AllocError, Global};
+use std::alloc::Global;
 use tree_store::is_in_build;
 
 /// A folder and a text: what its term declares there.
@@ -39,75 +39,60 @@ fn push_decls(alloc: Global, out: &mut String, decls: &[Decl]) -> Result<(), Fau
 }
 
 /// A declaration, with what isn't the default.
-fn push_decl(alloc: Global, out: &mut String, decl: &Decl) -> Result<(), AllocError> {
-    out.push_str(" ")?;
-    out.push_str(decl.app.as_str())?;
-    push_source(out, &decl.source)?;
-    if decl.requirement.is_some() {
-        out.push_str(" required")?;
+fn push_decl(alloc: Global, out: &mut String, decl: &Decl) -> Result<(), Fault> {
+    say(out, " ")?;
+    say(out, decl.app.as_str())?;
+    match &decl.source {
+        DepSource::Hex { package } => {
+            say(out, " hex ")?;
+            say(out, package.as_str())?;
+        }
+        DepSource::Path { dir } => {
+            say(out, " path ")?;
+            say(out, dir.as_str())?;
+        }
     }
-    push_environments(out, decl)?;
-    push_flags(out, decl)?;
-    push_compile(alloc, out, &decl.compile)?;
-    push_manager(out, decl.manager)?;
+    say(
+        out,
+        if decl.requirement.is_some() {
+            " required"
+        } else {
+            ""
+        },
+    )?;
+    if let Some(names) = &decl.only {
+        say(out, " only")?;
+        for name in names.as_slice() {
+            say(out, " ")?;
+            say(out, name.as_str())?;
+        }
+    }
+    if decl.env.as_str() != "prod" {
+        say(out, " env ")?;
+        say(out, decl.env.as_str())?;
+    }
+    push_options(alloc, out, decl)
+}
+
+fn push_options(alloc: Global, out: &mut String, decl: &Decl) -> Result<(), Fault> {
+    say(out, if decl.optional { " optional" } else { "" })?;
+    say(out, if decl.override_ { " override" } else { "" })?;
+    say(out, if decl.runtime { "" } else { " without runtime" })?;
+    say(out, if decl.app_file { "" } else { " without app" })?;
+    match &decl.compile {
+        CompileBy::Manager => {}
+        CompileBy::Command(command) => push_after(alloc, out, " by ", command.as_slice())?,
+        CompileBy::Nothing => say(out, " not compiled")?,
+    }
+    if let Some(manager) = decl.manager {
+        say(out, " ")?;
+        say(out, manager_name(manager))?;
+    }
     for variable in decl.system_env.as_slice() {
         push_after(alloc, out, " ", variable.name.as_slice())?;
         push_after(alloc, out, "=", variable.value.as_slice())?;
     }
-    out.push_str(";")
-}
-
-fn push_source(out: &mut String, source: &DepSource) -> Result<(), AllocError> {
-    match source {
-        DepSource::Hex { package } => {
-            out.push_str(" hex ")?;
-            out.push_str(package.as_str())
-        }
-        DepSource::Path { dir } => {
-            out.push_str(" path ")?;
-            out.push_str(dir.as_str())
-        }
-    }
-}
-
-fn push_environments(out: &mut String, decl: &Decl) -> Result<(), AllocError> {
-    if let Some(names) = &decl.only {
-        out.push_str(" only")?;
-        for name in names.as_slice() {
-            out.push_str(" ")?;
-            out.push_str(name.as_str())?;
-        }
-    }
-    if decl.env.as_str() != "prod" {
-        out.push_str(" env ")?;
-        out.push_str(decl.env.as_str())?;
-    }
-    Ok(())
-}
-
-fn push_flags(out: &mut String, decl: &Decl) -> Result<(), AllocError> {
-    out.push_str(if decl.optional { " optional" } else { "" })?;
-    out.push_str(if decl.override_ { " override" } else { "" })?;
-    out.push_str(if decl.runtime { "" } else { " without runtime" })?;
-    out.push_str(if decl.app_file { "" } else { " without app" })
-}
-
-fn push_compile(alloc: Global, out: &mut String, compile: &CompileBy) -> Result<(), AllocError> {
-    match compile {
-        CompileBy::Manager => Ok(()),
-        CompileBy::Command(command) => push_after(alloc, out, " by ", command.as_slice()),
-        CompileBy::Nothing => out.push_str(" not compiled"),
-    }
-}
-
-fn push_manager(out: &mut String, manager: Option<Manager>) -> Result<(), AllocError> {
-    match manager {
-        None => Ok(()),
-        Some(manager) => {
-            out.push_str(" ")?;
-            out.push_str(manager_name(manager))
-        }
-    }
+    say(out, ";")
 }
 
 pub(crate) fn manager_name(manager: Manager) -> &'static str {
@@ -147,8 +132,7 @@ fn refused_option(
     name: &Text,
 ) -> Result<(), Fault> {
     refused(out, error.index, cause)?;
-    push_after(alloc, out, " ", name.as_slice())?;
-    Ok(())
+    push_after(alloc, out, " ", name.as_slice())
 }
 
 /// A text: the project that it is as the manifest of the root.
@@ -202,9 +186,9 @@ pub(crate) fn refused_project(
     error: &ProjectError,
 ) -> Result<(), Fault> {
     match error {
-        ProjectError::Read => refused_whole(out, "Read"),
+        ProjectError::Read => say(out, "refused - Read"),
         ProjectError::Term(error) => refused_term(out, *error),
-        ProjectError::Shape => refused_whole(out, "Shape"),
+        ProjectError::Shape => say(out, "refused - Shape"),
         ProjectError::Options(error) => refused_decls(alloc, out, error),
         ProjectError::OutOfMemory => Err(Fault::Memory),
     }

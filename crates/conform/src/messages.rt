@@ -4,7 +4,7 @@ ghost use Rattle.hex_messages.specs.Canonical.{IfThere, IsShort, IsText, IsWrita
 
 use crate::causes::wire_cause;
 use crate::fields::Fault;
-use crate::shown::{ok_text, refused};
+use crate::shown::{push_after, refused};
 use hex_messages::{
     Dependencies, Dependency, Package, Reason, Release, Releases, Retired, WireError, read_package,
     write_package,
@@ -45,7 +45,7 @@ fn written(alloc: Global, out: &mut String, package: &Package) -> Result<(), Fau
         return Err(Fault::Form);
     }
     let bytes = write_package(alloc, package)?;
-    ok_text(alloc, out, bytes.as_slice())
+    push_after(alloc, out, "ok ", bytes.as_slice())
 }
 
 /// A package's name and repository, of its one release the version, the inner checksum, the outer one, the number of
@@ -70,7 +70,10 @@ pub(crate) fn write_case(alloc: Global, out: &mut String, texts: &[Vec<u8>]) -> 
         inner_checksum: Bytes::from_slice(alloc, inner.as_slice())?,
         dependencies: dependencies(alloc, rest)?,
         retired: retired(alloc, reason.as_slice(), message.as_slice())?,
-        outer_checksum: bytes_there(alloc, outer.as_slice())?,
+        outer_checksum: match outer.split_first() {
+            Some((_, bytes)) => Some(Bytes::from_slice(alloc, bytes)?),
+            None => None,
+        },
     };
     let mut releases = Releases::new(alloc);
     releases.push(release)?;
@@ -85,22 +88,18 @@ pub(crate) fn write_case(alloc: Global, out: &mut String, texts: &[Vec<u8>]) -> 
 fn dependencies(alloc: Global, texts: &[Vec<u8>]) -> Result<Dependencies, Fault> {
     let mut dependencies = Dependencies::new(alloc);
     for five in texts.chunks(5) {
-        dependencies.push(dependency(alloc, five)?)?;
+        let [package, requirement, optional, app, repository] = five else {
+            return Err(Fault::Form);
+        };
+        dependencies.push(Dependency {
+            package: Text::from_slice(alloc, package.as_slice())?,
+            requirement: Text::from_slice(alloc, requirement.as_slice())?,
+            optional: optional.as_slice() == b"yes".as_slice(),
+            app: text_there(alloc, app.as_slice())?,
+            repository: text_there(alloc, repository.as_slice())?,
+        })?;
     }
     Ok(dependencies)
-}
-
-fn dependency(alloc: Global, texts: &[Vec<u8>]) -> Result<Dependency, Fault> {
-    let [package, requirement, optional, app, repository] = texts else {
-        return Err(Fault::Form);
-    };
-    Ok(Dependency {
-        package: Text::from_slice(alloc, package.as_slice())?,
-        requirement: Text::from_slice(alloc, requirement.as_slice())?,
-        optional: optional.as_slice() == b"yes".as_slice(),
-        app: text_there(alloc, app.as_slice())?,
-        repository: text_there(alloc, repository.as_slice())?,
-    })
 }
 
 fn retired(alloc: Global, reason: &[u8], message: &[u8]) -> Result<Option<Retired>, AllocError> {
@@ -121,13 +120,6 @@ fn retired(alloc: Global, reason: &[u8], message: &[u8]) -> Result<Option<Retire
 fn text_there(alloc: Global, text: &[u8]) -> Result<Option<Text>, AllocError> {
     match text.split_first() {
         Some((_, rest)) => Ok(Some(Text::from_slice(alloc, rest)?)),
-        None => Ok(None),
-    }
-}
-
-fn bytes_there(alloc: Global, text: &[u8]) -> Result<Option<Bytes>, AllocError> {
-    match text.split_first() {
-        Some((_, rest)) => Ok(Some(Bytes::from_slice(alloc, rest)?)),
         None => Ok(None),
     }
 }

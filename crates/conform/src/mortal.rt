@@ -7,13 +7,8 @@ use std::alloc::Global;
 
 #[derive(Drop)]
 pub(crate) struct MortalCompiler {
-    dying: FaultPlan,
-}
-
-impl MortalCompiler {
-    pub(crate) fn new(dying: FaultPlan) -> MortalCompiler {
-        MortalCompiler { dying }
-    }
+    /// The calls at which it dies.
+    pub(crate) dying: FaultPlan,
 }
 
 impl Meaning for MortalCompiler {

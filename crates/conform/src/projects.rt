@@ -6,14 +6,14 @@ use crate::fields::{Fault, word};
 use crate::manifests::refused_project;
 use crate::mortal::MortalCompiler;
 use crate::rows::rule_name;
-use crate::shown::{push_after, push_text, refused_whole, say};
-use crate::stores::{calls_of, failing, store_of};
+use crate::shown::{push_after, say};
+use crate::stores::{calls_of, store_of};
 use crate::terms::app_name;
 use build_plan::{DivergedLine, PlanError, plan};
-use compile_model::{Job, Plan};
-use mix_main::run;
-use mx_base::{AppName, MemSink};
-use std::alloc::{AllocError, Global};
+use compile_model::Plan;
+use mix_main::{Status, run};
+use mx_base::{AppName, FaultPlan, File, MemSink};
+use std::alloc::Global;
 use tree_store::{Folder, Store, StoreFault};
 
 /// The calls of the store that fail, an environment, and files: the plan, each job with the places and the apps of its
@@ -25,44 +25,34 @@ pub(crate) fn plan_case(alloc: Global, out: &mut String, texts: &[Vec<u8>]) -> R
     let env = app_name(alloc, env.as_slice())?;
     let mut store = store_of(alloc, calls.as_slice(), b"", files)?;
     match plan(alloc, &mut store, &env) {
-        Ok(plan) => {
-            say(out, "ok")?;
-            push_jobs(alloc, out, &plan)?;
-            Ok(())
-        }
+        Ok(plan) => push_jobs(alloc, out, &plan),
         Err(error) => refused_plan(alloc, out, &error),
     }
 }
 
-fn push_jobs(alloc: Global, out: &mut String, plan: &Plan) -> Result<(), AllocError> {
+/// Each job: its app and folder, the places and the apps of its needs, and its options text.
+fn push_jobs(alloc: Global, out: &mut String, plan: &Plan) -> Result<(), Fault> {
+    say(out, "ok")?;
     for job in plan.jobs.as_slice() {
-        push_job(alloc, out, job)?;
+        push_name(out, job.app.as_str())?;
+        push_name(out, job.dir.as_str())?;
+        for need in job.needs.as_slice() {
+            write!(out, " {need}")?;
+        }
+        for app in job.need_apps.as_slice() {
+            push_name(out, app.as_str())?;
+        }
+        push_after(alloc, out, " ", job.options.as_slice())?;
+        say(out, ";")?;
     }
     Ok(())
 }
 
-/// A job: its app and folder, the places and the apps of its needs, and its options text.
-fn push_job(alloc: Global, out: &mut String, job: &Job) -> Result<(), AllocError> {
-    out.push_str(" ")?;
-    out.push_str(job.app.as_str())?;
-    out.push_str(" ")?;
-    out.push_str(job.dir.as_str())?;
-    for need in job.needs.as_slice() {
-        write!(out, " {need}")?;
-    }
-    for app in job.need_apps.as_slice() {
-        out.push_str(" ")?;
-        out.push_str(app.as_str())?;
-    }
-    push_after(alloc, out, " ", job.options.as_slice())?;
-    out.push_str(";")
-}
-
 fn refused_plan(alloc: Global, out: &mut String, error: &PlanError) -> Result<(), Fault> {
     match error {
-        PlanError::Read => refused_whole(out, "Read"),
+        PlanError::Read => say(out, "refused - Read"),
         PlanError::Settings(error) => refused_settings(out, error),
-        PlanError::NoProject => refused_whole(out, "NoProject"),
+        PlanError::NoProject => say(out, "refused - NoProject"),
         PlanError::Project { path, fault } => {
             refused_project(alloc, out, fault)?;
             push_name(out, path.as_str())
@@ -72,51 +62,46 @@ fn refused_plan(alloc: Global, out: &mut String, error: &PlanError) -> Result<()
             push_name(out, dir.as_str())
         }
         PlanError::NotLocked(app) => refused_app(out, "NotLocked", app),
-        PlanError::TooManyRows => refused_whole(out, "TooManyRows"),
+        PlanError::TooManyRows => say(out, "refused - TooManyRows"),
         PlanError::Diverged(lines) => refused_lines(out, lines.as_slice()),
-        PlanError::Cycle(apps) => refused_cycle(out, apps.as_slice()),
+        PlanError::Cycle(apps) => {
+            say(out, "refused - Cycle")?;
+            for app in apps.as_slice() {
+                push_name(out, app.as_str())?;
+            }
+            Ok(())
+        }
         PlanError::TooLarge(app) => refused_app(out, "TooLarge", app),
         PlanError::OutOfMemory => Err(Fault::Memory),
     }
 }
 
 fn push_name(out: &mut String, name: &str) -> Result<(), Fault> {
-    out.push_str(" ")?;
-    out.push_str(name)?;
+    write!(out, " {name}")?;
     Ok(())
 }
 
 fn refused_app(out: &mut String, cause: &str, app: &AppName) -> Result<(), Fault> {
-    refused_whole(out, cause)?;
+    say(out, "refused -")?;
+    push_name(out, cause)?;
     push_name(out, app.as_str())
 }
 
-fn refused_cycle(out: &mut String, apps: &[AppName]) -> Result<(), Fault> {
-    refused_whole(out, "Cycle")?;
-    for app in apps {
-        push_name(out, app.as_str())?;
-    }
-    Ok(())
-}
-
 fn refused_lines(out: &mut String, lines: &[DivergedLine]) -> Result<(), Fault> {
-    refused_whole(out, "Diverged")?;
+    say(out, "refused - Diverged")?;
     for line in lines {
-        push_line(out, line)?;
+        let rule = rule_name(line.rule);
+        let app = line.app.as_str();
+        let winner_by = declarer(&line.winner_by);
+        let winner = line.winner_index;
+        let other_by = declarer(&line.other_by);
+        let other = line.other_index;
+        write!(
+            out,
+            " {rule} {app}: {winner_by} at {winner}, {other_by} at {other};"
+        )?;
     }
     Ok(())
-}
-
-fn push_line(out: &mut String, line: &DivergedLine) -> Result<(), AllocError> {
-    let rule = rule_name(line.rule);
-    let app = line.app.as_str();
-    write!(out, " {rule} {app}: ")?;
-    out.push_str(declarer(&line.winner_by))?;
-    let winner = line.winner_index;
-    write!(out, " at {winner}, ")?;
-    out.push_str(declarer(&line.other_by))?;
-    let other = line.other_index;
-    write!(out, " at {other};")
 }
 
 fn declarer(by: &Option<AppName>) -> &str {
@@ -147,7 +132,9 @@ pub(crate) fn run_case(alloc: Global, out: &mut String, texts: &[Vec<u8>]) -> Re
         folder_calls.as_slice(),
         files,
     )?;
-    let mut compiler = MortalCompiler::new(failing(alloc, deaths.as_slice())?);
+    let mut compiler = MortalCompiler {
+        dying: FaultPlan::new(calls_of(alloc, deaths.as_slice())?),
+    };
     let words = words_of(alloc, word(words.as_slice())?)?;
     let mut sink = MemSink::new(alloc, calls_of(alloc, sink_calls.as_slice())?);
     let first = run(
@@ -157,8 +144,7 @@ pub(crate) fn run_case(alloc: Global, out: &mut String, texts: &[Vec<u8>]) -> Re
         &mut compiler,
         &mut sink,
     );
-    say(out, "ok")?;
-    push_end(alloc, out, first.code(), sink.as_slice())?;
+    push_end(alloc, out, "ok", first, sink.as_slice())?;
     push_builds(alloc, out, &mut store)?;
     let mut sink = MemSink::new(alloc, Vec::new(alloc));
     let second = run(
@@ -168,8 +154,7 @@ pub(crate) fn run_case(alloc: Global, out: &mut String, texts: &[Vec<u8>]) -> Re
         &mut compiler,
         &mut sink,
     );
-    say(out, " then")?;
-    push_end(alloc, out, second.code(), sink.as_slice())?;
+    push_end(alloc, out, " then", second, sink.as_slice())?;
     push_builds(alloc, out, &mut store)
 }
 
@@ -181,10 +166,16 @@ fn words_of(alloc: Global, text: &str) -> Result<Vec<String>, Fault> {
     Ok(words)
 }
 
-fn push_end(alloc: Global, out: &mut String, code: u8, text: &[u8]) -> Result<(), Fault> {
-    write!(out, " {code} ")?;
-    push_text(alloc, out, text)?;
-    Ok(())
+fn push_end(
+    alloc: Global,
+    out: &mut String,
+    before: &str,
+    status: Status,
+    text: &[u8],
+) -> Result<(), Fault> {
+    let code = status.code();
+    write!(out, "{before} {code}")?;
+    push_after(alloc, out, " ", text)
 }
 
 /// The files of all builds of `dev`, or that they can't be read.
@@ -193,10 +184,14 @@ fn push_builds<S: Store>(alloc: Global, out: &mut String, store: &mut S) -> Resu
     ensures { AllHere (S.known store.new).slot }
 {
     let env = app_name(alloc, b"dev")?;
-    match store.apps(alloc, &env) {
-        Ok(apps) => push_apps(alloc, out, store, &env, apps.as_slice()),
-        Err(fault) => push_unread(out, fault),
+    let apps = match store.apps(alloc, &env) {
+        Ok(apps) => apps,
+        Err(fault) => return push_unread(out, fault),
+    };
+    for app in &apps {
+        push_build(alloc, out, store, &env, app)?;
     }
+    Ok(())
 }
 
 fn push_unread(out: &mut String, fault: StoreFault) -> Result<(), Fault> {
@@ -204,22 +199,6 @@ fn push_unread(out: &mut String, fault: StoreFault) -> Result<(), Fault> {
         StoreFault::Failed => say(out, " unread"),
         StoreFault::OutOfMemory => Err(Fault::Memory),
     }
-}
-
-fn push_apps<S: Store>(
-    alloc: Global,
-    out: &mut String,
-    store: &mut S,
-    env: &AppName,
-    apps: &[AppName],
-) -> Result<(), Fault>
-    requires { AllHere (S.known store.old).slot }
-    ensures { AllHere (S.known store.new).slot }
-{
-    for app in apps {
-        push_build(alloc, out, store, env, app)?;
-    }
-    Ok(())
 }
 
 fn push_build<S: Store>(
@@ -244,15 +223,9 @@ fn push_build<S: Store>(
     }
 }
 
-fn push_files(
-    alloc: Global,
-    out: &mut String,
-    app: &AppName,
-    files: &[mx_base::File],
-) -> Result<(), Fault> {
+fn push_files(alloc: Global, out: &mut String, app: &AppName, files: &[File]) -> Result<(), Fault> {
     for file in files {
-        say(out, " ")?;
-        say(out, app.as_str())?;
+        push_name(out, app.as_str())?;
         say(out, "/")?;
         say(out, file.path.as_str())?;
         push_after(alloc, out, "=", file.bytes.as_slice())?;

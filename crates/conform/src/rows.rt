@@ -2,14 +2,14 @@
 ghost use Rattle.std.specs.Prelude.{◌≡◌, ◌<◌, length};
 
 use crate::fields::{Fault, word};
-use crate::shown::{refused, refused_whole, say};
-use crate::stores::failing;
+use crate::shown::{refused, say};
+use crate::stores::calls_of;
 use crate::terms::{app_name, folder, version};
-use converger::{ConvergeError, Converged, Divergences, Rule, Versions, converge, for_env};
+use converger::{ConvergeError, Rule, Versions, converge, for_env};
 use dep_options::{Decl, decls};
 use dep_rows::{ListAnswer, ListAnswers, ListChildren, ListFault, Rows, RowsError, rows};
 use elixir_terms::read;
-use mx_base::ListOf;
+use mx_base::{FaultPlan, ListOf};
 use semver::Version;
 use std::alloc::Global;
 
@@ -31,8 +31,8 @@ pub(crate) fn rows_case(alloc: Global, out: &mut String, texts: &[Vec<u8>]) -> R
         Err(RowsError::Children(ListFault::Refused(reason))) => {
             refused(out, u64::from(reason), "Refused")
         }
-        Err(RowsError::Children(ListFault::Failed)) => refused_whole(out, "Failed"),
-        Err(RowsError::TooManyRows) => refused_whole(out, "TooManyRows"),
+        Err(RowsError::Children(ListFault::Failed)) => say(out, "refused - Failed"),
+        Err(RowsError::TooManyRows) => say(out, "refused - TooManyRows"),
         Err(_) => Err(Fault::Memory),
     }
 }
@@ -53,18 +53,11 @@ fn push_rows(out: &mut String, found: &Rows) -> Result<(), Fault> {
         }
         let index = row.index;
         write!(out, "{index}")?;
-        if wins(found, place) {
+        if found.winner_of(&row.app) == Some(place as u32) {
             say(out, "*")?;
         }
     }
     Ok(())
-}
-
-fn wins(found: &Rows, place: usize) -> bool {
-    found
-        .winners()
-        .iter()
-        .any(|winner| *winner as usize == place)
 }
 
 /// What a text declares in the root.
@@ -78,35 +71,25 @@ fn declared(alloc: Global, text: &[u8]) -> Result<Vec<Decl>, Fault> {
     }
 }
 
+/// Apps, and for each its declarations or, for `!`, that they aren't known, for reason 7.
 fn children_of(
     alloc: Global,
     calls: &[u8],
     apps: &[Vec<u8>],
-) -> Result<ListChildren<mx_base::FaultPlan>, Fault> {
+) -> Result<ListChildren<FaultPlan>, Fault> {
     let mut answers = ListAnswers::new(alloc);
     for two in apps.chunks(2) {
-        answers.push(list_answer(alloc, two)?)?;
+        let [app, text] = two else {
+            return Err(Fault::Form);
+        };
+        let app = app_name(alloc, app.as_slice())?;
+        let children = match text.as_slice() {
+            b"!" => Err(7),
+            text => Ok(ListOf::from_vec(declared(alloc, text)?)),
+        };
+        answers.push(ListAnswer { app, children })?;
     }
-    Ok(ListChildren::new(answers, failing(alloc, calls)?))
-}
-
-/// An app, and its declarations or, for `!`, that they aren't known, for reason 7.
-fn list_answer(alloc: Global, two: &[Vec<u8>]) -> Result<ListAnswer, Fault> {
-    let [app, text] = two else {
-        return Err(Fault::Form);
-    };
-    let app = app_name(alloc, app.as_slice())?;
-    if text.as_slice() == b"!".as_slice() {
-        return Ok(ListAnswer {
-            app,
-            children: Err(7),
-        });
-    }
-    let decls = declared(alloc, text.as_slice())?;
-    Ok(ListAnswer {
-        app,
-        children: Ok(ListOf::from_vec(decls)),
-    })
+    Ok(ListChildren::new(answers, FaultPlan::new(calls_of(alloc, calls)?)))
 }
 
 /// The rows of a root and of its apps' declarations.
@@ -134,15 +117,23 @@ pub(crate) fn converge_case(
     if versions.as_slice().len() != rows.winners().len() {
         return Err(Fault::Form);
     }
-    match converge(alloc, rows, versions) {
-        Ok(_) => say(out, "ok"),
-        Err(ConvergeError::Diverged(list)) => push_divergences(out, &list),
+    let list = match converge(alloc, rows, versions) {
+        Ok(_) => return say(out, "ok"),
+        Err(ConvergeError::Diverged(list)) => list,
         Err(ConvergeError::NoVersion { app }) => {
-            refused_whole(out, "NoVersion ")?;
-            say(out, app.as_str())
+            say(out, "refused - NoVersion ")?;
+            return say(out, app.as_str());
         }
-        Err(ConvergeError::OutOfMemory) => Err(Fault::Memory),
+        Err(ConvergeError::OutOfMemory) => return Err(Fault::Memory),
+    };
+    say(out, "refused - Diverged")?;
+    for divergence in list.as_slice() {
+        let rule = rule_name(divergence.rule);
+        let winner = divergence.winner;
+        let other = divergence.other;
+        write!(out, " {rule}:{winner}:{other}")?;
     }
+    Ok(())
 }
 
 fn versions_of(alloc: Global, text: &str) -> Result<Versions, Fault> {
@@ -155,17 +146,6 @@ fn versions_of(alloc: Global, text: &str) -> Result<Versions, Fault> {
         }
     }
     Ok(versions)
-}
-
-fn push_divergences(out: &mut String, list: &Divergences) -> Result<(), Fault> {
-    refused_whole(out, "Diverged")?;
-    for divergence in list.as_slice() {
-        let rule = rule_name(divergence.rule);
-        let winner = divergence.winner;
-        let other = divergence.other;
-        write!(out, " {rule}:{winner}:{other}")?;
-    }
-    Ok(())
 }
 
 pub(crate) fn rule_name(rule: Rule) -> &'static str {
@@ -184,15 +164,7 @@ pub(crate) fn reach_case(alloc: Global, out: &mut String, texts: &[Vec<u8>]) -> 
         return Err(Fault::Form);
     };
     let env = app_name(alloc, env.as_slice())?;
-    let converged = converged(alloc, told_rows(alloc, root.as_slice(), apps)?)?;
-    say(out, "ok")?;
-    for place in for_env(alloc, &converged, &env)? {
-        write!(out, " {place}")?;
-    }
-    Ok(())
-}
-
-fn converged(alloc: Global, rows: Rows) -> Result<Converged, Fault> {
+    let rows = told_rows(alloc, root.as_slice(), apps)?;
     let mut versions = Versions::new(alloc);
     for _ in rows.winners() {
         versions.push(Some(Version::new(1, 0, 0)))?;
@@ -200,8 +172,12 @@ fn converged(alloc: Global, rows: Rows) -> Result<Converged, Fault> {
     if versions.as_slice().len() != rows.winners().len() {
         return Err(Fault::Form);
     }
-    match converge(alloc, rows, versions) {
-        Ok(converged) => Ok(converged),
-        Err(_) => Err(Fault::Form),
+    let Ok(converged) = converge(alloc, rows, versions) else {
+        return Err(Fault::Form);
+    };
+    say(out, "ok")?;
+    for place in for_env(alloc, &converged, &env)? {
+        write!(out, " {place}")?;
     }
+    Ok(())
 }

@@ -7,7 +7,7 @@ use std::alloc::{AllocError, Global};
 const LONGEST: usize = 4096;
 
 /// Adds a text as hexadecimal digits, `-` for the empty one, or its length where it is long.
-pub(crate) fn push_text(alloc: Global, out: &mut String, text: &[u8]) -> Result<(), AllocError> {
+fn push_text(alloc: Global, out: &mut String, text: &[u8]) -> Result<(), AllocError> {
     if text.is_empty() {
         return out.push_str("-");
     }
@@ -25,18 +25,13 @@ pub(crate) fn push_after(
     out: &mut String,
     before: &str,
     text: &[u8],
-) -> Result<(), AllocError> {
+) -> Result<(), Fault> {
     out.push_str(before)?;
-    push_text(alloc, out, text)
-}
-
-/// The answer is this text.
-pub(crate) fn ok_text(alloc: Global, out: &mut String, text: &[u8]) -> Result<(), Fault> {
-    push_after(alloc, out, "ok ", text)?;
+    push_text(alloc, out, text)?;
     Ok(())
 }
 
-/// The answer is a text that needs no digits.
+/// Adds what needs no digits.
 pub(crate) fn say(out: &mut String, text: &str) -> Result<(), Fault> {
     out.push_str(text)?;
     Ok(())
@@ -45,11 +40,5 @@ pub(crate) fn say(out: &mut String, text: &str) -> Result<(), Fault> {
 /// The answer is that a text is refused at a place, for a cause.
 pub(crate) fn refused(out: &mut String, at: u64, cause: &str) -> Result<(), Fault> {
     write!(out, "refused {at} {cause}")?;
-    Ok(())
-}
-
-/// The answer is a refusal that has no place.
-pub(crate) fn refused_whole(out: &mut String, cause: &str) -> Result<(), Fault> {
-    write!(out, "refused - {cause}")?;
     Ok(())
 }

@@ -1,15 +1,12 @@
 // Projects in memory, and which of their calls fail.
+ghost use Rattle.std.specs.Prelude.{IfOk};
+ghost use Rattle.tree_store.specs.Slot.{AllHere};
 
 use crate::fields::{Fault, word};
 use crate::terms::folder;
 use mx_base::{Bytes, FaultPlan};
 use std::alloc::Global;
-use tree_store::{Contents, MemStore};
-
-/// The plan by which the calls of these numbers fail, which stand with a comma between two.
-pub(crate) fn failing(alloc: Global, calls: &[u8]) -> Result<FaultPlan, Fault> {
-    Ok(FaultPlan::new(calls_of(alloc, calls)?))
-}
+use tree_store::{Contents, MemStore, Store};
 
 /// The numbers that stand with a comma between two.
 pub(crate) fn calls_of(alloc: Global, calls: &[u8]) -> Result<Vec<u64>, Fault> {
@@ -47,12 +44,14 @@ pub(crate) fn store_of(
     calls: &[u8],
     folder_calls: &[u8],
     files: &[Vec<u8>],
-) -> Result<MemStore<FaultPlan>, Fault> {
+) -> Result<MemStore<FaultPlan>, Fault>
+    ensures { IfOk result (λ store. AllHere (⟦<MemStore<FaultPlan> as Store>⟧.known store).slot) }
+{
     Ok(MemStore::new(
         alloc,
         contents_of(alloc, files)?,
-        failing(alloc, calls)?,
-        failing(alloc, b"")?,
-        failing(alloc, folder_calls)?,
+        FaultPlan::new(calls_of(alloc, calls)?),
+        FaultPlan::new(Vec::new(alloc)),
+        FaultPlan::new(calls_of(alloc, folder_calls)?),
     ))
 }

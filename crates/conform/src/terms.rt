@@ -2,7 +2,7 @@
 
 use crate::causes::term_cause;
 use crate::fields::{Fault, word};
-use crate::shown::{ok_text, refused, refused_whole};
+use crate::shown::{push_after, refused, say};
 use elixir_terms::{TermError, print, read};
 use mx_base::{AppName, NameError, PathError, RelPath};
 use semver::Version;
@@ -16,7 +16,7 @@ pub(crate) fn term_case(alloc: Global, out: &mut String, texts: &[Vec<u8>]) -> R
         return Err(Fault::Form);
     };
     match read(alloc, text.as_slice()) {
-        Ok(term) => ok_text(alloc, out, print(alloc, &term)?.as_slice()),
+        Ok(term) => push_after(alloc, out, "ok ", print(alloc, &term)?.as_slice()),
         Err(error) => refused_term(out, error),
     }
 }
@@ -46,9 +46,9 @@ pub(crate) fn name_case(alloc: Global, out: &mut String, texts: &[Vec<u8>]) -> R
         return Err(Fault::Form);
     };
     match AppName::of(alloc, text.as_slice()) {
-        Ok(name) => ok_text(alloc, out, name.as_str().as_bytes()),
-        Err(NameError::Empty) => refused_whole(out, "Empty"),
-        Err(NameError::TooLong) => refused_whole(out, "TooLong"),
+        Ok(name) => push_after(alloc, out, "ok ", name.as_str().as_bytes()),
+        Err(NameError::Empty) => say(out, "refused - Empty"),
+        Err(NameError::TooLong) => say(out, "refused - TooLong"),
         Err(NameError::BadByte { at }) => refused(out, at, "BadByte"),
         Err(NameError::OutOfMemory) => Err(Fault::Memory),
     }
@@ -61,10 +61,10 @@ pub(crate) fn join_case(alloc: Global, out: &mut String, texts: &[Vec<u8>]) -> R
     };
     let base = folder(alloc, base.as_slice())?;
     match RelPath::join(alloc, &base, text.as_slice()) {
-        Ok(path) => ok_text(alloc, out, path.as_str().as_bytes()),
+        Ok(path) => push_after(alloc, out, "ok ", path.as_str().as_bytes()),
         Err(PathError::BadByte { at }) => refused(out, at, "BadByte"),
-        Err(PathError::AboveRoot) => refused_whole(out, "AboveRoot"),
-        Err(PathError::Empty) => refused_whole(out, "Empty"),
+        Err(PathError::AboveRoot) => say(out, "refused - AboveRoot"),
+        Err(PathError::Empty) => say(out, "refused - Empty"),
         Err(PathError::OutOfMemory) => Err(Fault::Memory),
     }
 }
@@ -101,12 +101,11 @@ pub(crate) fn version_case(
     };
     let left = version(alloc, left.as_slice())?;
     let right = version(alloc, right.as_slice())?;
-    out.push_str(match compare(&left, &right) {
-        Ordering::Less => "ok less",
-        Ordering::Equal => "ok equal",
-        Ordering::Greater => "ok greater",
-    })?;
-    Ok(())
+    match compare(&left, &right) {
+        Ordering::Less => say(out, "ok less"),
+        Ordering::Equal => say(out, "ok equal"),
+        Ordering::Greater => say(out, "ok greater"),
+    }
 }
 
 pub(crate) fn version(alloc: Global, text: &[u8]) -> Result<Version, Fault> {
@@ -126,10 +125,7 @@ pub(crate) fn requirement_case(
         return Err(Fault::Form);
     };
     match Requirement::parse(alloc, text.as_slice()) {
-        Ok(_) => {
-            out.push_str("ok")?;
-            Ok(())
-        }
+        Ok(_) => say(out, "ok"),
         Err(ReqError::Refused { at }) => refused(out, at, "Refused"),
         Err(ReqError::OutOfMemory) => Err(Fault::Memory),
     }
@@ -144,12 +140,8 @@ pub(crate) fn match_case(alloc: Global, out: &mut String, texts: &[Vec<u8>]) -> 
     let Ok(requirement) = Requirement::parse(alloc, text.as_slice()) else {
         return Err(Fault::Form);
     };
-    let allowed = yes_or_no(matches(&requirement, &version, true));
-    let other = yes_or_no(matches(&requirement, &version, false));
-    write!(out, "ok {allowed} {other}")?;
-    Ok(())
-}
-
-fn yes_or_no(yes: bool) -> &'static str {
-    if yes { "yes" } else { "no" }
+    let allowed = matches(&requirement, &version, true);
+    let other = matches(&requirement, &version, false);
+    say(out, if allowed { "ok yes" } else { "ok no" })?;
+    say(out, if other { " yes" } else { " no" })
 }

@@ -2,9 +2,9 @@
 
 use crate::causes::unit_cause;
 use crate::fields::Fault;
-use crate::shown::{push_text, refused};
-use mx_base::{AppName, Text};
-use std::alloc::{AllocError, Global};
+use crate::shown::{push_after, refused, say};
+use mx_base::Text;
+use std::alloc::Global;
 use unit_lang::{Expression, Line, Statement, Unit, parse_unit};
 
 /// More parts than any line has.
@@ -15,17 +15,10 @@ pub(crate) fn unit_case(alloc: Global, out: &mut String, texts: &[Vec<u8>]) -> R
     let [text] = texts else {
         return Err(Fault::Form);
     };
-    match parse_unit(alloc, text.as_slice()) {
-        Ok(unit) => {
-            push_unit(alloc, out, unit)?;
-            Ok(())
-        }
-        Err(error) => refused(out, u64::from(error.line), unit_cause(error.cause)),
-    }
-}
-
-fn push_unit(alloc: Global, out: &mut String, unit: Unit) -> Result<(), AllocError> {
-    let Unit { name, line, lines } = unit;
+    let Unit { name, line, lines } = match parse_unit(alloc, text.as_slice()) {
+        Ok(unit) => unit,
+        Err(error) => return refused(out, u64::from(error.line), unit_cause(error.cause)),
+    };
     write!(out, "ok {line} unit ")?;
     push_name(out, &name)?;
     for said in lines.into_vec() {
@@ -36,34 +29,29 @@ fn push_unit(alloc: Global, out: &mut String, unit: Unit) -> Result<(), AllocErr
     Ok(())
 }
 
-fn push_statement(alloc: Global, out: &mut String, statement: Statement) -> Result<(), AllocError> {
+fn push_statement(alloc: Global, out: &mut String, statement: Statement) -> Result<(), Fault> {
     match statement {
-        Statement::Use { app, unit } => push_use(out, &app, &unit),
+        Statement::Use { app, unit } => {
+            say(out, "use ")?;
+            say(out, app.as_str())?;
+            say(out, ".")?;
+            push_name(out, &unit)
+        }
         Statement::Let { name, value } => {
-            out.push_str("let ")?;
+            say(out, "let ")?;
             push_name(out, &name)?;
-            out.push_str(" =")?;
+            say(out, " =")?;
             push_expression(alloc, out, value)
         }
         Statement::Export { name } => {
-            out.push_str("export ")?;
+            say(out, "export ")?;
             push_name(out, &name)
         }
-        Statement::Warn { text } => {
-            out.push_str("warn ")?;
-            push_text(alloc, out, text.as_slice())
-        }
+        Statement::Warn { text } => push_after(alloc, out, "warn ", text.as_slice()),
     }
 }
 
-fn push_use(out: &mut String, app: &AppName, unit: &Text) -> Result<(), AllocError> {
-    out.push_str("use ")?;
-    out.push_str(app.as_str())?;
-    out.push_str(".")?;
-    push_name(out, unit)
-}
-
-fn push_name(out: &mut String, name: &Text) -> Result<(), AllocError> {
+fn push_name(out: &mut String, name: &Text) -> Result<(), Fault> {
     for byte in name.as_slice() {
         out.push(char::from(*byte))?;
     }
@@ -71,11 +59,7 @@ fn push_name(out: &mut String, name: &Text) -> Result<(), AllocError> {
 }
 
 /// Each operation before its sides, a space before each part.
-fn push_expression(
-    alloc: Global,
-    out: &mut String,
-    expression: Expression,
-) -> Result<(), AllocError> {
+fn push_expression(alloc: Global, out: &mut String, expression: Expression) -> Result<(), Fault> {
     let mut parts = Vec::new(alloc);
     parts.push(expression)?;
     for _ in 0..MOST_PARTS {
@@ -88,35 +72,34 @@ fn push_expression(
 }
 
 /// One part, whose sides come after it.
-fn push_part(
-    out: &mut String,
-    parts: &mut Vec<Expression>,
-    part: Expression,
-) -> Result<(), AllocError> {
-    out.push_str(" ")?;
+fn push_part(out: &mut String, parts: &mut Vec<Expression>, part: Expression) -> Result<(), Fault> {
+    say(out, " ")?;
     match part {
-        Expression::Number(number) => write!(out, "{number}"),
+        Expression::Number(number) => {
+            write!(out, "{number}")?;
+            Ok(())
+        }
         Expression::Name(name) => push_name(out, &name),
         Expression::Reference { unit, name } => {
             push_name(out, &unit)?;
-            out.push_str(".")?;
+            say(out, ".")?;
             push_name(out, &name)
         }
         Expression::Add(left, right) => {
             push_sides(parts, left.into_inner(), right.into_inner())?;
-            out.push_str("+")
+            say(out, "+")
         }
         Expression::Subtract(left, right) => {
             push_sides(parts, left.into_inner(), right.into_inner())?;
-            out.push_str("-")
+            say(out, "-")
         }
         Expression::Multiply(left, right) => {
             push_sides(parts, left.into_inner(), right.into_inner())?;
-            out.push_str("*")
+            say(out, "*")
         }
         Expression::Negate(negated) => {
             parts.push(negated.into_inner())?;
-            out.push_str("~")
+            say(out, "~")
         }
     }
 }
@@ -125,7 +108,7 @@ fn push_sides(
     parts: &mut Vec<Expression>,
     left: Expression,
     right: Expression,
-) -> Result<(), AllocError> {
+) -> Result<(), Fault> {
     parts.push(right)?;
     parts.push(left)?;
     Ok(())
