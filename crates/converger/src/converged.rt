@@ -7,8 +7,8 @@ ghost use Rattle.converger.specs.Divergence.{AreDivergences, IsWithoutVersion};
 ghost use Rattle.converger.specs.Walk.{AreMarked};
 
 use crate::divergence::Divergences;
-use crate::divergences::Scene;
 use crate::reach::reach;
+use crate::scene::Scene;
 use crate::strays::strays;
 use crate::web::web_of;
 use dep_rows::Rows;
@@ -71,7 +71,7 @@ pub fn converge(alloc: Global, rows: Rows, versions: Versions) -> Result<Converg
     ensures converged { IfOk result (λ _. AreConverged rows.rows rows.winners versions) }
     ensures refused { IfErr result (HasCause rows.rows rows.winners versions) }
 {
-    let list = all_divergences(alloc, &rows, versions.as_slice())?;
+    let list = divergences(alloc, &rows, versions.as_slice())?;
     if !list.as_slice().is_empty() {
         return Err(ConvergeError::Diverged(list));
     }
@@ -81,7 +81,8 @@ pub fn converge(alloc: Global, rows: Rows, versions: Versions) -> Result<Converg
     Ok(Converged { rows, versions })
 }
 
-fn all_divergences(
+/// All declarations that can't live together with the winners of their apps, by row and then by rule.
+pub fn divergences(
     alloc: Global,
     rows: &Rows,
     versions: &[Option<Version>],

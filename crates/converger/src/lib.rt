@@ -7,14 +7,14 @@
 mod cases;
 mod converged;
 mod divergence;
-mod divergences;
 mod laws;
 mod reach;
+mod scene;
 mod strays;
 mod walk;
 mod web;
 
-pub use converged::{ConvergeError, Converged, Versions, converge, for_env};
+pub use converged::{ConvergeError, Converged, Versions, converge, divergences, for_env};
 pub use divergence::{Divergence, Divergences, Rule};
 pub use laws::{divergences_by_parts, one_divergence_list, one_reach};
 pub use reach::admits;

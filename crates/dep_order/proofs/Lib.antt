@@ -7,6 +7,7 @@ pub mod Counts
 pub mod Turns
 pub mod Naming
 pub mod Walks
-pub mod Marking
+pub mod Searching
+pub mod Ranking
 pub mod Ends
 pub mod Closing

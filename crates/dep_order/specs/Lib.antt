@@ -3,4 +3,5 @@ pub mod Listing
 pub mod Cycle
 pub mod Reach
 pub mod Pending
-pub mod Marks
+pub mod Search
+pub mod Ordered

@@ -9,7 +9,7 @@ use std::marker::Model;
 pub type Places = ListOf<usize>;
 
 /// For each place the places that it needs. Contracts see the list of these lists.
-#[derive(Debug, Drop)]
+#[derive(Drop)]
 pub struct Graph {
     needs: ListOf<Places>,
 }

@@ -7,7 +7,9 @@ mod dependents;
 mod graph;
 mod laws;
 mod listing;
+mod ordered;
 mod ordering;
+mod ranks;
 mod reach;
 
 pub use graph::{Graph, Places};
@@ -16,5 +18,6 @@ pub use laws::{
     needs_come_first, order_has_each_place_once, order_is_the_only_one,
     places_left_need_places_left, reach_is_the_least_closed_set,
 };
+pub use ordered::Ordered;
 pub use ordering::{OrderError, order};
-pub use reach::closure;
+pub use reach::{closure, reached};

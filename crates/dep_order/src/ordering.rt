@@ -9,7 +9,7 @@ use crate::listing::listing_of;
 use std::alloc::{AllocError, Global};
 
 /// Why a graph has no order.
-#[derive(Debug, Drop)]
+#[derive(Drop)]
 pub enum OrderError {
     /// A cycle of places, each of which needs the next one, and the last one the first.
     Cycle(Places),

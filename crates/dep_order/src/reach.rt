@@ -1,13 +1,64 @@
-// What a place needs, directly or through others.
-ghost use Rattle.std.specs.Prelude.{◌≡◌, ℕ, ◌<◌, ◌||◌, ◌&&◌, ◌↔◌, length, filter, IsTrue, IfOk};
-ghost use Rattle.std.specs.List.{All, Contains};
-ghost use Rattle.dep_order.specs.Graph.{needs_of};
+// What is reached in a graph.
+ghost use Rattle.std.specs.Prelude.{◌≡◌, ℕ, ◌<◌, ◌↔◌, [], ◌∷◌, length, nat_eq, IfOk, OnOk};
+ghost use Rattle.std.specs.List.{All, Contains, IsDistinct};
+ghost use Rattle.std.specs.Ordering.{nat_cmp};
+ghost use Rattle.std.specs.BTreeSet.{contains};
 ghost use Rattle.dep_order.specs.Listing.{is_listed, IsOrderOf};
-ghost use Rattle.dep_order.specs.Marks.{is_marked};
-ghost use Rattle.dep_order.specs.Reach.{Reaches, IsClosureOf};
+ghost use Rattle.dep_order.specs.Reach.{Reaches, AreReachedFrom, IsClosureOf};
+ghost use Rattle.dep_order.specs.Search.{Adds, AreRanks};
 
 use crate::graph::Graph;
+use crate::ranks::{in_order, increasing, ranks_of};
 use std::alloc::{AllocError, Global};
+use std::collections::BTreeSet;
+
+/// All places that are reached from these, in increasing order.
+pub fn reached(alloc: Global, graph: &Graph, starts: &[usize]) -> Result<Vec<usize>, AllocError>
+    requires { All (λ start. start < length graph.now) starts.now }
+    ensures { IfOk result (λ places. AreReachedFrom graph.now starts.now places.items) }
+{
+    let mut met = BTreeSet::new(alloc);
+    let mut queue = Vec::new(alloc);
+    add_all(&mut met, &mut queue, starts)?;
+    let mut at = 0;
+    while at < queue.len() {
+        let place = queue[at];
+        add_all(&mut met, &mut queue, graph.needs_at(place))?;
+        at += 1;
+    }
+    increasing(alloc, met)
+}
+
+/// Queues those places that weren't met.
+fn add_all(
+    met: &mut BTreeSet<usize>,
+    queue: &mut Vec<usize>,
+    places: &[usize],
+) -> Result<(), AllocError>
+    requires same { (q : ℕ) → contains nat_cmp met.old q ≡ is_listed queue.old.items q }
+    requires apart { IsDistinct nat_eq queue.old.items }
+    ensures same { OnOk result ((q : ℕ) → contains nat_cmp met.new q ≡ is_listed queue.new.items q) }
+    ensures apart { OnOk result (IsDistinct nat_eq queue.new.items) }
+    ensures adds { OnOk result (Adds places.now queue.old.items queue.new.items) }
+{
+    for place in places {
+        add(met, queue, *place)?;
+    }
+    Ok(())
+}
+
+fn add(met: &mut BTreeSet<usize>, queue: &mut Vec<usize>, place: usize) -> Result<(), AllocError>
+    requires same { (q : ℕ) → contains nat_cmp met.old q ≡ is_listed queue.old.items q }
+    requires apart { IsDistinct nat_eq queue.old.items }
+    ensures same { OnOk result ((q : ℕ) → contains nat_cmp met.new q ≡ is_listed queue.new.items q) }
+    ensures apart { OnOk result (IsDistinct nat_eq queue.new.items) }
+    ensures adds { OnOk result (Adds (place ∷ []) queue.old.items queue.new.items) }
+{
+    if met.insert(place)? {
+        queue.push(place)?;
+    }
+    Ok(())
+}
 
 /// All that a place needs, directly or through others, in the graph's order.
 pub fn closure(
@@ -22,68 +73,26 @@ pub fn closure(
     ensures reached { IfOk result (λ reached.
         (other : ℕ) → Contains reached.items other ↔ Reaches graph.now place other) }
 {
-    let marks = reach_of(alloc, graph, order, place)?;
-    marked(alloc, &marks, order)
+    let ranks = ranks_of(alloc, graph, order)?;
+    closure_by(alloc, graph, order, &ranks, place)
 }
 
-/// Marks what a place reaches. Behind a place in the order stands nothing that it needs, so one
-/// pass from the end is enough.
-fn reach_of(
+/// A closure, where the ranks in the order are known.
+pub(crate) fn closure_by(
     alloc: Global,
     graph: &Graph,
     order: &[usize],
+    ranks: &[usize],
     place: usize,
-) -> Result<Vec<bool>, AllocError>
+) -> Result<Vec<usize>, AllocError>
     requires order { IsOrderOf graph.now order.now }
+    requires long { length ranks.now ≡ length graph.now }
+    requires ranks { AreRanks order.now ranks.now }
     requires place { place < length graph.now }
-    ensures long { IfOk result (λ marks. length marks.items ≡ length graph.now) }
-    ensures marks { IfOk result (λ marks.
-        (other : ℕ) → IsTrue (is_marked marks.items other) ↔ Reaches graph.now place other) }
+    ensures in_order { IfOk result (λ reached. IsClosureOf graph.now order.now place reached.items) }
+    ensures reached { IfOk result (λ reached.
+        (other : ℕ) → Contains reached.items other ↔ Reaches graph.now place other) }
 {
-    let mut marks = vec![in alloc; false; graph.needs().len()]?;
-    mark(&mut marks, graph.needs_at(place));
-    for at in (0..order.len()).rev() {
-        mark_further(&mut marks, graph, order[at]);
-    }
-    Ok(marks)
-}
-
-/// Marks the needs of a place that is marked.
-fn mark_further(marks: &mut Vec<bool>, graph: &Graph, from: usize)
-    requires long { length marks.old.items ≡ length graph.now }
-    requires from { from < length graph.now }
-    ensures long { length marks.new.items ≡ length marks.old.items }
-    ensures each { (other : ℕ) → is_marked marks.new.items other
-        ≡ (is_marked marks.old.items other
-        || (is_marked marks.old.items from && is_listed (needs_of graph.now from) other)) }
-{
-    if marks[from] {
-        mark(marks, graph.needs_at(from));
-    }
-}
-
-/// Marks places.
-fn mark(marks: &mut Vec<bool>, places: &[usize])
-    requires { All (λ place. place < length marks.old.items) places.now }
-    ensures long { length marks.new.items ≡ length marks.old.items }
-    ensures each { (other : ℕ) → is_marked marks.new.items other
-        ≡ (is_marked marks.old.items other || is_listed places.now other) }
-{
-    for place in places {
-        marks[*place] = true;
-    }
-}
-
-/// The places that are marked.
-fn marked(alloc: Global, marks: &[bool], places: &[usize]) -> Result<Vec<usize>, AllocError>
-    requires { All (λ place. place < length marks.now) places.now }
-    ensures { IfOk result (λ kept. kept.items ≡ filter (is_marked marks.now) places.now) }
-{
-    let mut kept = Vec::new(alloc);
-    for place in places {
-        if marks[*place] {
-            kept.push(*place)?;
-        }
-    }
-    Ok(kept)
+    let places = reached(alloc, graph, graph.needs_at(place))?;
+    in_order(alloc, order, ranks, &places)
 }

@@ -307,7 +307,7 @@ words_stop {s = s} {rest = rest} at more trail place e taken = record {
 words_again : {text : List ℕ} {tokens : List Token} {s : State} {rest : List ℕ} (at here : ℕ) (more : List ℕ) → Stop text tokens s rest at 0 cause.TooDeep → rest ≡ 126 ∷ 119 ∷ 40 ∷ more → (expected s).term ≡ true → deepest < need s (Words Strings []) → (r : Repeats text here) → Again tokens s rest (r.outer ++ Open bracket.Map ∷ r.inside) r.rest → Beyond (at + 0) cause.TooDeep here cause.DuplicateKey
 words_again {tokens = tokens} {s = s} at here more stop e taken many r (held h) =
     let w = words_only more e h.begins in
-    let t : takes (expected s) h.tok ≡ true = subst (λ x. takes (expected s) x ≡ true) (sym w.1) taken in
+    let t : takes (expected s) h.tok ≡ true = subst (λ x. takes (expected s) x ≡ true) (sym w.2) taken in
     let n : deepest < need s h.tok = subst (λ x. deepest < need s x) (sym w.2) (subst (λ i. deepest < i) (sym (need_words s w.0 w.1)) many) in
     absurd (held_shallow h (too_deep tokens s h.tok (trail_runs stop.trail) (trail_sound stop.trail start_sound) (token_shallow h.begins) t n))
 words_again at here more stop e taken many r (starts p q st) = let x = stop.place in let y = r.stands.place in let w = ap length q in inr (omega arith, omega arith)

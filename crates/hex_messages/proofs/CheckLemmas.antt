@@ -45,78 +45,112 @@ pub record Checked (m : Message) (text rest : List ℕ) : Type 0 where
 pub checked_start : (m : Message) (text : List ℕ) → Checked m text text
 checked_start m text = record { fields = []; at = at_start text; good = good.none }
 
-pub checked_on : (m : Message) (text rest next : List ℕ) (f : Field) → Checked m text rest → BeginsField m rest f next → AllGood m (f ∷ []) → Checked m text next
-checked_on m text rest next f w b g = record { fields = w.fields ++ f ∷ []; at = at_push w.at b.spelled b.split; good = good_append (f ∷ []) w.good g }
+pub checked_on : (m : Message) (text rest next : List ℕ) (f : Field) → Checked m text rest → BeginsField m rest f next → AllGood m (f ∷ [])
+    → Checked m text next
+checked_on m text rest next f w b g = record {
+  fields = w.fields ++ f ∷ [];
+  at = at_push w.at b.spelled b.split;
+  good = good_append (f ∷ []) w.good g;
+}
 
-pub checked_whole : (m : Message) (text rest : List ℕ) → Checked m text rest → rest ≡ [] → InFields m text (λ fields. Misses m fields None) → IsWhole m text
+pub checked_whole : (m : Message) (text rest : List ℕ) → Checked m text rest → rest ≡ [] → InFields m text (λ fields. Misses m fields None)
+    → IsWhole m text
 checked_whole m text rest w e misses = let s = at_end w.at e in good.whole s w.good (misses w.fields s w.good)
 
-pub checked_missing : (m : Message) (text rest : List ℕ) (start : ℕ) (called : FieldName) (error : WireError) → Checked m text rest → rest ≡ [] → InFields m text (λ fields. Misses m fields (Some called)) → error.at ≡ start + length text → error.cause ≡ Missing called → FaultFrom m start text error
+pub checked_missing : (m : Message) (text rest : List ℕ) (start : ℕ) (called : FieldName) (error : WireError) → Checked m text rest → rest ≡ []
+    → InFields m text (λ fields. Misses m fields (Some called)) → error.at ≡ start + length text → error.cause ≡ Missing called
+    → FaultFrom m start text error
 checked_missing m text rest start called error w e misses at cause =
     let s = at_end w.at e in
-    record { at = length text; place = at; fault = subst (λ c. Fault m text (length text) c) (sym cause) (missing s w.good (misses w.fields s w.good)) }
+    record {
+      at = length text;
+      place = at;
+      fault = subst (λ c. Fault m text (length text) c) (sym cause) (missing s w.good (misses w.fields s w.good));
+    }
 
 -- a faulty field is the first fault of the text
-pub checked_faults : (m : Message) (text rest : List ℕ) (start place at : ℕ) (error : WireError) → Checked m text rest → place ≡ start + (length text - length rest) → error.at ≡ place + at → FieldFault m rest at error.cause → FaultFrom m start text error
+pub checked_faults : (m : Message) (text rest : List ℕ) (start place at : ℕ) (error : WireError) → Checked m text rest
+    → place ≡ start + (length text - length rest) → error.at ≡ place + at → FieldFault m rest at error.cause → FaultFrom m start text error
 checked_faults m text rest start place at error w p e fault =
     let a = w.at in
     let l : length text ≡ length a.front + length rest = ap length a.split ∙ length-append a.front rest in
     record { at = length a.front + at; place = omega arith; fault = field a.spelled w.good fault a.split }
 
-pub placed : (m : Message) (at : ℕ) (wire : Wire) (rest next : List ℕ) → BeginsField m rest (field_of wire) next → wire.at ≡ at → wire.end + length next ≡ at + length rest → IsPlaced wire
+pub placed : (m : Message) (at : ℕ) (wire : Wire) (rest next : List ℕ) → BeginsField m rest (field_of wire) next → wire.at ≡ at
+    → wire.end + length next ≡ at + length rest → IsPlaced wire
 placed m at wire rest next b a e =
     let l : length rest ≡ length b.front + length next = ap length b.split ∙ length-append b.front next in
     record { front = b.front; spelled = b.spelled; ends = omega arith }
 
-pub field_faults : (m : Message) (text rest next : List ℕ) (start place : ℕ) (wire : Wire) (error : WireError) → Checked m text rest → BeginsField m rest (field_of wire) next → wire.at ≡ place → wire.end + length next ≡ place + length rest → place ≡ start + (length text - length rest) → BlamesField m wire error → FaultFrom m start text error
+pub field_faults : (m : Message) (text rest next : List ℕ) (start place : ℕ) (wire : Wire) (error : WireError) → Checked m text rest
+    → BeginsField m rest (field_of wire) next → wire.at ≡ place → wire.end + length next ≡ place + length rest
+    → place ≡ start + (length text - length rest) → BlamesField m wire error → FaultFrom m start text error
 field_faults m text rest next start place wire error w b a e p h =
     let l : length rest ≡ length b.front + length next = ap length b.split ∙ length-append b.front next in
     let f : FieldFault m (b.front ++ next) h.at error.cause = h.fault b.front next b.spelled (omega arith) in
-    checked_faults m text rest start place h.at error w p (h.place ∙ ap (λ n. n + h.at) a) (subst (λ t. FieldFault m t h.at error.cause) (sym b.split) f)
+    checked_faults m text rest start place h.at error w p (h.place ∙ ap (λ n. n + h.at) a)
+    (subst (λ t. FieldFault m t h.at error.cause) (sym b.split) f)
 
 -- a known field has the wire type of its kind
-pub own_is : (m : Message) (wire : Wire) (k : Known) → Some k ≡ field_at m wire.number → IsOwnWire (field_at m wire.number) (wire_type (payload_of wire.value)) → wire_type (payload_of wire.value) ≡ wire_of k.kind
+pub own_is : (m : Message) (wire : Wire) (k : Known) → Some k ≡ field_at m wire.number
+    → IsOwnWire (field_at m wire.number) (wire_type (payload_of wire.value)) → wire_type (payload_of wire.value) ≡ wire_of k.kind
 own_is m wire k e own = subst (λ o. IsOwnWire o (wire_type (payload_of wire.value))) (sym e) own
 
 pub good_unknown : (m : Message) (wire : Wire) → None ≡ field_at m wire.number → AllGood m (field_of wire ∷ [])
 good_unknown m wire e = good.unknown (sym e) good.none
 
-good_known : (m : Message) (wire : Wire) (k : Known) (kind : Kind) (p : Payload) → Some k ≡ field_at m wire.number → k.kind ≡ kind → payload_of wire.value ≡ p → IsOf kind p → AllGood m (field_of wire ∷ [])
-good_known m wire k kind p e is q h = good.known (sym e) (subst (λ x. IsOf x (payload_of wire.value)) (sym is) (subst (λ x. IsOf kind x) (sym q) h)) good.none
+good_known : (m : Message) (wire : Wire) (k : Known) (kind : Kind) (p : Payload) → Some k ≡ field_at m wire.number → k.kind ≡ kind
+    → payload_of wire.value ≡ p → IsOf kind p → AllGood m (field_of wire ∷ [])
+good_known m wire k kind p e is q h = good.known (sym e) (subst (λ x. IsOf x (payload_of wire.value)) (sym is) (subst (λ x. IsOf kind x) (sym q) h))
+    good.none
 
-pub good_bytes : (m : Message) (wire : Wire) (k : Known) → Some k ≡ field_at m wire.number → k.kind ≡ Bytes → wire_type (payload_of wire.value) ≡ wire_of k.kind → AllGood m (field_of wire ∷ [])
-good_bytes m wire k e is w = let b = length_of (payload_of wire.value) (w ∙ ap wire_of is) in good_known m wire k Bytes (Length b.0) e is b.1 good.bytes
+pub good_bytes : (m : Message) (wire : Wire) (k : Known) → Some k ≡ field_at m wire.number → k.kind ≡ Bytes
+    → wire_type (payload_of wire.value) ≡ wire_of k.kind → AllGood m (field_of wire ∷ [])
+good_bytes m wire k e is w = let b = length_of (payload_of wire.value) (w ∙ ap wire_of is) in good_known m wire k Bytes (Length b.0) e is b.1
+    good.bytes
 
-pub good_truth : (m : Message) (wire : Wire) (k : Known) → Some k ≡ field_at m wire.number → k.kind ≡ Truth → wire_type (payload_of wire.value) ≡ wire_of k.kind → AllGood m (field_of wire ∷ [])
-good_truth m wire k e is w = let n = varint_of (payload_of wire.value) (w ∙ ap wire_of is) in good_known m wire k Truth (Varint n.0) e is n.1 good.truth
+pub good_truth : (m : Message) (wire : Wire) (k : Known) → Some k ≡ field_at m wire.number → k.kind ≡ Truth
+    → wire_type (payload_of wire.value) ≡ wire_of k.kind → AllGood m (field_of wire ∷ [])
+good_truth m wire k e is w = let n = varint_of (payload_of wire.value) (w ∙ ap wire_of is) in good_known m wire k Truth (Varint n.0) e is n.1
+    good.truth
 
-pub good_text : (m : Message) (wire : Wire) (k : Known) (bytes : List ℕ) → Some k ≡ field_at m wire.number → k.kind ≡ Text → payload_of wire.value ≡ Length bytes → IsUtf8 bytes → AllGood m (field_of wire ∷ [])
+pub good_text : (m : Message) (wire : Wire) (k : Known) (bytes : List ℕ) → Some k ≡ field_at m wire.number → k.kind ≡ Text
+    → payload_of wire.value ≡ Length bytes → IsUtf8 bytes → AllGood m (field_of wire ∷ [])
 good_text m wire k bytes e is p h = good_known m wire k Text (Length bytes) e is p (good.text h)
 
-pub good_reason : (m : Message) (wire : Wire) (k : Known) (n : ℕ) → Some k ≡ field_at m wire.number → k.kind ≡ Reason → payload_of wire.value ≡ Varint n → n ≤ 4 → AllGood m (field_of wire ∷ [])
+pub good_reason : (m : Message) (wire : Wire) (k : Known) (n : ℕ) → Some k ≡ field_at m wire.number → k.kind ≡ Reason
+    → payload_of wire.value ≡ Varint n → n ≤ 4 → AllGood m (field_of wire ∷ [])
 good_reason m wire k n e is p h = good_known m wire k Reason (Varint n) e is p (good.reason h)
 
-pub good_inner : (m inside : Message) (wire : Wire) (k : Known) (bytes : List ℕ) → Some k ≡ field_at m wire.number → k.kind ≡ Inner inside → payload_of wire.value ≡ Length bytes → IsWhole inside bytes → AllGood m (field_of wire ∷ [])
+pub good_inner : (m inside : Message) (wire : Wire) (k : Known) (bytes : List ℕ) → Some k ≡ field_at m wire.number → k.kind ≡ Inner inside
+    → payload_of wire.value ≡ Length bytes → IsWhole inside bytes → AllGood m (field_of wire ∷ [])
 good_inner m inside wire k bytes e is p h = good_known m wire k (Inner inside) (Length bytes) e is p (good.inner h)
 
-spelled_as : (front : List ℕ) (n : ℕ) (p q : Payload) → p ≡ q → SpellsField front (record { number = n; payload = p }) → SpellsField front (record { number = n; payload = q })
+spelled_as : (front : List ℕ) (n : ℕ) (p q : Payload) → p ≡ q → SpellsField front (record { number = n; payload = p })
+    → SpellsField front (record { number = n; payload = q })
 spelled_as front n p q e s = subst (λ x. SpellsField front (record { number = n; payload = x })) e s
 
-pub text_refused : (m : Message) (wire : Wire) (k : Known) (bytes : List ℕ) (error : WireError) → Some k ≡ field_at m wire.number → k.kind ≡ Text → payload_of wire.value ≡ Length bytes → (IsUtf8 bytes → ⊥) → error.at ≡ wire.at → error.cause ≡ BadUtf8 k.name → BlamesField m wire error
+pub text_refused : (m : Message) (wire : Wire) (k : Known) (bytes : List ℕ) (error : WireError) → Some k ≡ field_at m wire.number → k.kind ≡ Text
+    → payload_of wire.value ≡ Length bytes → (IsUtf8 bytes → ⊥) → error.at ≡ wire.at → error.cause ≡ BadUtf8 k.name → BlamesField m wire error
 text_refused m wire k bytes error e is p other place cause = record {
   at = 0;
   place = omega arith;
-  fault = λ front rest s ends. subst (λ c. FieldFault m (front ++ rest) 0 c) (sym cause) (utf8 rest (spelled_as front wire.number (payload_of wire.value) (Length bytes) p s) (sym e) is other refl);
+  fault = λ front rest s ends. subst (λ c. FieldFault m (front ++ rest) 0 c) (sym cause)
+      (utf8 rest (spelled_as front wire.number (payload_of wire.value) (Length bytes) p s) (sym e) is other refl);
 }
 
-pub reason_refused : (m : Message) (wire : Wire) (k : Known) (n : ℕ) (error : WireError) → Some k ≡ field_at m wire.number → k.kind ≡ Reason → payload_of wire.value ≡ Varint n → 4 < n → error.at ≡ wire.at → error.cause ≡ BadEnum → BlamesField m wire error
+pub reason_refused : (m : Message) (wire : Wire) (k : Known) (n : ℕ) (error : WireError) → Some k ≡ field_at m wire.number → k.kind ≡ Reason
+    → payload_of wire.value ≡ Varint n → 4 < n → error.at ≡ wire.at → error.cause ≡ BadEnum → BlamesField m wire error
 reason_refused m wire k n error e is p big place cause = record {
   at = 0;
   place = omega arith;
-  fault = λ front rest s ends. subst (λ c. FieldFault m (front ++ rest) 0 c) (sym cause) (reason rest (spelled_as front wire.number (payload_of wire.value) (Varint n) p s) (sym e) is big refl);
+  fault = λ front rest s ends. subst (λ c. FieldFault m (front ++ rest) 0 c) (sym cause)
+      (reason rest (spelled_as front wire.number (payload_of wire.value) (Varint n) p s) (sym e) is big refl);
 }
 
-pub inner_refused : (m inside : Message) (wire : Wire) (k : Known) (bytes : List ℕ) (start : ℕ) (error : WireError) → Some k ≡ field_at m wire.number → k.kind ≡ Inner inside → payload_of wire.value ≡ Length bytes → start + length bytes ≡ wire.end → wire.at ≤ start → FaultFrom inside start bytes error → BlamesField m wire error
+pub inner_refused : (m inside : Message) (wire : Wire) (k : Known) (bytes : List ℕ) (start : ℕ) (error : WireError) → Some k ≡ field_at m wire.number
+    → k.kind ≡ Inner inside → payload_of wire.value ≡ Length bytes → start + length bytes ≡ wire.end → wire.at ≤ start
+    → FaultFrom inside start bytes error → BlamesField m wire error
 inner_refused m inside wire k bytes start error e is p ends after h =
     let place = h.place in
     record {
@@ -130,7 +164,8 @@ inner_refused m inside wire k bytes start error e is p ends after h =
           let same : length (s'.key ++ v.0) + h.at ≡ start - wire.at + h.at = omega arith in
           let split : front ++ rest ≡ (s'.key ++ v.0) ++ bytes ++ rest = ap (λ x. x ++ rest) f in
           subst (λ x. FieldFault m (front ++ rest) x error.cause) same
-          (inner (s'.key ++ v.0) rest (subst (λ x. SpellsField x (record { number = wire.number; payload = Length bytes })) f s') (sym e) is h.fault split);
+          (inner (s'.key ++ v.0) rest (subst (λ x. SpellsField x (record { number = wire.number; payload = Length bytes })) f s') (sym e) is h.fault
+          split);
     }
 
 -- a message within stands less deep
@@ -175,13 +210,15 @@ misses_dependency fields o e = record { merged = []; merges = λ q. absurd cc; a
 pub misses_retired : (fields : List Field) (o : Option FieldName) → None ≡ o → Misses message.Retired fields o
 misses_retired fields o e = record { merged = []; merges = λ q. absurd cc; answers = e }
 
-pub misses_release : (text : List ℕ) (fields : List Field) (o : Option FieldName) → Fields text fields → AllGood message.Release fields → InMerged text (λ all merged. absent_in message.Release merged all ≡ o) → Misses message.Release fields o
+pub misses_release : (text : List ℕ) (fields : List Field) (o : Option FieldName) → Fields text fields → AllGood message.Release fields
+    → InMerged text (λ all merged. absent_in message.Release merged all ≡ o) → Misses message.Release fields o
 misses_release text fields o s g h =
     let m = merged_of fields g in
     record { merged = m.0; merges = λ q. m.1; answers = h fields m.0 s g m.1 }
 
 -- a field that is found stands there
-pub found_there : {m : Message} {number : ℕ} {text rest : List ℕ} {p : Payload} {all : List Field} → Fields text all → AllGood m all → Finds number text p rest → has number all ≡ true
+pub found_there : {m : Message} {number : ℕ} {text rest : List ℕ} {p : Payload} {all : List Field} → Fields text all → AllGood m all
+    → Finds number text p rest → has number all ≡ true
 found_there {number = number} {p = p} {all = all} s g f =
     let found = record { number = number; payload = p } ∷ [] in
     let b = behind s (found_at (at_start _) f) in
@@ -194,14 +231,17 @@ cond_same true = refl
 cond_same false = refl
 
 -- the names of what is missing in a release, one or the other
-lost_first : (a b c d : Bool) → (cond (a && not b) (Some name.Reason) (cond c (cond d None (Some name.InnerChecksum)) (Some name.Version))) ≡ option_or (option_or (cond (a && not b) (Some name.Reason) None) (cond c None (Some name.Version))) (cond d None (Some name.InnerChecksum))
+lost_first : (a b c d : Bool) → (cond (a && not b) (Some name.Reason) (cond c (cond d None (Some name.InnerChecksum)) (Some name.Version)))
+    ≡ option_or (option_or (cond (a && not b) (Some name.Reason) None) (cond c None (Some name.Version))) (cond d None (Some name.InnerChecksum))
 lost_first true true true d = cond_same d
 lost_first true true false d = refl
 lost_first true false c d = refl
 lost_first false b true d = cond_same d
 lost_first false b false d = refl
 
-pub lost_or : (a b c d : Bool) (all two lost first second : Option FieldName) → all ≡ option_or two second → two ≡ option_or lost first → lost ≡ cond (a && not b) (Some name.Reason) None → first ≡ cond c None (Some name.Version) → second ≡ cond d None (Some name.InnerChecksum) → cond (a && not b) (Some name.Reason) (cond c (cond d None (Some name.InnerChecksum)) (Some name.Version)) ≡ all
+pub lost_or : (a b c d : Bool) (all two lost first second : Option FieldName) → all ≡ option_or two second → two ≡ option_or lost first
+    → lost ≡ cond (a && not b) (Some name.Reason) None → first ≡ cond c None (Some name.Version) → second ≡ cond d None (Some name.InnerChecksum)
+    → cond (a && not b) (Some name.Reason) (cond c (cond d None (Some name.InnerChecksum)) (Some name.Version)) ≡ all
 lost_or a b c d all two lost first second e f g h i = lost_first a b c d ∙ sym (e ∙ rw (f, g, h, i) refl)
 
 -- no fault of a message is want of memory

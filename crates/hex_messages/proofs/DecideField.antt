@@ -46,7 +46,8 @@ data Varints : List ℕ → Type 0 where
 scanned : (text : List ℕ) → Scan 10 text → Varints text
 scanned text (ends front rest w l e) =
     ⊎_elim
-    (λ (small : number_of front < 2 ^ 64). read (number_of front) rest (record { front = front; varint = record { whole = w; short = l; value = refl; small = small }; split = e }))
+    (λ (small : number_of front < 2 ^ 64). read (number_of front) rest
+    (record { front = front; varint = record { whole = w; short = l; value = refl; small = small }; split = e }))
     (λ (big : 2 ^ 64 ≤ number_of front). refused BadVarint (fault.great front rest w l big e)) (cases_lt (number_of front) (2 ^ 64))
 scanned text (goes on) =
     ⊎_elim
@@ -68,20 +69,26 @@ length_value : (text : List ℕ) → Varints text → Values 2 text
 length_value text (read n after b) =
     ⊎_elim
     (λ (short : length after < n). valueless Truncated (bytes_at text after n b short))
-    (λ (long : n ≤ length after). value (Length (take n after)) (drop n after) (length_at text after (take n after) (drop n after) n b (length-take-le n after long) (sym (take-append-drop n after)))) (cases_lt (length after) n)
+    (λ (long : n ≤ length after). value (Length (take n after)) (drop n after)
+    (length_at text after (take n after) (drop n after) n b (length-take-le n after long) (sym (take-append-drop n after))))
+    (cases_lt (length after) n)
 length_value text (refused cause f) = valueless cause (fault.size f)
 
 eight_value : (text : List ℕ) → Values 1 text
 eight_value text =
     ⊎_elim
     (λ (short : length text < 8). valueless Truncated (fault.eight short))
-    (λ (long : 8 ≤ length text). value (Fixed64 (take 8 text)) (drop 8 text) (record { front = take 8 text; typed = refl; spelled = (refl, length-take-le 8 text long); split = sym (take-append-drop 8 text) })) (cases_lt (length text) 8)
+    (λ (long : 8 ≤ length text). value (Fixed64 (take 8 text)) (drop 8 text)
+    (record { front = take 8 text; typed = refl; spelled = (refl, length-take-le 8 text long); split = sym (take-append-drop 8 text) }))
+    (cases_lt (length text) 8)
 
 four_value : (text : List ℕ) → Values 5 text
 four_value text =
     ⊎_elim
     (λ (short : length text < 4). valueless Truncated (fault.four short))
-    (λ (long : 4 ≤ length text). value (Fixed32 (take 4 text)) (drop 4 text) (record { front = take 4 text; typed = refl; spelled = (refl, length-take-le 4 text long); split = sym (take-append-drop 4 text) })) (cases_lt (length text) 4)
+    (λ (long : 4 ≤ length text). value (Fixed32 (take 4 text)) (drop 4 text)
+    (record { front = take 4 text; typed = refl; spelled = (refl, length-take-le 4 text long); split = sym (take-append-drop 4 text) }))
+    (cases_lt (length text) 4)
 
 decide_value : (wire : ℕ) (text : List ℕ) → IsWire wire → Values wire text
 decide_value wire text (inl e) = subst (λ w. Values w text) (sym e) (varint_value text (decide_varint text))
@@ -101,17 +108,21 @@ key_test : (n w : ℕ) → IsKey n w ⊎ (IsKey n w → ⊥)
 key_test n w =
     ⊎_elim (λ (a : n < 1). inr (λ (k : IsKey n w). let l = k.least in omega arith))
     (λ (a : 1 ≤ n). ⊎_elim (λ (b : greatest_number < n). inr (λ (k : IsKey n w). let l = k.most in omega arith))
-    (λ (b : n ≤ greatest_number). ⊎_elim (λ (t : IsWire w). inl (record { least = a; most = b; typed = t })) (λ (t : IsWire w → ⊥). inr (λ (k : IsKey n w). t k.typed)) (wire_test w)) (cases_lt greatest_number n)) (cases_lt n 1)
+    (λ (b : n ≤ greatest_number). ⊎_elim (λ (t : IsWire w). inl (record { least = a; most = b; typed = t }))
+    (λ (t : IsWire w → ⊥). inr (λ (k : IsKey n w). t k.typed)) (wire_test w)) (cases_lt greatest_number n)) (cases_lt n 1)
 
 pub data Begun : Message → List ℕ → Type 0 where
   begins : {m : Message} {text : List ℕ} (f : Field) (rest : List ℕ) → BeginsField m text f rest → Begun m text
   faulty : {m : Message} {text : List ℕ} (cause : WireCause) → FieldFault m text 0 cause → Begun m text
 
-valued : (m : Message) (text rest : List ℕ) (number wire : ℕ) → BeginsKey text number wire rest → IsOwnWire (field_at m number) wire → Values wire rest → Begun m text
-valued m text rest number wire k own (value payload after v) = begins (record { number = number; payload = payload }) after (field_at_front m text rest after number wire payload k own v)
+valued : (m : Message) (text rest : List ℕ) (number wire : ℕ) → BeginsKey text number wire rest → IsOwnWire (field_at m number) wire
+    → Values wire rest → Begun m text
+valued m text rest number wire k own (value payload after v) = begins (record { number = number; payload = payload }) after
+    (field_at_front m text rest after number wire payload k own v)
 valued m text rest number wire k own (valueless cause f) = faulty cause (value_at m text rest number wire cause k own f)
 
-owned : (m : Message) (text rest : List ℕ) (number wire : ℕ) (o : Option Known) → o ≡ field_at m number → BeginsKey text number wire rest → Begun m text
+owned : (m : Message) (text rest : List ℕ) (number wire : ℕ) (o : Option Known) → o ≡ field_at m number → BeginsKey text number wire rest
+    → Begun m text
 owned m text rest number wire None e k = valued m text rest number wire k (own_none (field_at m number) wire e) (decide_value wire rest k.key.typed)
 owned m text rest number wire (Some known) e k =
     ⊎_elim
@@ -122,7 +133,8 @@ keyed : (m : Message) (text : List ℕ) → text ≢ [] → Varints text → Beg
 keyed m text some (refused cause f) = faulty cause (key_at text cause f m some)
 keyed m text some (read n rest b) =
     ⊎_elim
-    (λ (k : IsKey (n / 8) (n % 8)). owned m text rest (n / 8) (n % 8) (field_at m (n / 8)) refl (record { front = b.front; varint = rw (key_parts n (n / 8) (n % 8) refl refl) b.varint; key = k; split = b.split }))
+    (λ (k : IsKey (n / 8) (n % 8)). owned m text rest (n / 8) (n % 8) (field_at m (n / 8)) refl
+    (record { front = b.front; varint = rw (key_parts n (n / 8) (n % 8) refl refl) b.varint; key = k; split = b.split }))
     (λ (bad : IsKey (n / 8) (n % 8) → ⊥). faulty BadKey (bad_key_at text rest n b bad m)) (key_test (n / 8) (n % 8))
 
 -- a text that has a byte begins with a field, or it is faulty there

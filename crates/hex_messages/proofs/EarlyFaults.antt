@@ -17,7 +17,8 @@ use Rattle.hex_messages.proofs.VarintLemmas.{whole_stops, one_varint}
 use Rattle.hex_messages.proofs.OneReading.{key_apart, type_small}
 use Rattle.hex_messages.proofs.Apart.{varint_apart, value_apart, wire_is, wire_small}
 
-pub great_not_cut : {text : List ℕ} (f r : List ℕ) → is_whole f ≡ true → length f ≤ 10 → text ≡ f ++ r → length text < 10 → list_all goes_on text ≡ true → ⊥
+pub great_not_cut : {text : List ℕ} (f r : List ℕ) → is_whole f ≡ true → length f ≤ 10 → text ≡ f ++ r → length text < 10
+    → list_all goes_on text ≡ true → ⊥
 great_not_cut {text = text} f r w short e few on =
     let all : take 10 text ≡ text = take_all 10 text (omega arith) in
     whole_stops f r 10 w short (subst (λ l. list_all goes_on (take 10 l) ≡ true) e (rw all on))
@@ -100,9 +101,15 @@ pub record Sound (m : Message) (text : List ℕ) (n w : ℕ) (after : List ℕ) 
 pub own_from : (m : Message) (n w : ℕ) (k : Known) → field_at m n ≡ Some k → w ≡ wire_of k.kind → IsOwnWire (field_at m n) w
 own_from m n w k at e = subst (λ (o : Option Known). IsOwnWire o w) (sym at) e
 
-pub sound_of : (m : Message) (text front rest : List ℕ) (f : Field) (k : Known) (s : SpellsField front f) → text ≡ front ++ rest → field_at m f.number ≡ Some k → wire_type f.payload ≡ wire_of k.kind → Sound m text f.number (wire_type f.payload) (s.value ++ rest)
+pub sound_of : (m : Message) (text front rest : List ℕ) (f : Field) (k : Known) (s : SpellsField front f) → text ≡ front ++ rest
+    → field_at m f.number ≡ Some k → wire_type f.payload ≡ wire_of k.kind → Sound m text f.number (wire_type f.payload) (s.value ++ rest)
 sound_of m text front rest f k s e at typed = record {
-  key = record { bytes = s.key; varint = s.keyed; small = type_small f.payload; split = e ∙ (ap (λ l. l ++ rest) s.split ∙ append_assoc s.key s.value rest) };
+  key = record {
+    bytes = s.key;
+    varint = s.keyed;
+    small = type_small f.payload;
+    split = e ∙ (ap (λ l. l ++ rest) s.split ∙ append_assoc s.key s.value rest);
+  };
   may = record { least = s.least; most = s.most; typed = wire_is f.payload (wire_type f.payload) refl };
   own = own_from m f.number (wire_type f.payload) k at typed;
   full = λ c v. value_apart (wire_type f.payload) f.payload s.value rest refl s.valued refl v;
@@ -110,11 +117,17 @@ sound_of m text front rest f k s e at typed = record {
 
 -- the faults behind a value that is spelled in full
 pub data Last : Message → List ℕ → ℕ → WireCause → Type 0 where
-  utf8 : {m : Message} {text : List ℕ} (front rest bytes : List ℕ) (n : ℕ) (k : Known) → SpellsField front (record { number = n; payload = Length bytes }) → field_at m n ≡ Some k → k.kind ≡ Text → text ≡ front ++ rest → Last m text 0 (BadUtf8 k.name)
-  reason : {m : Message} {text : List ℕ} (front rest : List ℕ) (n x : ℕ) (k : Known) → SpellsField front (record { number = n; payload = Varint x }) → field_at m n ≡ Some k → k.kind ≡ Reason → text ≡ front ++ rest → Last m text 0 BadEnum
-  inner : {m : Message} {text : List ℕ} (inside : Message) (front rest bytes : List ℕ) (n at : ℕ) (k : Known) (c : WireCause) → SpellsField (front ++ bytes) (record { number = n; payload = Length bytes }) → field_at m n ≡ Some k → k.kind ≡ Inner inside → Fault inside bytes at c → text ≡ front ++ bytes ++ rest → Last m text (length front + at) c
+  utf8 : {m : Message} {text : List ℕ} (front rest bytes : List ℕ) (n : ℕ) (k : Known)
+      → SpellsField front (record { number = n; payload = Length bytes }) → field_at m n ≡ Some k → k.kind ≡ Text → text ≡ front ++ rest
+      → Last m text 0 (BadUtf8 k.name)
+  reason : {m : Message} {text : List ℕ} (front rest : List ℕ) (n x : ℕ) (k : Known) → SpellsField front (record { number = n; payload = Varint x })
+      → field_at m n ≡ Some k → k.kind ≡ Reason → text ≡ front ++ rest → Last m text 0 BadEnum
+  inner : {m : Message} {text : List ℕ} (inside : Message) (front rest bytes : List ℕ) (n at : ℕ) (k : Known) (c : WireCause)
+      → SpellsField (front ++ bytes) (record { number = n; payload = Length bytes }) → field_at m n ≡ Some k → k.kind ≡ Inner inside
+      → Fault inside bytes at c → text ≡ front ++ bytes ++ rest → Last m text (length front + at) c
 
-pub sound_view : {m : Message} {text : List ℕ} {b : ℕ} {d : WireCause} (n w : ℕ) (a : List ℕ) → Sound m text n w a → FieldFault m text b d → Last m text b d
+pub sound_view : {m : Message} {text : List ℕ} {b : ℕ} {d : WireCause} (n w : ℕ) (a : List ℕ) → Sound m text n w a → FieldFault m text b d
+    → Last m text b d
 sound_view n w a s (fault.key some f) = absurd (no_key n w s.key f)
 sound_view {text = text} n w a s (fault.bad_key {bytes = bytes} rest number wire v small bad e) =
     let k = keys_same text n w number wire a rest s.key (record { bytes = bytes; varint = v; small = small; split = e }) in
@@ -125,34 +138,52 @@ sound_view {m = m} {text = text} n w a s (fault.wrong_wire {bytes = bytes} rest 
 sound_view {text = text} {d = d} n w a s (fault.value {bytes = bytes} {rest = rest} {number = number} {wire = wire} v may own f e) =
     let k = keys_same text n w number wire a rest s.key (record { bytes = bytes; varint = v; small = wire_small wire may.typed; split = e }) in
     absurd (s.full d (subst (λ (x : ℕ). ValueFault x a d) (sym k.wire) (subst (λ (l : List ℕ). ValueFault wire l d) (sym k.behind) f)))
-sound_view n w a s (fault.utf8 {front = front} {bytes = bytes} rest {number = number} {k = known} h at kind bad e) = utf8 front rest bytes number known h at kind e
-sound_view n w a s (fault.reason {front = front} rest {number = number} {n = x} {k = known} h at kind big e) = reason front rest number x known h at kind e
-sound_view n w a s (fault.inner {inside = inside} {bytes = bytes} front rest {number = number} {at = at} {k = known} {cause = c} h known_at kind f e) = inner inside front rest bytes number at known c h known_at kind f e
+sound_view n w a s (fault.utf8 {front = front} {bytes = bytes} rest {number = number} {k = known} h at kind bad e) = utf8 front rest bytes number
+    known h at kind e
+sound_view n w a s (fault.reason {front = front} rest {number = number} {n = x} {k = known} h at kind big e) = reason front rest number x known h at
+    kind e
+sound_view n w a s (fault.inner {inside = inside} {bytes = bytes} front rest {number = number} {at = at} {k = known} {cause = c} h known_at kind f e)
+    = inner inside front rest bytes number at known c h known_at kind f e
 
 pub kind_wire : (k : Known) (kind : Kind) (w : ℕ) → k.kind ≡ kind → w ≡ wire_of kind → w ≡ wire_of k.kind
 kind_wire k kind w e h = h ∙ ap wire_of (sym e)
 
 -- what stands behind the key of a fault of the content
 pub last_sound : {m : Message} {text : List ℕ} {b : ℕ} {d : WireCause} → Last m text b d → (n : ℕ) × (w : ℕ) × (a : List ℕ) × Sound m text n w a
-last_sound {m = m} {text = text} (utf8 front rest bytes n k s at kind e) = (n, 2, s.value ++ rest, sound_of m text front rest (record { number = n; payload = Length bytes }) k s e at (kind_wire k Text 2 kind refl))
-last_sound {m = m} {text = text} (reason front rest n x k s at kind e) = (n, 0, s.value ++ rest, sound_of m text front rest (record { number = n; payload = Varint x }) k s e at (kind_wire k Reason 0 kind refl))
-last_sound {m = m} {text = text} (inner inside front rest bytes n at k c s known_at kind f e) = (n, 2, s.value ++ rest, sound_of m text (front ++ bytes) rest (record { number = n; payload = Length bytes }) k s e known_at (kind_wire k (Inner inside) 2 kind refl))
+last_sound {m = m} {text = text} (utf8 front rest bytes n k s at kind e) =
+    (n, 2, s.value ++ rest, sound_of m text front rest (record { number = n; payload = Length bytes }) k s e at (kind_wire k Text 2 kind refl))
+last_sound {m = m} {text = text} (reason front rest n x k s at kind e) =
+    (n, 0, s.value ++ rest, sound_of m text front rest (record { number = n; payload = Varint x }) k s e at (kind_wire k Reason 0 kind refl))
+last_sound {m = m} {text = text} (inner inside front rest bytes n at k c s known_at kind f e) = (
+  n,
+  2,
+  s.value ++ rest,
+  sound_of m text (front ++ bytes) rest (record { number = n; payload = Length bytes }) k s e known_at
+      (kind_wire k (Inner inside) 2 kind refl),
+)
 
 -- the faults before that
 pub data Early : Message → List ℕ → ℕ → WireCause → Type 0 where
   keyless : {m : Message} {text : List ℕ} {c : WireCause} → VarintFault text c → Early m text 0 c
   refused : {m : Message} {text : List ℕ} (n w : ℕ) (a : List ℕ) → Key text n w a → (IsKey n w → ⊥) → Early m text 0 BadKey
-  wrong : {m : Message} {text : List ℕ} (n w : ℕ) (a : List ℕ) (k : Known) → Key text n w a → IsKey n w → field_at m n ≡ Some k → (w ≡ wire_of k.kind → ⊥) → Early m text 0 (WrongWire k.name)
-  valueless : {m : Message} {text : List ℕ} {c : WireCause} (n w : ℕ) (a : List ℕ) → Key text n w a → IsKey n w → IsOwnWire (field_at m n) w → ValueFault w a c → Early m text 0 c
+  wrong : {m : Message} {text : List ℕ} (n w : ℕ) (a : List ℕ) (k : Known) → Key text n w a → IsKey n w → field_at m n ≡ Some k
+      → (w ≡ wire_of k.kind → ⊥) → Early m text 0 (WrongWire k.name)
+  valueless : {m : Message} {text : List ℕ} {c : WireCause} (n w : ℕ) (a : List ℕ) → Key text n w a → IsKey n w → IsOwnWire (field_at m n) w
+      → ValueFault w a c → Early m text 0 c
 
 pub view : {m : Message} {text : List ℕ} {b : ℕ} {d : WireCause} → FieldFault m text b d → Early m text b d ⊎ Last m text b d
 view (fault.key some f) = inl (keyless f)
-view (fault.bad_key {bytes = bytes} rest number wire v small bad e) = inl (refused number wire rest (record { bytes = bytes; varint = v; small = small; split = e }) bad)
-view (fault.wrong_wire {bytes = bytes} rest {number = number} {wire = wire} {k = known} v may at other e) = inl (wrong number wire rest known (record { bytes = bytes; varint = v; small = wire_small wire may.typed; split = e }) may at other)
-view (fault.value {bytes = bytes} {rest = rest} {number = number} {wire = wire} v may own f e) = inl (valueless number wire rest (record { bytes = bytes; varint = v; small = wire_small wire may.typed; split = e }) may own f)
-view (fault.utf8 {front = front} {bytes = bytes} rest {number = number} {k = known} h at kind bad e) = inr (utf8 front rest bytes number known h at kind e)
+view (fault.bad_key {bytes = bytes} rest number wire v small bad e) = inl
+    (refused number wire rest (record { bytes = bytes; varint = v; small = small; split = e }) bad)
+view (fault.wrong_wire {bytes = bytes} rest {number = number} {wire = wire} {k = known} v may at other e) = inl
+    (wrong number wire rest known (record { bytes = bytes; varint = v; small = wire_small wire may.typed; split = e }) may at other)
+view (fault.value {bytes = bytes} {rest = rest} {number = number} {wire = wire} v may own f e) = inl
+    (valueless number wire rest (record { bytes = bytes; varint = v; small = wire_small wire may.typed; split = e }) may own f)
+view (fault.utf8 {front = front} {bytes = bytes} rest {number = number} {k = known} h at kind bad e) = inr
+    (utf8 front rest bytes number known h at kind e)
 view (fault.reason {front = front} rest {number = number} {n = x} {k = known} h at kind big e) = inr (reason front rest number x known h at kind e)
-view (fault.inner {inside = inside} {bytes = bytes} front rest {number = number} {at = at} {k = known} {cause = c} h known_at kind f e) = inr (inner inside front rest bytes number at known c h known_at kind f e)
+view (fault.inner {inside = inside} {bytes = bytes} front rest {number = number} {at = at} {k = known} {cause = c} h known_at kind f e) = inr
+    (inner inside front rest bytes number at known c h known_at kind f e)
 
 pub record Same (a b : ℕ) (c d : WireCause) : Type 0 where
   pub at : a ≡ b
@@ -162,8 +193,10 @@ pub record Same (a b : ℕ) (c d : WireCause) : Type 0 where
 pub key_clash : (text : List ℕ) (n w m v : ℕ) (a b : List ℕ) → Key text n w a → Key text m v b → (IsKey n w → ⊥) → IsKey m v → ⊥
 key_clash text n w m v a b h k bad may = let s = keys_same text n w m v a b h k in bad (key_move n m w v s.number s.wire may)
 
-pub own_clash : (m : Message) (text : List ℕ) (n w o v : ℕ) (a b : List ℕ) (k : Known) → Key text n w a → Key text o v b → field_at m n ≡ Some k → (w ≡ wire_of k.kind → ⊥) → IsOwnWire (field_at m o) v → ⊥
-own_clash m text n w o v a b k h j at other own = let s = keys_same text n w o v a b h j in other (own_at m n w k at (own_move m n o w v s.number s.wire own))
+pub own_clash : (m : Message) (text : List ℕ) (n w o v : ℕ) (a b : List ℕ) (k : Known) → Key text n w a → Key text o v b → field_at m n ≡ Some k
+    → (w ≡ wire_of k.kind → ⊥) → IsOwnWire (field_at m o) v → ⊥
+own_clash m text n w o v a b k h j at other own = let s = keys_same text n w o v a b h j in other
+    (own_at m n w k at (own_move m n o w v s.number s.wire own))
 
 pub one_known : (m : Message) (n o : ℕ) (k j : Known) → n ≡ o → field_at m n ≡ Some k → field_at m o ≡ Some j → k ≡ j
 one_known m n o k j e x y = let w : field_at m n ≡ field_at m o = ap (λ (z : ℕ). field_at m z) e in cc
@@ -182,10 +215,12 @@ early_one {text = text} (wrong n w a j k may at other) (refused n' w' a' k' bad)
 early_one {m = m} {text = text} (wrong n w a j k may at other) (wrong n' w' a' j' k' may' at' other') =
     let s = keys_same text n w n' w' a a' k k' in
     record { at = refl; cause = ap (λ (x : Known). WrongWire x.name) (one_known m n n' j j' s.number at at') }
-early_one {m = m} {text = text} (wrong n w a j k may at other) (valueless n' w' a' k' may' own g) = absurd (own_clash m text n w n' w' a a' j k k' at other own)
+early_one {m = m} {text = text} (wrong n w a j k may at other) (valueless n' w' a' k' may' own g) = absurd
+    (own_clash m text n w n' w' a a' j k k' at other own)
 early_one (valueless n w a k may own f) (keyless g) = absurd (no_key n w k g)
 early_one {text = text} (valueless n w a k may own f) (refused n' w' a' k' bad) = absurd (key_clash text n' w' n w a' a k' k bad may)
-early_one {m = m} {text = text} (valueless n w a k may own f) (wrong n' w' a' j k' may' at other) = absurd (own_clash m text n' w' n w a' a j k' k at other own)
+early_one {m = m} {text = text} (valueless n w a k may own f) (wrong n' w' a' j k' may' at other) = absurd
+    (own_clash m text n' w' n w a' a j k' k at other own)
 early_one {text = text} {d = d} (valueless n w a k may own f) (valueless n' w' a' k' may' own' g) =
     let s = keys_same text n w n' w' a a' k k' in
     record { at = refl; cause = one_value_fault w w' s.wire f (subst (λ (l : List ℕ). ValueFault w' l d) (sym s.behind) g) }

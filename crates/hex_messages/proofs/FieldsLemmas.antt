@@ -3,7 +3,8 @@ use Rattle.std.proofs.Common.{◌≡◌, ℕ, List, [], ◌∷◌, ◌++◌, ref
 use Rattle.std.proofs.lemmas.List.{append_assoc, append-nil}
 use Rattle.hex_messages.specs.Fields.{Field, Fields, none, more, SpellsField}
 
-pub fields_append : {front rest : List ℕ} {fields others : List Field} → Fields front fields → Fields rest others → Fields (front ++ rest) (fields ++ others)
+pub fields_append : {front rest : List ℕ} {fields others : List Field} → Fields front fields → Fields rest others
+    → Fields (front ++ rest) (fields ++ others)
 fields_append none h = h
 fields_append {rest = last} (more {front = front} {rest = rest} first others split) h =
     more first (fields_append others h) (ap (λ l. l ++ last) split ∙ append_assoc front rest last)
@@ -17,14 +18,16 @@ pub record At (text rest : List ℕ) (fields : List Field) : Type 0 where
 pub at_start : (text : List ℕ) → At text text []
 at_start text = record { front = []; spelled = none; split = refl }
 
-pub at_append : {text rest last next : List ℕ} {fields others : List Field} → At text rest fields → Fields last others → rest ≡ last ++ next → At text next (fields ++ others)
+pub at_append : {text rest last next : List ℕ} {fields others : List Field} → At text rest fields → Fields last others → rest ≡ last ++ next
+    → At text next (fields ++ others)
 at_append {last = last} {next = next} a h e = record {
   front = a.front ++ last;
   spelled = fields_append a.spelled h;
   split = a.split ∙ (ap (λ l. a.front ++ l) e ∙ sym (append_assoc a.front last next));
 }
 
-pub at_push : {text rest last next : List ℕ} {fields : List Field} {f : Field} → At text rest fields → SpellsField last f → rest ≡ last ++ next → At text next (fields ++ f ∷ [])
+pub at_push : {text rest last next : List ℕ} {fields : List Field} {f : Field} → At text rest fields → SpellsField last f → rest ≡ last ++ next
+    → At text next (fields ++ f ∷ [])
 at_push {last = last} a s e = at_append a (more s none (sym (append-nil last))) e
 
 pub at_end : {text rest : List ℕ} {fields : List Field} → At text rest fields → rest ≡ [] → Fields text fields

@@ -27,11 +27,13 @@ pub record Behind (rest : List ℕ) (all fields : List Field) : Type 0 where
 behind_step : (a b : Field) (fs all others : List Field) → a ≡ b → all ≡ fs ++ others → a ∷ all ≡ (b ∷ fs) ++ others
 behind_step a b fs all others e h = cc
 
-behind_front : {text front : List ℕ} {all fs : List Field} (rest : List ℕ) → Fields text all → Fields front fs → text ≡ front ++ rest → Behind rest all fs
+behind_front : {text front : List ℕ} {all fs : List Field} (rest : List ℕ) → Fields text all → Fields front fs → text ≡ front ++ rest
+    → Behind rest all fs
 behind_front {all = all} rest h fields.none e = record { others = all; spelled = subst (λ l. Fields l all) e h; split = refl }
 behind_front rest fields.none (fields.more {front = f} {rest = r} {field = a} s others split) e =
     absurd (not_empty a f (r ++ rest) s (sym (append_assoc f r rest) ∙ (ap (λ l. l ++ rest) (sym split) ∙ sym e)))
-behind_front rest (fields.more {front = f} {rest = r} {field = a} {fields = all} s others split) (fields.more {front = h} {rest = t} {field = b} {fields = fs} k further kept) e =
+behind_front rest (fields.more {front = f} {rest = r} {field = a} {fields = all} s others split)
+    (fields.more {front = h} {rest = t} {field = b} {fields = fs} k further kept) e =
     let o = one_field a b f h r (t ++ rest) s k (sym split ∙ (e ∙ (ap (λ l. l ++ rest) kept ∙ append_assoc h t rest))) in
     let more = behind_front rest others further o.rest in
     record { others = more.others; spelled = more.spelled; split = behind_step a b fs all more.others o.field more.split }
@@ -55,30 +57,38 @@ pub record Passed (number : ℕ) (text rest : List ℕ) : Type 0 where
 pub passed_start : (number : ℕ) (text : List ℕ) → Passed number text text
 passed_start number text = record { fields = []; at = at_start text; apart = refl }
 
-pub passed_on : (m : Message) (number : ℕ) (text rest after : List ℕ) (wire : Wire) → Passed number text rest → BeginsField m rest (field_of wire) after → (wire.number ≡ number → ⊥) → Passed number text after
+pub passed_on : (m : Message) (number : ℕ) (text rest after : List ℕ) (wire : Wire) → Passed number text rest
+    → BeginsField m rest (field_of wire) after → (wire.number ≡ number → ⊥) → Passed number text after
 passed_on m number text rest after wire p b other = record {
   fields = p.fields ++ field_of wire ∷ [];
   at = at_push p.at b.spelled b.split;
   apart = has_append number p.fields (field_of wire ∷ []) ∙ rw (p.apart, ne_eqb wire.number number other) refl;
 }
 
-pub passed_found : (m : Message) (number : ℕ) (text rest after : List ℕ) (wire : Wire) → Passed number text rest → BeginsField m rest (field_of wire) after → wire.number ≡ number → Finds number text (payload_of wire.value) after
+pub passed_found : (m : Message) (number : ℕ) (text rest after : List ℕ) (wire : Wire) → Passed number text rest
+    → BeginsField m rest (field_of wire) after → wire.number ≡ number → Finds number text (payload_of wire.value) after
 passed_found m number text rest after wire p b e =
     let at : At text after (p.fields ++ field_of wire ∷ []) = at_push p.at b.spelled b.split in
-    let same : p.fields ++ field_of wire ∷ [] ≡ p.fields ++ record { number = number; payload = payload_of wire.value } ∷ [] = ap (λ n. p.fields ++ record { number = n; payload = payload_of wire.value } ∷ []) e in
+    let same : p.fields ++ field_of wire ∷ [] ≡ p.fields ++ record {
+      number = number;
+      payload = payload_of wire.value;
+    } ∷ [] = ap (λ n. p.fields ++ record { number = n; payload = payload_of wire.value } ∷ []) e in
     record { front = at.front; others = p.fields; apart = p.apart; spelled = subst (λ l. Fields at.front l) same at.spelled; split = at.split }
 
-pub passed_end : (m : Message) (number : ℕ) (text rest : List ℕ) → Passed number text rest → rest ≡ [] → InFields m text (λ fields. has number fields ≡ false)
+pub passed_end : (m : Message) (number : ℕ) (text rest : List ℕ) → Passed number text rest → rest ≡ []
+    → InFields m text (λ fields. has number fields ≡ false)
 passed_end m number text rest p e = λ all s g. subst (λ l. has number l ≡ false) (one_fields p.fields all (at_end p.at e) s) p.apart
 
 -- where no field begins, a message that may stand has ended
-pub passed_stuck : (m : Message) (number : ℕ) (text rest : List ℕ) (cause : WireCause) → Passed number text rest → rest ≢ [] → FieldFault m rest 0 cause → InFields m text (λ fields. has number fields ≡ false)
+pub passed_stuck : (m : Message) (number : ℕ) (text rest : List ℕ) (cause : WireCause) → Passed number text rest → rest ≢ []
+    → FieldFault m rest 0 cause → InFields m text (λ fields. has number fields ≡ false)
 passed_stuck m number text rest cause p some fault = λ all s g.
     let at = p.at in
     absurd (⊎_elim (λ e. some e) (λ x. field_apart x fault) (next_field rest s g at.spelled at.split))
 
 -- where a field was found, and the fields up to it
-pub found_at : {number : ℕ} {text rest after : List ℕ} {p : Payload} {fields : List Field} → At text rest fields → (f : Finds number rest p after) → At text after (fields ++ (f.others ++ record { number = number; payload = p } ∷ []))
+pub found_at : {number : ℕ} {text rest after : List ℕ} {p : Payload} {fields : List Field} → At text rest fields → (f : Finds number rest p after)
+    → At text after (fields ++ (f.others ++ record { number = number; payload = p } ∷ []))
 found_at a f = at_append a f.spelled f.split
 
 -- the last value with a number, as far as the text was passed
@@ -90,20 +100,24 @@ pub record LastSoFar (number : ℕ) (text rest : List ℕ) (value : Option Paylo
 pub last_start : (number : ℕ) (text : List ℕ) → LastSoFar number text text None
 last_start number text = record { fields = []; at = at_start text; held = refl }
 
-pub last_more : (number : ℕ) (text rest after : List ℕ) (value : Option Payload) (p : Payload) → LastSoFar number text rest value → Finds number rest p after → LastSoFar number text after (Some p)
+pub last_more : (number : ℕ) (text rest after : List ℕ) (value : Option Payload) (p : Payload) → LastSoFar number text rest value
+    → Finds number rest p after → LastSoFar number text after (Some p)
 last_more number text rest after value p l f =
     let found = record { number = number; payload = p } ∷ [] in
     record {
       fields = l.fields ++ (f.others ++ found);
       at = found_at l.at f;
-      held = sym (last_append (λ x. Some x) number l.fields (f.others ++ found) ∙ ap (λ o. later (last_value number l.fields) o) (last_found number p f.others));
+      held = sym (last_append (λ x. Some x) number l.fields (f.others ++ found)
+          ∙ ap (λ o. later (last_value number l.fields) o) (last_found number p f.others));
     }
 
-pub last_end : (m : Message) (number : ℕ) (text rest : List ℕ) (value : Option Payload) → LastSoFar number text rest value → InFields m rest (λ fields. has number fields ≡ false) → InFields m text (λ fields. value ≡ last_value number fields)
+pub last_end : (m : Message) (number : ℕ) (text rest : List ℕ) (value : Option Payload) → LastSoFar number text rest value
+    → InFields m rest (λ fields. has number fields ≡ false) → InFields m text (λ fields. value ≡ last_value number fields)
 last_end m number text rest value l none = λ all s g.
     let b = behind s l.at in
     let h : has number b.others ≡ false = none b.others b.spelled (good_behind l.fields b.others (subst (λ x. AllGood m x) b.split g)) in
-    let e : last_value number (l.fields ++ b.others) ≡ last_value number l.fields = last_append (λ x. Some x) number l.fields b.others ∙ ap (λ o. later (last_value number l.fields) o) (last_apart (λ x. Some x) number b.others h) in
+    let e : last_value number (l.fields ++ b.others) ≡ last_value number l.fields = last_append (λ x. Some x) number l.fields b.others
+    ∙ ap (λ o. later (last_value number l.fields) o) (last_apart (λ x. Some x) number b.others h) in
     l.held ∙ sym (ap (last_value number) b.split ∙ e)
 
 last_field : (fs : List Field) (f : Field) → [] ≡ fs ++ f ∷ [] → ⊥

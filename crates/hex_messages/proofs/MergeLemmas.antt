@@ -34,7 +34,13 @@ pub record Parts (fields others merged : List Field) : Type 0 where
   pub split : merged ≡ first ++ second
 
 parts_from : {all merged : List Field} (fields others : List Field) → all ≡ fields ++ others → Merged all merged → Parts fields others merged
-parts_from {merged = merged} [] others e h = record { first = []; second = merged; front = good.none; behind = subst (λ l. Merged l merged) e h; split = refl }
+parts_from {merged = merged} [] others e h = record {
+  first = [];
+  second = merged;
+  front = good.none;
+  behind = subst (λ l. Merged l merged) e h;
+  split = refl;
+}
 parts_from (f ∷ fields) others e good.none = absurd cc
 parts_from (f ∷ fields) others e (good.retired {bytes = bytes} {inner = inner} {more = more} {fields = rest} s h) =
     let same : record { number = retired_number; payload = Length bytes } ≡ f = cc in
@@ -49,7 +55,13 @@ parts_from (f ∷ fields) others e (good.retired {bytes = bytes} {inner = inner}
 parts_from (f ∷ fields) others e (good.other {field = g} apart h) =
     let same : g ≡ f = cc in
     let p = parts_from fields others (cc) h in
-    record { first = p.first; second = p.second; front = good.other (λ q. apart (ap (λ (x : Field). x.number) same ∙ q)) p.front; behind = p.behind; split = p.split }
+    record {
+      first = p.first;
+      second = p.second;
+      front = good.other (λ q. apart (ap (λ (x : Field). x.number) same ∙ q)) p.front;
+      behind = p.behind;
+      split = p.split;
+    }
 
 pub parts : {merged : List Field} (fields others : List Field) → Merged (fields ++ others) merged → Parts fields others merged
 parts fields others h = parts_from fields others refl h
@@ -76,7 +88,8 @@ record Single (bytes : List ℕ) (merged : List Field) : Type 0 where
   spelled : Fields bytes inner
   same : merged ≡ inner
 
-single_from : {all merged : List Field} (bytes : List ℕ) → all ≡ record { number = retired_number; payload = Length bytes } ∷ [] → Merged all merged → Single bytes merged
+single_from : {all merged : List Field} (bytes : List ℕ) → all ≡ record { number = retired_number; payload = Length bytes } ∷ [] → Merged all merged
+    → Single bytes merged
 single_from bytes e good.none = absurd cc
 single_from bytes e (good.retired {bytes = b} {inner = inner} {more = more} {fields = rest} s h) =
     let same : b ≡ bytes = ap first_bytes e in
@@ -97,7 +110,8 @@ inner_length k m p e (good.inner {m = other} {bytes = bytes} h) =
     (bytes, refl, subst (λ x. IsWhole x bytes) same h)
 
 -- a message within, at a known number
-pub inner_at : {m : Message} {fs : List Field} (inside : Message) (n : ℕ) (k : Known) (f : Field) → field_at m n ≡ Some k → k.kind ≡ Inner inside → f.number ≡ n → AllGood m (f ∷ fs) → (bytes : List ℕ) × (f.payload ≡ Length bytes) × IsWhole inside bytes
+pub inner_at : {m : Message} {fs : List Field} (inside : Message) (n : ℕ) (k : Known) (f : Field) → field_at m n ≡ Some k → k.kind ≡ Inner inside
+    → f.number ≡ n → AllGood m (f ∷ fs) → (bytes : List ℕ) × (f.payload ≡ Length bytes) × IsWhole inside bytes
 inner_at inside n k f at kind e (good.known {m = m} {k = other} known v all) =
     let w : field_at m f.number ≡ field_at m n = ap (λ (x : ℕ). field_at m x) e in
     let same : other ≡ k = cc in
@@ -109,7 +123,8 @@ inner_at inside n k f at kind e (good.unknown {m = m} known all) =
 abbrev as_field : ℕ → Payload → Field
 as_field n p = record { number = n; payload = p }
 
-field_is : (f : Field) (bytes : List ℕ) → f.number ≡ retired_number → f.payload ≡ Length bytes → f ≡ record { number = retired_number; payload = Length bytes }
+field_is : (f : Field) (bytes : List ℕ) → f.number ≡ retired_number → f.payload ≡ Length bytes
+    → f ≡ record { number = retired_number; payload = Length bytes }
 field_is f bytes e p = ap (λ (n : ℕ). as_field n f.payload) e ∙ ap (λ (q : Payload). as_field retired_number q) p
 
 length_same : (a b : List ℕ) → Length a ≡ Length b → a ≡ b
@@ -118,7 +133,8 @@ length_same a b e = cc
 abbrev retired_known : Known
 retired_known = record { name = name.Retired; kind = Inner message.Retired }
 
-merge_step : {fields merged : List Field} (f : Field) (t : Bool) → eqb f.number retired_number ≡ t → AllGood message.Release (f ∷ fields) → Merged fields merged → (more : List Field) × Merged (f ∷ fields) more
+merge_step : {fields merged : List Field} (f : Field) (t : Bool) → eqb f.number retired_number ≡ t → AllGood message.Release (f ∷ fields)
+    → Merged fields merged → (more : List Field) × Merged (f ∷ fields) more
 merge_step {merged = merged} f false e g h = (merged, good.other (λ q. absurd (grind (arith, nat_tests))) h)
 merge_step {fields = fields} {merged = merged} f true e g h =
     let n : f.number ≡ retired_number = eqb-true f.number retired_number e in
@@ -146,7 +162,9 @@ none_merged number e h = let m = merged_apart (ap (has retired_number) e) h in a
 pub merged_start : (number : ℕ) (text : List ℕ) → MergedSoFar number text text None
 merged_start number text = record { fields = []; at = at_start text; held = λ g merged h. none_merged number refl h }
 
-pub merged_more : (number : ℕ) (text rest after bytes : List ℕ) (value inside : Option Payload) (p : Payload) → MergedSoFar number text rest value → Finds retired_number rest p after → (wire_type p ≡ 2 → p ≡ Length bytes) → InFields message.Retired bytes (λ fields. inside ≡ last_value number fields) → MergedSoFar number text after (later value inside)
+pub merged_more : (number : ℕ) (text rest after bytes : List ℕ) (value inside : Option Payload) (p : Payload) → MergedSoFar number text rest value
+    → Finds retired_number rest p after → (wire_type p ≡ 2 → p ≡ Length bytes)
+    → InFields message.Retired bytes (λ fields. inside ≡ last_value number fields) → MergedSoFar number text after (later value inside)
 merged_more number text rest after bytes value inside p l f is h = record {
   fields = l.fields ++ (f.others ++ record { number = retired_number; payload = p } ∷ []);
   at = found_at l.at f;
@@ -162,15 +180,18 @@ merged_more number text rest after bytes value inside p l f is h = record {
       let none = merged_apart f.apart y.front in
       let same : i.0 ≡ bytes = length_same i.0 bytes (sym i.1 ∙ e) in
       let w = whole_parts (subst (λ b. IsWhole message.Retired b) same i.2) in
-      let good_inner : AllGood message.Retired s.inner = subst (λ q. AllGood message.Retired q) (one_fields w.fields s.inner w.spelled s.spelled) w.good in
+      let good_inner : AllGood message.Retired s.inner = subst (λ q. AllGood message.Retired q) (one_fields w.fields s.inner w.spelled s.spelled)
+      w.good in
       let v : value ≡ last_value number x.first = l.held (good_front l.fields (f.others ++ found) g) x.first x.front in
       let u : inside ≡ last_value number s.inner = h s.inner s.spelled good_inner in
       let m : merged ≡ x.first ++ s.inner = x.split ∙ ap (λ q. x.first ++ q) (y.split ∙ (ap (λ q. q ++ y.second) none ∙ s.same)) in
-      let joined : last_value number merged ≡ later (last_value number x.first) (last_value number s.inner) = ap (last_value number) m ∙ last_append (λ q. Some q) number x.first s.inner in
+      let joined : last_value number merged ≡ later (last_value number x.first) (last_value number s.inner) = ap (last_value number) m
+      ∙ last_append (λ q. Some q) number x.first s.inner in
       ap (λ q. later q inside) v ∙ (ap (λ q. later (last_value number x.first) q) u ∙ sym joined);
 }
 
-pub merged_end : (number : ℕ) (text rest : List ℕ) (value : Option Payload) → MergedSoFar number text rest value → InFields message.Release rest (λ fields. has retired_number fields ≡ false) → InMerged text (λ fields merged. value ≡ last_value number merged)
+pub merged_end : (number : ℕ) (text rest : List ℕ) (value : Option Payload) → MergedSoFar number text rest value
+    → InFields message.Release rest (λ fields. has retired_number fields ≡ false) → InMerged text (λ fields merged. value ≡ last_value number merged)
 merged_end number text rest value l none = λ all merged s g h.
     let b = behind s l.at in
     let g2 : AllGood message.Release (l.fields ++ b.others) = subst (λ x. AllGood message.Release x) b.split g in

@@ -33,7 +33,8 @@ fixed64_of f g e = cc
 
 one_length : (f g r s a b : List ℕ) → SpellsPayload f (Length a) → SpellsPayload g (Length b) → f ++ r ≡ g ++ s → Same (Length a) (Length b) f g r s
 one_length f g r s a b h k e =
-    let whole : h.0 ++ (a ++ r) ≡ k.0 ++ (b ++ s) = sym (append_assoc h.0 a r) ∙ (ap (λ l. l ++ r) (sym h.2) ∙ (e ∙ (ap (λ l. l ++ s) k.2 ∙ append_assoc k.0 b s))) in
+    let whole : h.0 ++ (a ++ r) ≡ k.0 ++ (b ++ s) = sym (append_assoc h.0 a r)
+    ∙ (ap (λ l. l ++ r) (sym h.2) ∙ (e ∙ (ap (λ l. l ++ s) k.2 ∙ append_assoc k.0 b s))) in
     let v = one_varint h.0 k.0 (a ++ r) (b ++ s) (length a) (length b) h.1 k.1 whole in
     let w = same_fronts a b r s v.1 v.2 in
     let x : h.0 ≡ k.0 = v.0 in
@@ -42,7 +43,8 @@ one_length f g r s a b h k e =
     let q : g ≡ k.0 ++ b = k.2 in
     record { payload = cc; front = cc; rest = w.1 }
 
-pub one_payload : (p q : Payload) (f g r s : List ℕ) → wire_type p ≡ wire_type q → SpellsPayload f p → SpellsPayload g q → f ++ r ≡ g ++ s → Same p q f g r s
+pub one_payload : (p q : Payload) (f g r s : List ℕ) → wire_type p ≡ wire_type q → SpellsPayload f p → SpellsPayload g q → f ++ r ≡ g ++ s
+    → Same p q f g r s
 one_payload (Varint n) (Varint m) f g r s t a b e =
     let v = one_varint f g r s n m a b e in
     let x : n ≡ m = v.1 in
@@ -95,8 +97,10 @@ pub record SameField (a b : Field) (f g r s : List ℕ) : Type 0 where
 
 pub one_field : (a b : Field) (f g r s : List ℕ) → SpellsField f a → SpellsField g b → f ++ r ≡ g ++ s → SameField a b f g r s
 one_field a b f g r s h k e =
-    let whole : h.key ++ (h.value ++ r) ≡ k.key ++ (k.value ++ s) = sym (append_assoc h.key h.value r) ∙ (ap (λ l. l ++ r) (sym h.split) ∙ (e ∙ (ap (λ l. l ++ s) k.split ∙ append_assoc k.key k.value s))) in
-    let v = one_varint h.key k.key (h.value ++ r) (k.value ++ s) (a.number * 8 + wire_type a.payload) (b.number * 8 + wire_type b.payload) h.keyed k.keyed whole in
+    let whole : h.key ++ (h.value ++ r) ≡ k.key ++ (k.value ++ s) = sym (append_assoc h.key h.value r)
+    ∙ (ap (λ l. l ++ r) (sym h.split) ∙ (e ∙ (ap (λ l. l ++ s) k.split ∙ append_assoc k.key k.value s))) in
+    let v = one_varint h.key k.key (h.value ++ r) (k.value ++ s) (a.number * 8 + wire_type a.payload) (b.number * 8 + wire_type b.payload) h.keyed
+    k.keyed whole in
     let n = key_apart a.number b.number (wire_type a.payload) (wire_type b.payload) (type_small a.payload) (type_small b.payload) v.1 in
     let p = one_payload a.payload b.payload h.value k.value r s n.1 h.valued k.valued v.2 in
     let x : h.key ≡ k.key = v.0 in
@@ -117,7 +121,8 @@ fields_from : {text other : List ℕ} {fs gs : List Field} → text ≡ other �
 fields_from e none none = refl
 fields_from e none (more {front = g} {rest = s} {field = b} k others split) = absurd (not_empty b g s k (sym split ∙ sym e))
 fields_from e (more {front = f} {rest = r} {field = a} h others split) none = absurd (not_empty a f r h (sym split ∙ e))
-fields_from e (more {front = f} {rest = r} {field = a} {fields = fs} h others split) (more {front = g} {rest = s} {field = b} {fields = gs} k further other_split) =
+fields_from e (more {front = f} {rest = r} {field = a} {fields = fs} h others split)
+    (more {front = g} {rest = s} {field = b} {fields = gs} k further other_split) =
     let w = one_field a b f g r s h k (sym split ∙ (e ∙ other_split)) in
     let x : a ≡ b = w.field in
     let y : fs ≡ gs = fields_from w.rest others further in
@@ -130,7 +135,8 @@ one_fields fs gs h k = fields_from refl h k
 whole_good : (bytes : List ℕ) (fields : List Field) → IsWhole message.Retired bytes → Fields bytes fields → AllGood message.Retired fields
 whole_good bytes fields (good.whole {fields = own} s g m) h = subst (λ l. AllGood message.Retired l) (one_fields own fields s h) g
 
-retired_good : (bytes : List ℕ) (fields : List Field) → IsOf (Inner message.Retired) (Length bytes) → Fields bytes fields → AllGood message.Retired fields
+retired_good : (bytes : List ℕ) (fields : List Field) → IsOf (Inner message.Retired) (Length bytes) → Fields bytes fields
+    → AllGood message.Retired fields
 retired_good bytes fields (good.inner w) s = whole_good bytes fields w s
 
 abbrev kind_in : Option Known → Kind
@@ -140,12 +146,14 @@ kind_in (Some k) = k.kind
 kind_of : (k : Known) → field_at message.Release retired_number ≡ Some k → k.kind ≡ Inner message.Retired
 kind_of k e = sym (ap kind_in e)
 
-inner_good : (k : Known) (bytes : List ℕ) (fields : List Field) → field_at message.Release retired_number ≡ Some k → IsOf k.kind (Length bytes) → Fields bytes fields → AllGood message.Retired fields
+inner_good : (k : Known) (bytes : List ℕ) (fields : List Field) → field_at message.Release retired_number ≡ Some k → IsOf k.kind (Length bytes)
+    → Fields bytes fields → AllGood message.Retired fields
 inner_good k bytes fields e h s = retired_good bytes fields (subst (λ x. IsOf x (Length bytes)) (kind_of k e) h) s
 
 pub merged_good : {fields merged : List Field} → AllGood message.Release fields → Merged fields merged → AllGood message.Retired merged
 merged_good g good.none = good.none
-merged_good (good.known {k = k} e v all) (good.retired {bytes = bytes} {inner = inside} {more = others} s h) = good_append others (inner_good k bytes inside e v s) (merged_good all h)
+merged_good (good.known {k = k} e v all) (good.retired {bytes = bytes} {inner = inside} {more = others} s h) = good_append others
+    (inner_good k bytes inside e v s) (merged_good all h)
 merged_good (good.unknown e all) (good.retired s h) = absurd cc
 merged_good (good.known e v all) (good.other apart h) = merged_good all h
 merged_good (good.unknown e all) (good.other apart h) = merged_good all h

@@ -32,7 +32,8 @@ rest_whole : (x z : ℕ) (xs : List ℕ) → is_whole (x ∷ z ∷ xs) ≡ true 
 rest_whole x z xs h = grind (arith, nat_tests)
 
 -- digits of one number, and as many
-one_digits : (xs ys : List ℕ) → AreBytes xs → AreBytes ys → is_whole xs ≡ true → is_whole ys ≡ true → length xs ≡ length ys → number_of xs ≡ number_of ys → xs ≡ ys
+one_digits : (xs ys : List ℕ) → AreBytes xs → AreBytes ys → is_whole xs ≡ true → is_whole ys ≡ true → length xs ≡ length ys
+    → number_of xs ≡ number_of ys → xs ≡ ys
 one_digits [] ys a b h k l e = absurd cc
 one_digits (x ∷ xs) [] a b h k l e = absurd cc
 one_digits (x ∷ []) (y ∷ []) a b h k l e =
@@ -71,14 +72,16 @@ one_texts : {xs ys : List ℕ} {fs gs : List Field} → fs ≡ gs → WritesFiel
 one_texts e none none = refl
 one_texts e none (more k others split) = absurd cc
 one_texts e (more h others split) none = absurd cc
-one_texts e (more {front = f} {rest = r} {field = a} {fields = fs} h others split) (more {front = g} {rest = s} {field = b} {fields = gs} k further kept) =
+one_texts e (more {front = f} {rest = r} {field = a} {fields = fs} h others split)
+    (more {front = g} {rest = s} {field = b} {fields = gs} k further kept) =
     let same : b ≡ a = cc in
     let rest : fs ≡ gs = cc in
     let x : f ≡ g = one_text a f g h (subst (λ (z : Field). WritesField g z) same k) in
     let y : r ≡ s = one_texts rest others further in
     split ∙ (ap (λ l. l ++ r) x ∙ (ap (λ l. g ++ l) y ∙ sym kept))
 
-each_text : {A : Type 0} (R : List ℕ → A → Type 0) (xs ys : List (List ℕ)) (items : List A) → ((x y : List ℕ) (a : A) → R x a → R y a → x ≡ y) → Each R xs items → Each R ys items → xs ≡ ys
+each_text : {A : Type 0} (R : List ℕ → A → Type 0) (xs ys : List (List ℕ)) (items : List A) → ((x y : List ℕ) (a : A) → R x a → R y a → x ≡ y)
+    → Each R xs items → Each R ys items → xs ≡ ys
 each_text R [] [] items one h k = refl
 each_text R [] (y ∷ ys) [] one h k = absurd k
 each_text R [] (y ∷ ys) (a ∷ items) one h k = absurd h
@@ -104,11 +107,14 @@ retired_text (Some x) (Some y) (Some r) h k = let s : x ≡ y = one_texts refl h
 
 release_text : (x y : List ℕ) (r : Release) → WritesRelease x r → WritesRelease y r → x ≡ y
 release_text x y r h k =
-    let d : h.dependencies ≡ k.dependencies = each_text WritesDependency h.dependencies k.dependencies r.dependencies dependency_text h.dependencies_written k.dependencies_written in
+    let d : h.dependencies ≡ k.dependencies = each_text WritesDependency h.dependencies k.dependencies r.dependencies dependency_text
+    h.dependencies_written k.dependencies_written in
     let t : h.retired ≡ k.retired = retired_text h.retired k.retired r.retired h.retired_written k.retired_written in
-    one_texts (ap (λ (l : List (List ℕ)). release_fields r l h.retired) d ∙ ap (λ (o : Option (List ℕ)). release_fields r k.dependencies o) t) h.fields_written k.fields_written
+    one_texts (ap (λ (l : List (List ℕ)). release_fields r l h.retired) d ∙ ap (λ (o : Option (List ℕ)). release_fields r k.dependencies o) t)
+    h.fields_written k.fields_written
 
 pub one_spelling : (p : Package) (x y : List ℕ) → Writes x p → Writes y p → x ≡ y
 one_spelling p x y h k =
     let d : h.releases ≡ k.releases = each_text WritesRelease h.releases k.releases p.releases release_text h.releases_written k.releases_written in
-    one_texts (ap (λ (l : List (List ℕ)). map (bytes_field 1) l ++ bytes_field 2 p.name ∷ bytes_field 3 p.repository ∷ []) d) h.fields_written k.fields_written
+    one_texts (ap (λ (l : List (List ℕ)). map (bytes_field 1) l ++ bytes_field 2 p.name ∷ bytes_field 3 p.repository ∷ []) d) h.fields_written
+    k.fields_written

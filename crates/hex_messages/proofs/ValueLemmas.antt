@@ -19,7 +19,8 @@ later_assoc : {A : Type 0} (a b c : Option A) → later a (later b c) ≡ later 
 later_assoc a b None = refl
 later_assoc a b (Some c) = refl
 
-pub last_append : {A : Type 0} (v : Payload → Option A) (n : ℕ) (fields others : List Field) → last_of v n (fields ++ others) ≡ later (last_of v n fields) (last_of v n others)
+pub last_append : {A : Type 0} (v : Payload → Option A) (n : ℕ) (fields others : List Field)
+    → last_of v n (fields ++ others) ≡ later (last_of v n fields) (last_of v n others)
 last_append v n [] others = sym (later_none (last_of v n others))
 last_append v n (f ∷ fields) others =
     ap (λ o. later (cond (eqb f.number n) (v f.payload) None) o) (last_append v n fields others)
@@ -59,7 +60,8 @@ same_test n = grind (arith, nat_tests)
 pub last_found : (n : ℕ) (p : Payload) (fields : List Field) → last_value n (fields ++ record { number = n; payload = p } ∷ []) ≡ Some p
 last_found n p fields = last_append (λ x. Some x) n fields (record { number = n; payload = p } ∷ []) ∙ rw (same_test n) refl
 
-pub all_found : (n : ℕ) (bytes : List ℕ) (fields : List Field) → all_bytes n (fields ++ record { number = n; payload = Length bytes } ∷ []) ≡ all_bytes n fields ++ bytes ∷ []
+pub all_found : (n : ℕ) (bytes : List ℕ) (fields : List Field)
+    → all_bytes n (fields ++ record { number = n; payload = Length bytes } ∷ []) ≡ all_bytes n fields ++ bytes ∷ []
 all_found n bytes fields = all_append n fields (record { number = n; payload = Length bytes } ∷ []) ∙ rw (same_test n) refl
 
 value_step : (t : Bool) (p : Payload) (o : Option Payload) → is_some (later (cond t (Some p) None) o) ≡ (t || is_some o)
@@ -78,32 +80,39 @@ abbrev pub AgreesBytes : Option Payload → Option (List ℕ) → Type 0
 AgreesBytes None o = o ≡ None
 AgreesBytes (Some p) o = (bytes : List ℕ) × (p ≡ Length bytes) × (o ≡ Some bytes)
 
-bytes_step : (t : Bool) (p : Payload) (l : Option Payload) (o : Option (List ℕ)) → (t ≡ true → wire_type p ≡ 2) → AgreesBytes l o → AgreesBytes (later (cond t (Some p) None) l) (later (cond t (bytes_in p) None) o)
+bytes_step : (t : Bool) (p : Payload) (l : Option Payload) (o : Option (List ℕ)) → (t ≡ true → wire_type p ≡ 2) → AgreesBytes l o
+    → AgreesBytes (later (cond t (Some p) None) l) (later (cond t (bytes_in p) None) o)
 bytes_step t p (Some q) o w h = (h.0, h.1, rw h.2 refl)
 bytes_step true p None o w h = let b = length_of p (w refl) in (b.0, b.1, ap (λ x. later (bytes_in p) x) h ∙ ap bytes_in b.1)
 bytes_step false p None o w h = rw h refl
 
-pub bytes_agree : {m : Message} (n : ℕ) (fields : List Field) → HasWire m n 2 → AllGood m fields → AgreesBytes (last_value n fields) (last_bytes n fields)
+pub bytes_agree : {m : Message} (n : ℕ) (fields : List Field) → HasWire m n 2 → AllGood m fields
+    → AgreesBytes (last_value n fields) (last_bytes n fields)
 bytes_agree n [] h g = refl
 bytes_agree n (f ∷ fields) h g =
-    bytes_step (eqb f.number n) f.payload (last_value n fields) (last_bytes n fields) (λ t. typed n 2 h g (eqb-true f.number n t)) (bytes_agree n fields h (good_rest g))
+    bytes_step (eqb f.number n) f.payload (last_value n fields) (last_bytes n fields) (λ t. typed n 2 h g (eqb-true f.number n t))
+    (bytes_agree n fields h (good_rest g))
 
 -- the same of wire type 0 and a number
 abbrev pub AgreesNumber : Option Payload → Option ℕ → Type 0
 AgreesNumber None o = o ≡ None
 AgreesNumber (Some p) o = (n : ℕ) × (p ≡ Varint n) × (o ≡ Some n)
 
-number_step : (t : Bool) (p : Payload) (l : Option Payload) (o : Option ℕ) → (t ≡ true → wire_type p ≡ 0) → AgreesNumber l o → AgreesNumber (later (cond t (Some p) None) l) (later (cond t (number_in p) None) o)
+number_step : (t : Bool) (p : Payload) (l : Option Payload) (o : Option ℕ) → (t ≡ true → wire_type p ≡ 0) → AgreesNumber l o
+    → AgreesNumber (later (cond t (Some p) None) l) (later (cond t (number_in p) None) o)
 number_step t p (Some q) o w h = (h.0, h.1, rw h.2 refl)
 number_step true p None o w h = let b = varint_of p (w refl) in (b.0, b.1, ap (λ x. later (number_in p) x) h ∙ ap number_in b.1)
 number_step false p None o w h = rw h refl
 
-pub number_agree : {m : Message} (n : ℕ) (fields : List Field) → HasWire m n 0 → AllGood m fields → AgreesNumber (last_value n fields) (last_number n fields)
+pub number_agree : {m : Message} (n : ℕ) (fields : List Field) → HasWire m n 0 → AllGood m fields
+    → AgreesNumber (last_value n fields) (last_number n fields)
 number_agree n [] h g = refl
 number_agree n (f ∷ fields) h g =
-    number_step (eqb f.number n) f.payload (last_value n fields) (last_number n fields) (λ t. typed n 0 h g (eqb-true f.number n t)) (number_agree n fields h (good_rest g))
+    number_step (eqb f.number n) f.payload (last_value n fields) (last_number n fields) (λ t. typed n 0 h g (eqb-true f.number n t))
+    (number_agree n fields h (good_rest g))
 
-has_step : {A : Type 0} (t : Bool) (o l : Option A) (b : Bool) (x : A) → ((y : A) → l ≡ Some y → b ≡ true) → later (cond t o None) l ≡ Some x → (t || b) ≡ true
+has_step : {A : Type 0} (t : Bool) (o l : Option A) (b : Bool) (x : A) → ((y : A) → l ≡ Some y → b ≡ true) → later (cond t o None) l ≡ Some x
+    → (t || b) ≡ true
 has_step true o l b x more e = refl
 has_step false o None b x more e = absurd cc
 has_step false o (Some y) b x more e = more y refl
@@ -114,7 +123,8 @@ has_last v n [] x e = absurd cc
 has_last v n (f ∷ fields) x e = has_step (eqb f.number n) (v f.payload) (last_of v n fields) (has n fields) x (λ y h. has_last v n fields y h) e
 
 -- one for one, and one more
-pub each_push : {A B : Type 0} (R : A → B → Type 0) (xs : List A) (bs : List B) (a : A) (b : B) → Each R xs bs → R a b → Each R (xs ++ a ∷ []) (bs ++ b ∷ [])
+pub each_push : {A B : Type 0} (R : A → B → Type 0) (xs : List A) (bs : List B) (a : A) (b : B) → Each R xs bs → R a b
+    → Each R (xs ++ a ∷ []) (bs ++ b ∷ [])
 each_push R [] [] a b h r = (r, tt)
 each_push R [] (y ∷ bs) a b h r = absurd h
 each_push R (x ∷ xs) [] a b h r = absurd h

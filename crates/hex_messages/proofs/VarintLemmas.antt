@@ -75,22 +75,26 @@ pub record Digits (old new : List ℕ) (n rest : ℕ) : Type 0 where
   pub more : 1 ≤ length front → 1 ≤ rest
   pub appended : new ≡ old ++ front
 
-pub number_more : (text : List ℕ) (i number unit d : ℕ) → i < length text → number ≡ number_of (take i text) → unit ≡ 128 ^ i → d ≡ digit (get_or text i 0) → number + unit * d ≡ number_of (take (i + 1) text)
+pub number_more : (text : List ℕ) (i number unit d : ℕ) → i < length text → number ≡ number_of (take i text) → unit ≡ 128 ^ i
+    → d ≡ digit (get_or text i 0) → number + unit * d ≡ number_of (take (i + 1) text)
 number_more text i number unit d h v u e =
     let n = number_push (take i text) (get_or text i 0) in
     let l : length (take i text) ≡ i = length-take-le i text (omega arith) in
     rw (take_more text i 0 h, n, l, e, v, u) refl
 
-pub on_more : (text : List ℕ) (i : ℕ) → i < length text → list_all goes_on (take i text) ≡ true → 128 ≤ get_or text i 0 → list_all goes_on (take (i + 1) text) ≡ true
+pub on_more : (text : List ℕ) (i : ℕ) → i < length text → list_all goes_on (take i text) ≡ true → 128 ≤ get_or text i 0
+    → list_all goes_on (take (i + 1) text) ≡ true
 on_more text i h on big = let e = list_all_more goes_on text i 0 h in grind (arith, nat_tests, e)
 
-whole_at : (text : List ℕ) (i : ℕ) → i < length text → list_all goes_on (take i text) ≡ true → get_or text i 0 < 128 → is_whole (take (i + 1) text) ≡ true
+whole_at : (text : List ℕ) (i : ℕ) → i < length text → list_all goes_on (take i text) ≡ true → get_or text i 0 < 128
+    → is_whole (take (i + 1) text) ≡ true
 whole_at text i h on l = rw (take_more text i 0 h) (whole_push (take i text) (get_or text i 0) on l)
 
 split_at : (text : List ℕ) (i : ℕ) → text ≡ take (i + 1) text ++ take (length text - (i + 1)) (drop (i + 1) text)
 split_at text i = rw (take_rest text (i + 1)) (sym (take-append-drop (i + 1) text))
 
-pub begins_at : (text : List ℕ) (i n : ℕ) → i < length text → i < 10 → list_all goes_on (take i text) ≡ true → get_or text i 0 < 128 → n ≡ number_of (take (i + 1) text) → n < 2 ^ 64 → BeginsVarint text n (take (length text - (i + 1)) (drop (i + 1) text))
+pub begins_at : (text : List ℕ) (i n : ℕ) → i < length text → i < 10 → list_all goes_on (take i text) ≡ true → get_or text i 0 < 128
+    → n ≡ number_of (take (i + 1) text) → n < 2 ^ 64 → BeginsVarint text n (take (length text - (i + 1)) (drop (i + 1) text))
 begins_at text i n h few on l e s =
     let len : length (take (i + 1) text) ≡ i + 1 = length-take-le (i + 1) text (omega arith) in
     record {
@@ -99,7 +103,8 @@ begins_at text i n h few on l e s =
       split = split_at text i;
     }
 
-pub great_at : (text : List ℕ) (i : ℕ) → i < length text → i < 10 → list_all goes_on (take i text) ≡ true → get_or text i 0 < 128 → 2 ^ 64 ≤ number_of (take (i + 1) text) → VarintFault text BadVarint
+pub great_at : (text : List ℕ) (i : ℕ) → i < length text → i < 10 → list_all goes_on (take i text) ≡ true → get_or text i 0 < 128
+    → 2 ^ 64 ≤ number_of (take (i + 1) text) → VarintFault text BadVarint
 great_at text i h few on l s =
     let len : length (take (i + 1) text) ≡ i + 1 = length-take-le (i + 1) text (omega arith) in
     great (take (i + 1) text) (take (length text - (i + 1)) (drop (i + 1) text)) (whole_at text i h on l) (omega (arith, len)) s (split_at text i)
@@ -112,7 +117,14 @@ pub unit_fits : (i unit : ℕ) → i < 10 → unit ≡ 128 ^ i → unit * 128 < 
 unit_fits i unit h e = let p = power_le i 9 (omega arith) in omega (arith, p)
 
 pub digits_start : (old : List ℕ) (n : ℕ) → Digits old old n n
-digits_start old n = record { front = []; on = refl; each = tt; value = omega arith; more = λ h. absurd (omega arith); appended = sym (append-nil old) }
+digits_start old n = record {
+  front = [];
+  on = refl;
+  each = tt;
+  value = omega arith;
+  more = λ h. absurd (omega arith);
+  appended = sym (append-nil old);
+}
 
 bytes_push : (xs : List ℕ) (b : ℕ) → AreBytes xs → b < 256 → AreBytes (xs ++ b ∷ [])
 bytes_push [] b h l = (l, tt)
@@ -130,7 +142,8 @@ digits_value a u rest =
     let m : u * rest ≡ u * (128 * (rest / 128) + rest % 128) = ap (λ x. u * x) q in
     grind (arith, m)
 
-pub digits_more : (old new next : List ℕ) (n rest byte : ℕ) → Digits old new n rest → 128 ≤ rest → byte ≡ rest % 128 + 128 → next ≡ new ++ byte ∷ [] → Digits old next n (rest / 128)
+pub digits_more : (old new next : List ℕ) (n rest byte : ℕ) → Digits old new n rest → 128 ≤ rest → byte ≡ rest % 128 + 128 → next ≡ new ++ byte ∷ []
+    → Digits old next n (rest / 128)
 digits_more old new next n rest byte d h e a =
     let f = d.front in
     let dig : digit byte ≡ rest % 128 = grind (arith, nat_tests) in
@@ -161,19 +174,23 @@ few_digits : (f n rest a : ℕ) → n < 2 ^ 64 → n ≡ a + 128 ^ f * rest → 
 few_digits zero n rest a s e more = omega arith
 few_digits (suc f) n rest a s e more = let l = less_powers (suc f) n (least (suc f) n rest a e more (omega arith)) s in omega arith
 
-no_shorter : (other : List ℕ) (f n rest a : ℕ) → n ≡ a + 128 ^ f * rest → (1 ≤ f → 1 ≤ rest) → AreBytes other → IsVarint other n → f + 1 ≤ length other
+no_shorter : (other : List ℕ) (f n rest a : ℕ) → n ≡ a + 128 ^ f * rest → (1 ≤ f → 1 ≤ rest) → AreBytes other → IsVarint other n
+    → f + 1 ≤ length other
 no_shorter [] f n rest a e more bytes o = let w = o.whole in absurd cc
 no_shorter (x ∷ xs) zero n rest a e more bytes o = omega arith
 no_shorter (x ∷ xs) (suc f) n rest a e more bytes o =
     let l = least (suc f) n rest a e more (omega arith) in
     let s = number_small (x ∷ xs) bytes in
     let v = o.value in
-    ⊎_elim (λ (b : suc f < length (x ∷ xs)). omega arith) (λ (b : length (x ∷ xs) ≤ suc f). let p = power_le (length (x ∷ xs)) (suc f) b in absurd (omega (arith, p, s, l, v))) (cases_lt (suc f) (length (x ∷ xs)))
+    ⊎_elim (λ (b : suc f < length (x ∷ xs)). omega arith)
+    (λ (b : length (x ∷ xs) ≤ suc f). let p = power_le (length (x ∷ xs)) (suc f) b in absurd (omega (arith, p, s, l, v)))
+    (cases_lt (suc f) (length (x ∷ xs)))
 
 pub digit_fits : (number unit d : ℕ) → number < unit → d < 128 → number + unit * d < unit * 128
 digit_fits number unit d h l = let m : unit * d ≤ unit * 127 = mul-le-mul_left unit (omega arith) in omega (arith, m)
 
-pub digits_done : (old new next : List ℕ) (n rest : ℕ) → n < 2 ^ 64 → Digits old new n rest → rest < 128 → next ≡ new ++ rest ∷ [] → AppendsVarint old next n
+pub digits_done : (old new next : List ℕ) (n rest : ℕ) → n < 2 ^ 64 → Digits old new n rest → rest < 128 → next ≡ new ++ rest ∷ []
+    → AppendsVarint old next n
 digits_done old new next n rest s d h a =
     let f = d.front in
     let text = f ++ rest ∷ [] in
@@ -184,7 +201,12 @@ digits_done old new next n rest s d h a =
     record {
       text = text;
       shortest = record {
-        varint = record { whole = whole_push f rest d.on h; short = rw len (few_digits (length f) n rest (number_of f) s d.value d.more); value = v; small = s };
+        varint = record {
+          whole = whole_push f rest d.on h;
+          short = rw len (few_digits (length f) n rest (number_of f) s d.value d.more);
+          value = v;
+          small = s;
+        };
         each = bytes_push f rest d.each (omega arith);
         shortest = λ other bytes o. rw len (no_shorter other (length f) n rest (number_of f) d.value d.more bytes o);
       };

@@ -28,7 +28,15 @@ payload_from (Fixed64 b) text w = absurd w
 payload_from (Fixed32 b) text w = absurd w
 
 pub field_from : (f : Field) (text : List ℕ) → Numbered f → WritesField text f → SpellsField text f
-field_from f text n w = record { key = w.key; value = w.value; least = n.0; most = n.1; keyed = w.keyed.varint; valued = payload_from f.payload w.value w.valued; split = w.split }
+field_from f text n w = record {
+  key = w.key;
+  value = w.value;
+  least = n.0;
+  most = n.1;
+  keyed = w.keyed.varint;
+  valued = payload_from f.payload w.value w.valued;
+  split = w.split;
+}
 
 pub fields_from : {text : List ℕ} {fs : List Field} → AllByRecursion Numbered fs → WritesFields text fs → Fields text fs
 fields_from n written.none = fields.none
@@ -53,11 +61,13 @@ numbered_truth false = tt
 pub good_one : (m : Message) (n : ℕ) (k : Known) (t : List ℕ) → field_at m n ≡ Some k → IsOf k.kind (Length t) → AllGood m (bytes_field n t ∷ [])
 good_one m n k t e h = good.known e h good.none
 
-pub good_map : (m : Message) (n : ℕ) (k : Known) (texts : List (List ℕ)) → field_at m n ≡ Some k → AllByRecursion (λ t. IsOf k.kind (Length t)) texts → AllGood m (map (bytes_field n) texts)
+pub good_map : (m : Message) (n : ℕ) (k : Known) (texts : List (List ℕ)) → field_at m n ≡ Some k → AllByRecursion (λ t. IsOf k.kind (Length t)) texts
+    → AllGood m (map (bytes_field n) texts)
 good_map m n k [] e h = good.none
 good_map m n k (t ∷ texts) e h = good.known e h.0 (good_map m n k texts e h.1)
 
-pub good_perhaps : (m : Message) (n : ℕ) (k : Known) (o : Option (List ℕ)) → field_at m n ≡ Some k → IfThere (λ t. IsOf k.kind (Length t)) o → AllGood m (perhaps n o)
+pub good_perhaps : (m : Message) (n : ℕ) (k : Known) (o : Option (List ℕ)) → field_at m n ≡ Some k → IfThere (λ t. IsOf k.kind (Length t)) o
+    → AllGood m (perhaps n o)
 good_perhaps m n k None e h = good.none
 good_perhaps m n k (Some t) e h = good.known e h good.none
 
@@ -76,7 +86,8 @@ pub record DependencyValues (p r : List ℕ) (o : Bool) (a s : Option (List ℕ)
   pub four : last_bytes 4 fs ≡ a
   pub five : last_bytes 5 fs ≡ s
 
-pub dependency_values : (p r : List ℕ) (o : Bool) (a s : Option (List ℕ)) → DependencyValues p r o a s (bytes_field 1 p ∷ bytes_field 2 r ∷ truth_field 3 o ++ perhaps 4 a ++ perhaps 5 s)
+pub dependency_values : (p r : List ℕ) (o : Bool) (a s : Option (List ℕ))
+    → DependencyValues p r o a s (bytes_field 1 p ∷ bytes_field 2 r ∷ truth_field 3 o ++ perhaps 4 a ++ perhaps 5 s)
 dependency_values p r true None None = record { one = refl; two = refl; three = refl; four = refl; five = refl }
 dependency_values p r true None (Some s) = record { one = refl; two = refl; three = refl; four = refl; five = refl }
 dependency_values p r true (Some a) None = record { one = refl; two = refl; three = refl; four = refl; five = refl }
@@ -95,25 +106,40 @@ dependency_good d w =
     let f1 = good_one message.Dependency 1 (record { name = name.Package; kind = Text }) d.«package» refl (good.text w.named.0) in
     let f2 = good_one message.Dependency 2 (record { name = name.Requirement; kind = Text }) d.requirement refl (good.text w.requirement.0) in
     let f4 = good_perhaps message.Dependency 4 (record { name = name.App; kind = Text }) d.app refl (there_text d.app w.app) in
-    let f5 = good_perhaps message.Dependency 5 (record { name = name.Repository; kind = Text }) d.repository refl (there_text d.repository w.repository) in
-    good_append (perhaps 5 d.repository) (good_append (perhaps 4 d.app) (good_append (truth_field 3 d.optional) (good_append (bytes_field 2 d.requirement ∷ []) f1 f2) (good_truth d.optional)) f4) f5
+    let f5 = good_perhaps message.Dependency 5 (record { name = name.Repository; kind = Text }) d.repository refl
+    (there_text d.repository w.repository) in
+    good_append (perhaps 5 d.repository) (good_append (perhaps 4 d.app)
+    (good_append (truth_field 3 d.optional) (good_append (bytes_field 2 d.requirement ∷ []) f1 f2) (good_truth d.optional)) f4) f5
 
 pub dependency_numbered : (d : Dependency) → AllByRecursion Numbered (dependency_fields d)
 dependency_numbered d =
     let front = bytes_field 1 d.«package» ∷ bytes_field 2 d.requirement ∷ truth_field 3 d.optional in
     let n1 : AllByRecursion Numbered front = ((omega arith, omega arith), ((omega arith, omega arith), numbered_truth d.optional)) in
-    all_append Numbered (front ++ perhaps 4 d.app) (perhaps 5 d.repository) (all_append Numbered front (perhaps 4 d.app) n1 (numbered_perhaps 4 d.app (omega arith) (omega arith))) (numbered_perhaps 5 d.repository (omega arith) (omega arith))
+    all_append Numbered (front ++ perhaps 4 d.app) (perhaps 5 d.repository)
+    (all_append Numbered front (perhaps 4 d.app) n1 (numbered_perhaps 4 d.app (omega arith) (omega arith)))
+    (numbered_perhaps 5 d.repository (omega arith) (omega arith))
 
-pub dependency_reads : (t : List ℕ) (d : Dependency) → WritesDependency t d → IsWritableDependency d → StandsDependency t d × IsWhole message.Dependency t
+pub dependency_reads : (t : List ℕ) (d : Dependency) → WritesDependency t d → IsWritableDependency d
+    → StandsDependency t d × IsWhole message.Dependency t
 dependency_reads t d h w =
     let v = dependency_values d.«package» d.requirement d.optional d.app d.repository in
     let s = fields_from (dependency_numbered d) h in
     let g = dependency_good d w in (
-      record { fields = dependency_fields d; spelled = s; good = g; names = v.one; requirement = v.two; optional = v.three; app = v.four; repository = v.five },
+      record {
+        fields = dependency_fields d;
+        spelled = s;
+        good = g;
+        names = v.one;
+        requirement = v.two;
+        optional = v.three;
+        app = v.four;
+        repository = v.five;
+      },
       good.whole s g (record { merged = []; merges = λ e. absurd cc; answers = refl }),
     )
 
-pub each_reads : {A : Type 0} (R S : List ℕ → A → Type 0) (W : A → Type 0) (Q : List ℕ → Type 0) (texts : List (List ℕ)) (items : List A) → ((t : List ℕ) (a : A) → R t a → W a → S t a × Q t) → Each R texts items → AllByRecursion W items → Each S texts items × AllByRecursion Q texts
+pub each_reads : {A : Type 0} (R S : List ℕ → A → Type 0) (W : A → Type 0) (Q : List ℕ → Type 0) (texts : List (List ℕ)) (items : List A)
+    → ((t : List ℕ) (a : A) → R t a → W a → S t a × Q t) → Each R texts items → AllByRecursion W items → Each S texts items × AllByRecursion Q texts
 each_reads R S W Q [] [] one h w = (tt, tt)
 each_reads R S W Q [] (b ∷ bs) one h w = absurd h
 each_reads R S W Q (t ∷ texts) [] one h w = absurd h

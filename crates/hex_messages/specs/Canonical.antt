@@ -35,7 +35,8 @@ pub record WritesField (text : List ℕ) (field : Field) : Type 0 where
 -- the shortest spelling of fields, one after another
 pub data WritesFields : List ℕ → List Field → Type 0 where
   none : WritesFields [] []
-  more : {text front rest : List ℕ} {field : Field} {fields : List Field} → WritesField front field → WritesFields rest fields → text ≡ front ++ rest → WritesFields text (field ∷ fields)
+  more : {text front rest : List ℕ} {field : Field} {fields : List Field} → WritesField front field → WritesFields rest fields → text ≡ front ++ rest
+      → WritesFields text (field ∷ fields)
 
 -- a field of bytes, and one that may be absent
 abbrev pub bytes_field : ℕ → List ℕ → Field
@@ -67,7 +68,8 @@ WritesRetirement bytes r = ⊥
 
 -- the fields of a release, with the messages within it
 abbrev pub release_fields : Release → List (List ℕ) → Option (List ℕ) → List Field
-release_fields r dependencies retired = bytes_field 1 r.version ∷ bytes_field 2 r.inner_checksum ∷ map (bytes_field 3) dependencies ++ perhaps 4 retired ++ perhaps 5 r.outer_checksum
+release_fields r dependencies retired = bytes_field 1 r.version ∷ bytes_field 2 r.inner_checksum ∷ map (bytes_field 3) dependencies ++ perhaps 4
+    retired ++ perhaps 5 r.outer_checksum
 
 pub record WritesRelease (bytes : List ℕ) (r : Release) : Type 0 where
   pub dependencies : List (List ℕ)

@@ -17,7 +17,8 @@ pub record IsPlaced (wire : Wire) : Type 0 where
 pub record BlamesField (m : Message) (wire : Wire) (error : WireError) : Type 0 where
   pub at : ℕ
   pub place : error.at ≡ wire.at + at
-  pub fault : (front rest : List ℕ) → SpellsField front (field_of wire) → wire.at + length front ≡ wire.end → FieldFault m (front ++ rest) at error.cause
+  pub fault : (front rest : List ℕ) → SpellsField front (field_of wire) → wire.at + length front ≡ wire.end
+      → FieldFault m (front ++ rest) at error.cause
 
 -- the error is the first fault of a message that begins at a place of the whole input
 pub record FaultFrom (m : Message) (start : ℕ) (text : List ℕ) (error : WireError) : Type 0 where

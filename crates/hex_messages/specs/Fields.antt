@@ -43,4 +43,5 @@ pub record SpellsField (text : List ℕ) (field : Field) : Type 0 where
 -- the bytes are these fields, one after another
 pub data Fields : List ℕ → List Field → Type 0 where
   none : Fields [] []
-  more : {text front rest : List ℕ} {field : Field} {fields : List Field} → SpellsField front field → Fields rest fields → text ≡ front ++ rest → Fields text (field ∷ fields)
+  more : {text front rest : List ℕ} {field : Field} {fields : List Field} → SpellsField front field → Fields rest fields → text ≡ front ++ rest
+      → Fields text (field ∷ fields)

@@ -24,13 +24,15 @@ first_absent (r ∷ rs) fields = if has r.number fields then first_absent rs fie
 -- the fields of all `retired` of a release, one after another: they are merged into one message
 pub data Merged : List Field → List Field → Type 0 where
   none : Merged [] []
-  retired : {bytes : List ℕ} {inner more fields : List Field} → Fields bytes inner → Merged fields more → Merged (record { number = retired_number; payload = Length bytes } ∷ fields) (inner ++ more)
+  retired : {bytes : List ℕ} {inner more fields : List Field} → Fields bytes inner → Merged fields more
+      → Merged (record { number = retired_number; payload = Length bytes } ∷ fields) (inner ++ more)
   other : {field : Field} {more fields : List Field} → field.number ≢ retired_number → Merged fields more → Merged (field ∷ fields) more
 
 -- the first field that is missing at the end of a message. A release misses the reason of its merged
 -- retirement before its own fields. The end of a `retired` by itself misses nothing
 abbrev pub absent_in : Message → List Field → List Field → Option FieldName
-absent_in message.Release merged fields = if has retired_number fields && not (has 1 merged) then Some name.Reason else first_absent (required message.Release) fields
+absent_in message.Release merged fields = if has retired_number fields && not (has 1 merged) then Some name.Reason else first_absent
+    (required message.Release) fields
 absent_in message.Retired merged fields = None
 absent_in m merged fields = first_absent (required m) fields
 
@@ -51,7 +53,8 @@ mutual
   -- the fields may stand in the message: each that is known there is of its kind
   pub data AllGood : Message → List Field → Type 0 where
     none : {m : Message} → AllGood m []
-    known : {m : Message} {field : Field} {fields : List Field} {k : Known} → field_at m field.number ≡ Some k → IsOf k.kind field.payload → AllGood m fields → AllGood m (field ∷ fields)
+    known : {m : Message} {field : Field} {fields : List Field} {k : Known} → field_at m field.number ≡ Some k → IsOf k.kind field.payload
+        → AllGood m fields → AllGood m (field ∷ fields)
     unknown : {m : Message} {field : Field} {fields : List Field} → field_at m field.number ≡ None → AllGood m fields → AllGood m (field ∷ fields)
 
   -- the bytes are fields that may stand in the message, and none is missing

@@ -23,7 +23,8 @@ pub(crate) fn skip_blanks(text: &[u8]) -> &[u8]
 
 /// The text without the blanks at its end.
 pub(crate) fn trim_end(text: &[u8]) -> &[u8]
-    ensures blanks { (after : List ℕ) × IsTrue (are_blanks after) × (text.now ≡ result.now ++ after) }
+    ensures blanks { (after : List ℕ)
+        × IsTrue (are_blanks after) × (text.now ≡ result.now ++ after) }
     ensures solid { (result.now ≡ []) ⊎ IsTrue (ends_solid result.now) }
 {
     let mut rest = text;

@@ -89,7 +89,8 @@ pub(crate) fn number_of(digits: &[u8]) -> Option<u64>
 fn number_with(value: u64, digit: u8) -> Option<u64>
     requires { value ≤ greatest }
     ensures small { IfSome result (λ more. more ≤ greatest) }
-    ensures value { result ≡ if is_ascii_digit digit && nat_le (value * 10 + (digit - 48)) greatest then Some (value * 10 + (digit - 48)) else None }
+    ensures value { let more = value * 10 + (digit - 48) in
+        result ≡ if is_ascii_digit digit && nat_le more greatest then Some more else None }
 {
     if !digit.is_ascii_digit() {
         return None;

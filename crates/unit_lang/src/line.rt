@@ -26,7 +26,8 @@ pub(crate) fn is_blank_line(line: &[u8]) -> bool
 /// What a line after the first says: nothing where it is blank.
 pub(crate) fn statement(alloc: Global, line: &[u8]) -> Result<Option<Statement>, UnitCause>
     requires { length line.now ≤ longest_line }
-    ensures { MatchResult result (λ said. MatchOption said (IsBlankLine line.now) (Says line.now)) (FaultsAs line.now) }
+    ensures { MatchResult result
+        (λ said. MatchOption said (IsBlankLine line.now) (Says line.now)) (FaultsAs line.now) }
 {
     match after_warn(line) {
         Some(rest) => {
@@ -41,7 +42,8 @@ pub(crate) fn statement(alloc: Global, line: &[u8]) -> Result<Option<Statement>,
 fn statement_of(alloc: Global, line: &[u8]) -> Result<Option<Statement>, UnitCause>
     requires short { length line.now ≤ longest_line }
     requires plain { IsWarnLine line.now → ⊥ }
-    ensures { MatchResult result (λ said. MatchOption said (IsBlankLine line.now) (Says line.now)) (FaultsAs line.now) }
+    ensures { MatchResult result
+        (λ said. MatchOption said (IsBlankLine line.now) (Says line.now)) (FaultsAs line.now) }
 {
     if is_blank_line(line) {
         return Ok(None);
@@ -86,7 +88,9 @@ fn after_warn(line: &[u8]) -> Option<&[u8]>
 
 /// The text of a warning: without the blanks at its ends, and not empty.
 fn warning(alloc: Global, rest: &[u8]) -> Result<Bytes, UnitCause>
-    ensures { MatchResult result (IsWarning rest.now) (λ cause. (cause ≡ OutOfMemory) ⊎ ((cause ≡ BadLine) × ((text : List ℕ) → IsWarning rest.now text → ⊥))) }
+    ensures { MatchResult result (IsWarning rest.now)
+        (λ cause. (cause ≡ OutOfMemory)
+        ⊎ ((cause ≡ BadLine) × ((text : List ℕ) → IsWarning rest.now text → ⊥))) }
 {
     let text = trim_end(skip_blanks(rest));
     if text.is_empty() {

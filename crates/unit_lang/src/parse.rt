@@ -27,8 +27,8 @@ const LONGEST_LINE: usize = 4_096;
 
 /// Reads the unit that the whole text spells, or else tells its first fault by line.
 ///
-/// Goes once over the text, and takes memory for the unit and for what is open in an expression. Only a text whose
-/// first line is told of in place of a later one is gone over once more.
+/// Goes once over the text, or twice where blank lines and then one that is no `unit` line come first. Takes memory
+/// for the unit and for what is open in an expression.
 ///
 /// # Errors
 ///
@@ -128,7 +128,9 @@ fn unit_after(
 /// What the lines from this number on say.
 fn body(alloc: Global, first: u32, text: Option<&[u8]>) -> Result<Lines, UnitError>
     requires room { first + rest_size (option_map (λ lines. lines.now) text) ≤ 4294967295 }
-    ensures { MatchResult result (Body first (lines_after (option_map (λ lines. lines.now) text.entry))) (BodyFaultAs first (lines_after (option_map (λ lines. lines.now) text.entry))) }
+    ensures { MatchResult result
+        (Body first (lines_after (option_map (λ lines. lines.now) text.entry)))
+        (BodyFaultAs first (lines_after (option_map (λ lines. lines.now) text.entry))) }
 {
     let mut said = Lines::new(alloc);
     let mut number = first;
@@ -144,7 +146,8 @@ fn body(alloc: Global, first: u32, text: Option<&[u8]>) -> Result<Lines, UnitErr
 
 /// Adds what the line with this number says.
 fn hear(alloc: Global, said: &mut Lines, number: u32, line: &[u8]) -> Result<(), UnitError>
-    ensures { MatchResult result (λ _. Hears number line.now said.old said.new) (HearsFault number line.now) }
+    ensures { MatchResult result
+        (λ _. Hears number line.now said.old said.new) (HearsFault number line.now) }
 {
     match line_said(alloc, line) {
         Ok(None) => Ok(()),
@@ -158,7 +161,10 @@ fn hear(alloc: Global, said: &mut Lines, number: u32, line: &[u8]) -> Result<(),
 
 /// What a line after the `unit` line says.
 fn line_said(alloc: Global, line: &[u8]) -> Result<Option<Statement>, UnitCause>
-    ensures { MatchResult result (λ said. (length line.now ≤ longest_line) × MatchOption said (IsBlankLine line.now) (Says line.now)) (FaultsAs line.now) }
+    ensures { MatchResult result
+        (λ said. (length line.now ≤ longest_line)
+        × MatchOption said (IsBlankLine line.now) (Says line.now))
+        (FaultsAs line.now) }
 {
     if line.len() > LONGEST_LINE {
         return Err(UnitCause::TooLong);
@@ -168,7 +174,8 @@ fn line_said(alloc: Global, line: &[u8]) -> Result<Option<Statement>, UnitCause>
 
 /// Adds a line.
 fn push_line(said: &mut Lines, line: Line) -> Result<(), UnitError>
-    ensures { MatchResult result (λ _. said.new ≡ said.old ++ line ∷ []) (λ error. error.cause ≡ OutOfMemory) }
+    ensures { MatchResult result
+        (λ _. said.new ≡ said.old ++ line ∷ []) (λ error. error.cause ≡ OutOfMemory) }
 {
     let number = line.number;
     match said.push(line) {
@@ -182,7 +189,8 @@ fn push_line(said: &mut Lines, line: Line) -> Result<(), UnitError>
 
 /// The first line of a text, and the text after its line feed, if it has one.
 fn first_line(text: &[u8]) -> (&[u8], Option<&[u8]>)
-    ensures lines { lines_of text.now ≡ result.0.now ∷ lines_after (option_map (λ rest. rest.now) result.1) }
+    ensures lines { lines_of text.now
+        ≡ result.0.now ∷ lines_after (option_map (λ rest. rest.now) result.1) }
     ensures shorter { rest_size (option_map (λ rest. rest.now) result.1) ≤ length text.now }
 {
     let (line, rest) = text.split_at(line_len(text));
@@ -215,13 +223,15 @@ fn line_len(text: &[u8]) -> usize
 
 /// No text spells two units.
 pub fn one_unit()
-    ensures { (text : List ℕ) (unit other : UnitFile) → Spells text unit → Spells text other → unit ≡ other }
+    ensures { (text : List ℕ) (unit other : UnitFile)
+        → Spells text unit → Spells text other → unit ≡ other }
 {}
 
 /// No text has two first faults.
 pub fn one_fault()
     ensures { (text : List ℕ) (at other_at : ℕ) (cause other : FaultCause)
-        → FirstFault text at cause → FirstFault text other_at other → (at ≡ other_at) × (cause ≡ other) }
+        → FirstFault text at cause → FirstFault text other_at other
+        → (at ≡ other_at) × (cause ≡ other) }
 {}
 
 /// Each text spells a unit or has a first fault.

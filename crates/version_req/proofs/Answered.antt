@@ -8,7 +8,8 @@ use Rattle.version_req.specs.Refusal.{IsRefusedAt}
 use Rattle.version_req.proofs.Refused.{refused}
 use Rattle.version_req.proofs.RunSound.{Spells-run}
 
-answered : (text : List ℕ) (answer : Result Alternatives ℕ) → run text Lead empty ≡ answer → ((requirement : Alternatives) × Spells text requirement) ⊎ ((at : ℕ) × IsRefusedAt text at)
+answered : (text : List ℕ) (answer : Result Alternatives ℕ) → run text Lead empty ≡ answer
+    → ((requirement : Alternatives) × Spells text requirement) ⊎ ((at : ℕ) × IsRefusedAt text at)
 answered text (Ok requirement) e = inl (requirement, Spells-run text requirement e)
 answered text (Err left) e = inr (length text - left, (refused text left e).1)
 

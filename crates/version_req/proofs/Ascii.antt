@@ -26,8 +26,10 @@ parts_ascii (b ∷ rest) h =
       | inr other ↦
           let all = rw (other, shape.2) at h in
           let first = and-left _ _ all in
-          let tail = both_true (list_all is_identifier_byte shape.0) (list_all (list_all is_identifier_byte) shape.1) (and-right _ _ first) (and-right _ _ all) in
-          IsAscii-cons b rest (byte_below b (and-left _ _ first)) (parts_ascii rest (subst (λ (ps : List (List ℕ)). list_all (list_all is_identifier_byte) ps ≡ true) (sym shape.2) tail))
+          let tail = both_true (list_all is_identifier_byte shape.0) (list_all (list_all is_identifier_byte) shape.1) (and-right _ _ first)
+          (and-right _ _ all) in
+          IsAscii-cons b rest (byte_below b (and-left _ _ first))
+          (parts_ascii rest (subst (λ (ps : List (List ℕ)). list_all (list_all is_identifier_byte) ps ≡ true) (sym shape.2) tail))
     ]
 
 weaker : (p q : List ℕ → Bool) → ((x : List ℕ) → p x ≡ true → q x ≡ true) → (xs : List (List ℕ)) → list_all p xs ≡ true → list_all q xs ≡ true
@@ -42,8 +44,10 @@ pre_bytes part h = build_bytes part (and-left _ _ h)
 
 pub pre_utf8 : (text : List ℕ) → is_pre_release text ≡ true → IsUtf8 text
 pre_utf8 [] h = IsUtf8-from_ascii [] IsAscii-nil
-pre_utf8 (b ∷ rest) h = IsUtf8-from_ascii (b ∷ rest) (parts_ascii (b ∷ rest) (weaker is_pre_identifier (list_all is_identifier_byte) pre_bytes (parts (b ∷ rest)) h))
+pre_utf8 (b ∷ rest) h = IsUtf8-from_ascii (b ∷ rest)
+    (parts_ascii (b ∷ rest) (weaker is_pre_identifier (list_all is_identifier_byte) pre_bytes (parts (b ∷ rest)) h))
 
 pub build_utf8 : (text : List ℕ) → is_build text ≡ true → IsUtf8 text
 build_utf8 [] h = IsUtf8-from_ascii [] IsAscii-nil
-build_utf8 (b ∷ rest) h = IsUtf8-from_ascii (b ∷ rest) (parts_ascii (b ∷ rest) (weaker is_build_identifier (list_all is_identifier_byte) build_bytes (parts (b ∷ rest)) h))
+build_utf8 (b ∷ rest) h = IsUtf8-from_ascii (b ∷ rest)
+    (parts_ascii (b ∷ rest) (weaker is_build_identifier (list_all is_identifier_byte) build_bytes (parts (b ∷ rest)) h))

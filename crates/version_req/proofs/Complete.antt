@@ -75,7 +75,8 @@ run_decimal : (n : Numbers) (v : ℕ) → v < 2 ^ 64 → (x : List ℕ) (tree : 
 run_decimal n v fits = decimal_by_steps (Runs n)
     (λ k low small x tree. go (Before n) (Number n k) (48 + k) x tree (first_step n k low))
     (λ k ds big ih small x tree.
-    rw (append_assoc ds ((48 + k % 10) ∷ []) x) (ih (omega arith) ((48 + k % 10) ∷ x) tree ∙ go (Number n (k / 10)) (Number n k) (48 + k % 10) x tree (later_step n k big small)))
+    rw (append_assoc ds ((48 + k % 10) ∷ []) x)
+    (ih (omega arith) ((48 + k % 10) ∷ x) tree ∙ go (Number n (k / 10)) (Number n k) (48 + k % 10) x tree (later_step n k big small)))
     v fits fits
 
 -- a number begins with a digit
@@ -114,7 +115,8 @@ plain_lead v fits x tree =
     rw d.2 (alike Lead (Before (Major Equal)) d.0 (d.1 ++ x) tree (rw (no 32 refl, no 61 refl, no 33 refl, no 126 refl, no 62 refl, no 60 refl) refl))
 
 -- after an operator, spaces and a number
-after_run : (o : Operator) (gap v : ℕ) → v < 2 ^ 64 → (x : List ℕ) (tree : Tree) → run (after_operator gap v x) (Before (Major o)) tree ≡ run x (Number (Major o) v) tree
+after_run : (o : Operator) (gap v : ℕ) → v < 2 ^ 64 → (x : List ℕ) (tree : Tree)
+    → run (after_operator gap v x) (Before (Major o)) tree ≡ run x (Number (Major o) v) tree
 after_run o gap v fits x tree = stay_before o gap (decimal v ++ x) tree ∙ run_decimal (Major o) v fits x tree
 
 half_run : (byte : ℕ) (o : Operator) (y : List ℕ) (tree : Tree) → run (byte ∷ y) (Half byte o) tree ≡ run y (Before (Major o)) tree
@@ -133,13 +135,15 @@ written_run Greater gap v fits x tree =
     go Lead (Angle Greater GreaterOrEqual) 62 y tree refl ∙ plain_angle Greater GreaterOrEqual gap v fits x tree ∙ after_run Greater gap v fits x tree
 written_run GreaterOrEqual gap v fits x tree =
     let y = after_operator gap v x in
-    go Lead (Angle Greater GreaterOrEqual) 62 (61 ∷ y) tree refl ∙ go (Angle Greater GreaterOrEqual) (Before (Major GreaterOrEqual)) 61 y tree refl ∙ after_run GreaterOrEqual gap v fits x tree
+    go Lead (Angle Greater GreaterOrEqual) 62 (61 ∷ y) tree refl ∙ go (Angle Greater GreaterOrEqual) (Before (Major GreaterOrEqual)) 61 y tree refl
+    ∙ after_run GreaterOrEqual gap v fits x tree
 written_run Less gap v fits x tree =
     let y = after_operator gap v x in
     go Lead (Angle Less LessOrEqual) 60 y tree refl ∙ plain_angle Less LessOrEqual gap v fits x tree ∙ after_run Less gap v fits x tree
 written_run LessOrEqual gap v fits x tree =
     let y = after_operator gap v x in
-    go Lead (Angle Less LessOrEqual) 60 (61 ∷ y) tree refl ∙ go (Angle Less LessOrEqual) (Before (Major LessOrEqual)) 61 y tree refl ∙ after_run LessOrEqual gap v fits x tree
+    go Lead (Angle Less LessOrEqual) 60 (61 ∷ y) tree refl ∙ go (Angle Less LessOrEqual) (Before (Major LessOrEqual)) 61 y tree refl
+    ∙ after_run LessOrEqual gap v fits x tree
 written_run Compatible gap v fits x tree =
     let y = after_operator gap v x in
     go Lead (Half 62 Compatible) 126 (62 ∷ y) tree refl ∙ half_run 62 Compatible y tree ∙ after_run Compatible gap v fits x tree
@@ -236,11 +240,13 @@ abbrev ids_condition : Kind → Head → List ℕ → List ℕ → Condition
 ids_condition PreRelease h pre text = condition h text []
 ids_condition Build h pre text = condition h pre text
 
-ids_closes : (k : Kind) (h : Head) (pre text last : List ℕ) → is_identifier k last ≡ true → Closes (Ids k h pre text last) (ids_condition k h pre text)
+ids_closes : (k : Kind) (h : Head) (pre text last : List ℕ) → is_identifier k last ≡ true
+    → Closes (Ids k h pre text last) (ids_condition k h pre text)
 ids_closes PreRelease h pre text last good = record { last = λ tree. rw good refl; space = rw good refl }
 ids_closes Build h pre text last good = record { last = λ tree. rw good refl; space = rw good refl }
 
-build_run : (p : Place) (h : Head) (pre build : List ℕ) → is_build build ≡ true → Closes p (condition h pre []) → step p 43 ≡ Some (Go (Ids Build h pre [] []))
+build_run : (p : Place) (h : Head) (pre build : List ℕ) → is_build build ≡ true → Closes p (condition h pre [])
+    → step p 43 ≡ Some (Go (Ids Build h pre [] []))
     → Ends p (marked 43 build) (condition h pre build)
 build_run p h pre [] good closes plus = (p, closes, λ x tree. refl)
 build_run p h pre (b ∷ rest) good closes plus =
@@ -262,7 +268,8 @@ tail_run p h (b ∷ rest) build good fine after =
       more.1,
       λ x tree.
           rw (append_assoc (45 ∷ b ∷ rest) (marked 43 build) x)
-          (go p (Ids PreRelease h [] [] []) 45 (b ∷ (rest ++ (marked 43 build ++ x))) tree after.dash ∙ ids.2 (marked 43 build ++ x) tree ∙ more.2 x tree),
+          (go p (Ids PreRelease h [] [] []) 45 (b ∷ (rest ++ (marked 43 build ++ x))) tree after.dash ∙ ids.2 (marked 43 build ++ x) tree
+          ∙ more.2 x tree),
     )
 
 full_after : (o : Operator) (a m v : ℕ) → AfterNumbers (Number (Patch o a m) v) (full_head o a m v)
@@ -277,17 +284,22 @@ short_after a m = record { ends = record { last = λ tree. refl; space = refl };
 -- ---- a whole comparison
 
 -- after the first number: the second
-minor_run : (o : Operator) (a m : ℕ) → m < 2 ^ 64 → (x : List ℕ) (tree : Tree) → run (46 ∷ (decimal m ++ x)) (Number (Major o) a) tree ≡ run x (Number (Minor o a) m) tree
+minor_run : (o : Operator) (a m : ℕ) → m < 2 ^ 64 → (x : List ℕ) (tree : Tree)
+    → run (46 ∷ (decimal m ++ x)) (Number (Major o) a) tree ≡ run x (Number (Minor o a) m) tree
 minor_run o a m fits x tree = go (Number (Major o) a) (Before (Minor o a)) 46 (decimal m ++ x) tree refl ∙ run_decimal (Minor o a) m fits x tree
 
-patch_run : (o : Operator) (a m v : ℕ) → v < 2 ^ 64 → (x : List ℕ) (tree : Tree) → run (46 ∷ (decimal v ++ x)) (Number (Minor o a) m) tree ≡ run x (Number (Patch o a m) v) tree
-patch_run o a m v fits x tree = go (Number (Minor o a) m) (Before (Patch o a m)) 46 (decimal v ++ x) tree refl ∙ run_decimal (Patch o a m) v fits x tree
+patch_run : (o : Operator) (a m v : ℕ) → v < 2 ^ 64 → (x : List ℕ) (tree : Tree)
+    → run (46 ∷ (decimal v ++ x)) (Number (Minor o a) m) tree ≡ run x (Number (Patch o a m) v) tree
+patch_run o a m v fits x tree = go (Number (Minor o a) m) (Before (Patch o a m)) 46 (decimal v ++ x) tree refl
+    ∙ run_decimal (Patch o a m) v fits x tree
 
 -- the texts as the grammar groups them, and as they are read
-full_text : (op a m v tail x : List ℕ) (gap : List ℕ) → (op ++ (gap ++ (a ++ (46 ∷ (m ++ (46 ∷ (v ++ tail))))))) ++ x ≡ op ++ (gap ++ (a ++ (46 ∷ (m ++ (46 ∷ (v ++ (tail ++ x)))))))
+full_text : (op a m v tail x : List ℕ) (gap : List ℕ)
+    → (op ++ (gap ++ (a ++ (46 ∷ (m ++ (46 ∷ (v ++ tail))))))) ++ x ≡ op ++ (gap ++ (a ++ (46 ∷ (m ++ (46 ∷ (v ++ (tail ++ x)))))))
 full_text op a m v tail x gap = simp append_assoc
 
-short_text : (op a m tail x : List ℕ) (gap : List ℕ) → (op ++ (gap ++ (a ++ (46 ∷ (m ++ tail))))) ++ x ≡ op ++ (gap ++ (a ++ (46 ∷ (m ++ (tail ++ x)))))
+short_text : (op a m tail x : List ℕ) (gap : List ℕ)
+    → (op ++ (gap ++ (a ++ (46 ∷ (m ++ tail))))) ++ x ≡ op ++ (gap ++ (a ++ (46 ∷ (m ++ (tail ++ x)))))
 short_text op a m tail x gap = simp append_assoc
 
 full_run : (op : List ℕ) (o : Operator) (gap : ℕ) (p : Parts) → SpellsOperator op o → IsValid p
@@ -327,14 +339,17 @@ by_patch : (text : List ℕ) (c : Condition) (w : Bool) → c.patch_written ≡ 
 by_patch text c true e s =
     let op = s.bytes.0 in
     let gap = s.bytes.1 in
-    let bytes : op ++ (spaces gap ++ parts_text c.operand) ≡ text = ap (λ (v : Bool). op ++ (spaces gap ++ operand_text v c.operand)) (sym e) ∙ sym s.bytes.3 in
-    same_ends Lead _ text (made c.operator c.operand true) c bytes (ap (made c.operator c.operand) (sym e)) (full_run op c.operator gap c.operand s.bytes.2 s.valid)
+    let bytes : op ++ (spaces gap ++ parts_text c.operand) ≡ text = ap (λ (v : Bool). op ++ (spaces gap ++ operand_text v c.operand)) (sym e)
+    ∙ sym s.bytes.3 in
+    same_ends Lead _ text (made c.operator c.operand true) c bytes (ap (made c.operator c.operand) (sym e))
+    (full_run op c.operator gap c.operand s.bytes.2 s.valid)
 by_patch text c false e s =
     let op = s.bytes.0 in
     let gap = s.bytes.1 in
     let p = c.operand in
     let lacks : MayLackPatch c = s.patch (subst IsFalse (sym e) refl) in
-    let bytes : op ++ (spaces gap ++ operand_text false p) ≡ text = ap (λ (v : Bool). op ++ (spaces gap ++ operand_text v p)) (sym e) ∙ sym s.bytes.3 in
+    let bytes : op ++ (spaces gap ++ operand_text false p) ≡ text = ap (λ (v : Bool). op ++ (spaces gap ++ operand_text v p)) (sym e)
+    ∙ sym s.bytes.3 in
     let same : made Compatible (p.0, p.1, 0, p.3, p.4) false ≡ c =
     ap (λ (o : Operator). made o (p.0, p.1, 0, p.3, p.4) false) (sym lacks.0)
     ∙ ap (λ (z : ℕ). made c.operator (p.0, p.1, z, p.3, p.4) false) (sym lacks.1)
@@ -351,7 +366,8 @@ abbrev Stops : List ℕ → Type 0
 Stops [] = Unit {0}
 Stops (b ∷ rest) = b ≡ 32
 
-ends_gap : (text : List ℕ) (c : Condition) → Ends Lead text c → (x : List ℕ) → Stops x → (tree : Tree) → run (text ++ x) Lead tree ≡ run x Gap (with_condition c tree)
+ends_gap : (text : List ℕ) (c : Condition) → Ends Lead text c → (x : List ℕ) → Stops x → (tree : Tree)
+    → run (text ++ x) Lead tree ≡ run x Gap (with_condition c tree)
 ends_gap text c e [] stop tree = e.2 [] tree ∙ at_end e.0 tree ∙ (e.1).last tree ∙ sym (at_end Gap (with_condition c tree))
 ends_gap text c e (b ∷ rest) stop tree =
     let closing : step e.0 b ≡ Some (Close c) = rw stop (e.1).space in

@@ -105,7 +105,8 @@ gap_stays b h = rw h refl
 pub spaces_lead : (text : List ℕ) (tree : Tree) → run text Lead tree ≡ run (without_spaces text) Lead tree
 spaces_lead = over_spaces Lead lead_stays
 
-pub spaces_before : (o : Operator) (text : List ℕ) (tree : Tree) → run text (Before (Major o)) tree ≡ run (without_spaces text) (Before (Major o)) tree
+pub spaces_before : (o : Operator) (text : List ℕ) (tree : Tree)
+    → run text (Before (Major o)) tree ≡ run (without_spaces text) (Before (Major o)) tree
 spaces_before o = over_spaces (Before (Major o)) (before_stays o)
 
 pub spaces_gap : (text : List ℕ) (tree : Tree) → run text Gap tree ≡ run (without_spaces text) Gap tree
@@ -127,7 +128,8 @@ starts_space-without (b ∷ rest) = elim (cases_Bool (b == 32)) [
 
 -- one byte that has to stand there
 pub byte_follows : (p q : Place) (byte : ℕ) (text : List ℕ)
-    → ((tree : Tree) → finish p tree ≡ Err 0) → ((b : ℕ) → (b == byte) ≡ true → step p b ≡ Some (Go q)) → ((b : ℕ) → (b == byte) ≡ false → step p b ≡ None)
+    → ((tree : Tree) → finish p tree ≡ Err 0) → ((b : ℕ) → (b == byte) ≡ true → step p b ≡ Some (Go q))
+    → ((b : ℕ) → (b == byte) ≡ false → step p b ≡ None)
     → FollowsText p text q (after_byte byte text)
 byte_follows p q byte [] ends stands wants = λ tree. at_end p tree ∙ ends tree
 byte_follows p q byte (b ∷ rest) ends stands wants = elim (cases_Bool (b == byte)) [
@@ -143,7 +145,8 @@ before_major o = Before (Major o)
 
 completed_follows : (o : Operator) (byte : ℕ) (text : List ℕ) → Follows (Half byte o) text before_major (completed o (after_byte byte text))
 completed_follows o byte text =
-    Follows-text (Half byte o) (Before (Major o)) text before_major (after_byte byte text) (λ rest. Ok (o, rest)) (half_follows o byte text) (λ rest tree. refl)
+    Follows-text (Half byte o) (Before (Major o)) text before_major (after_byte byte text) (λ rest. Ok (o, rest)) (half_follows o byte text)
+    (λ rest tree. refl)
 
 angle_follows : (alone both : Operator) (text : List ℕ) → Follows (Angle alone both) text before_major (Ok (with_equal alone both text))
 angle_follows alone both [] = λ tree. at_end (Angle alone both) tree ∙ sym (at_end (Before (Major alone)) tree)
@@ -155,15 +158,22 @@ angle_follows alone both (b ∷ rest) = elim (cases_Bool (b == 61)) [
 pub operator_follows : (text : List ℕ) → starts_space text ≡ false → Follows Lead text before_major (operator_of text)
 operator_follows [] h = λ tree. at_end Lead tree ∙ sym (at_end (Before (Major Equal)) tree)
 operator_follows (b ∷ rest) h = elim (cases_Bool (b == 61)) [
-  | inl equal ↦ rw equal (Follows-later Lead (Half 61 Equal) (b ∷ rest) rest before_major _ (λ tree. go Lead (Half 61 Equal) b rest tree (rw (h, equal) refl)) (completed_follows Equal 61 rest))
+  | inl equal ↦ rw equal (Follows-later Lead (Half 61 Equal) (b ∷ rest) rest before_major _
+      (λ tree. go Lead (Half 61 Equal) b rest tree (rw (h, equal) refl)) (completed_follows Equal 61 rest))
   | inr n1 ↦ elim (cases_Bool (b == 33)) [
-    | inl bang ↦ rw (n1, bang) (Follows-later Lead (Half 61 NotEqual) (b ∷ rest) rest before_major _ (λ tree. go Lead (Half 61 NotEqual) b rest tree (rw (h, n1, bang) refl)) (completed_follows NotEqual 61 rest))
+    | inl bang ↦ rw (n1, bang) (Follows-later Lead (Half 61 NotEqual) (b ∷ rest) rest before_major _
+        (λ tree. go Lead (Half 61 NotEqual) b rest tree (rw (h, n1, bang) refl)) (completed_follows NotEqual 61 rest))
     | inr n2 ↦ elim (cases_Bool (b == 126)) [
-      | inl tilde ↦ rw (n1, n2, tilde) (Follows-later Lead (Half 62 Compatible) (b ∷ rest) rest before_major _ (λ tree. go Lead (Half 62 Compatible) b rest tree (rw (h, n1, n2, tilde) refl)) (completed_follows Compatible 62 rest))
+      | inl tilde ↦ rw (n1, n2, tilde) (Follows-later Lead (Half 62 Compatible) (b ∷ rest) rest before_major _
+          (λ tree. go Lead (Half 62 Compatible) b rest tree (rw (h, n1, n2, tilde) refl)) (completed_follows Compatible 62 rest))
       | inr n3 ↦ elim (cases_Bool (b == 62)) [
-        | inl more ↦ rw (n1, n2, n3, more) (Follows-later Lead (Angle Greater GreaterOrEqual) (b ∷ rest) rest before_major (Ok (with_equal Greater GreaterOrEqual rest)) (λ tree. go Lead (Angle Greater GreaterOrEqual) b rest tree (rw (h, n1, n2, n3, more) refl)) (angle_follows Greater GreaterOrEqual rest))
+        | inl more ↦ rw (n1, n2, n3, more)
+            (Follows-later Lead (Angle Greater GreaterOrEqual) (b ∷ rest) rest before_major (Ok (with_equal Greater GreaterOrEqual rest))
+            (λ tree. go Lead (Angle Greater GreaterOrEqual) b rest tree (rw (h, n1, n2, n3, more) refl)) (angle_follows Greater GreaterOrEqual rest))
         | inr n4 ↦ elim (cases_Bool (b == 60)) [
-          | inl less ↦ rw (n1, n2, n3, n4, less) (Follows-later Lead (Angle Less LessOrEqual) (b ∷ rest) rest before_major (Ok (with_equal Less LessOrEqual rest)) (λ tree. go Lead (Angle Less LessOrEqual) b rest tree (rw (h, n1, n2, n3, n4, less) refl)) (angle_follows Less LessOrEqual rest))
+          | inl less ↦ rw (n1, n2, n3, n4, less)
+              (Follows-later Lead (Angle Less LessOrEqual) (b ∷ rest) rest before_major (Ok (with_equal Less LessOrEqual rest))
+              (λ tree. go Lead (Angle Less LessOrEqual) b rest tree (rw (h, n1, n2, n3, n4, less) refl)) (angle_follows Less LessOrEqual rest))
           | inr n5 ↦ rw (n1, n2, n3, n4, n5) (λ tree. alike Lead (Before (Major Equal)) b rest tree (rw (h, n1, n2, n3, n4, n5) refl))
         ]
       ]
@@ -187,7 +197,8 @@ abbrev EndsDigits : Read ℕ → Type 0
 EndsDigits (Ok r) = starts_digit (r.1) ≡ false
 EndsDigits (Err s) = Unit {0}
 
-pub digits_follow : (n : Numbers) (value : ℕ) (text : List ℕ) → Follows (Number n value) text (λ v. Number n v) (digits_of value text) × EndsDigits (digits_of value text)
+pub digits_follow : (n : Numbers) (value : ℕ) (text : List ℕ)
+    → Follows (Number n value) text (λ v. Number n v) (digits_of value text) × EndsDigits (digits_of value text)
 digits_follow n value [] = rw (digits_nil value) ((λ tree. refl), refl)
 digits_follow n value (b ∷ rest) = elim (cases_Bool (is_ascii_digit b)) [
   | inl digit ↦ elim (cases_Option (with_digit value (b - 48))) [
@@ -195,7 +206,8 @@ digits_follow n value (b ∷ rest) = elim (cases_Bool (is_ascii_digit b)) [
     | inr (more, some) ↦
         let ih = digits_follow n more rest in
         rw (digits_take value more b rest digit some) (
-          Follows-later (Number n value) (Number n more) (b ∷ rest) rest (λ v. Number n v) (digits_of more rest) (λ tree. go (Number n value) (Number n more) b rest tree (rw (digit, some) refl)) ih.0,
+          Follows-later (Number n value) (Number n more) (b ∷ rest) rest (λ v. Number n v) (digits_of more rest)
+              (λ tree. go (Number n value) (Number n more) b rest tree (rw (digit, some) refl)) ih.0,
           ih.1,
         )
   ]
@@ -254,8 +266,10 @@ short_refused o a m (b ∷ rest) d p none tree = halt (Number (Minor o a) m) b r
 
 short_follows : (o : Operator) (a m : ℕ) (text : List ℕ) → starts_digit text ≡ false → starts_dot text ≡ false
     → Follows (Number (Minor o a) m) text (λ h. Whole h) (short_head o a m text)
-short_follows Compatible a m [] d p = λ tree. at_end (Number (Minor Compatible a) m) tree ∙ sym (at_end (Whole (record { operator = Compatible; major = a; minor = m; patch = 0; patch_written = false })) tree)
-short_follows Compatible a m (b ∷ rest) d p = λ tree. alike (Number (Minor Compatible a) m) (Whole (record { operator = Compatible; major = a; minor = m; patch = 0; patch_written = false })) b rest tree (rw (d, p) refl)
+short_follows Compatible a m [] d p = λ tree. at_end (Number (Minor Compatible a) m) tree
+    ∙ sym (at_end (Whole (record { operator = Compatible; major = a; minor = m; patch = 0; patch_written = false })) tree)
+short_follows Compatible a m (b ∷ rest) d p = λ tree. alike (Number (Minor Compatible a) m)
+    (Whole (record { operator = Compatible; major = a; minor = m; patch = 0; patch_written = false })) b rest tree (rw (d, p) refl)
 short_follows Equal a m text d p = short_refused Equal a m text d p refl
 short_follows NotEqual a m text d p = short_refused NotEqual a m text d p refl
 short_follows Greater a m text d p = short_refused Greater a m text d p refl
@@ -285,11 +299,13 @@ whole h = Whole h
 pub head_follows : (text : List ℕ) → Follows Lead text whole (head_of text)
 head_follows text = rw (head_is text) (
     Follows-later Lead Lead text (without_spaces text) whole _ (spaces_lead text)
-    (Follows-bind Lead (without_spaces text) before_major whole (operator_of (without_spaces text)) _ (operator_follows (without_spaces text) (starts_space-without text)) (λ o _.
+    (Follows-bind Lead (without_spaces text) before_major whole (operator_of (without_spaces text)) _
+    (operator_follows (without_spaces text) (starts_space-without text)) (λ o _.
     Follows-later (Before (Major o.0)) (Before (Major o.0)) o.1 (without_spaces o.1) whole _ (spaces_before o.0 o.1)
     (let major = number_follows (Major o.0) (without_spaces o.1) (starts_space-without o.1) in
     Follows-bind (Before (Major o.0)) (without_spaces o.1) (λ v. Number (Major o.0) v) whole (number_of (without_spaces o.1)) _ major.0 (λ a ea.
-    Follows-text (Number (Major o.0) a.0) (Before (Minor o.0 a.0)) a.1 whole (after_byte 46 a.1) _ (dot_follows o.0 a.0 a.1 (subst EndsDigits ea major.1)) (λ t.
+    Follows-text (Number (Major o.0) a.0) (Before (Minor o.0 a.0)) a.1 whole (after_byte 46 a.1) _
+    (dot_follows o.0 a.0 a.1 (subst EndsDigits ea major.1)) (λ t.
     let minor = number_follows (Minor o.0 a.0) t refl in
     Follows-bind (Before (Minor o.0 a.0)) t (λ v. Number (Minor o.0 a.0) v) whole (number_of t) _ minor.0 (λ m em.
     patch_follows o.0 a.0 m.0 m.1 (subst EndsDigits em minor.1))))))))
@@ -314,7 +330,8 @@ ids_finish Build h pre text last tree g = rw g refl
 pub ids_follow : (k : Kind) (h : Head) (pre text last rest : List ℕ)
     → Follows (Ids k h pre text last) rest (after_ids k h pre) (identifiers_from k text last rest)
 ids_follow k h pre text last [] = elim (cases_Bool (is_identifier k last)) [
-  | inl good ↦ rw (ids_nil_good k text last good) (λ tree. at_end (Ids k h pre text last) tree ∙ ids_finish k h pre text last tree good ∙ sym (at_end (after_ids k h pre text) tree))
+  | inl good ↦ rw (ids_nil_good k text last good)
+      (λ tree. at_end (Ids k h pre text last) tree ∙ ids_finish k h pre text last tree good ∙ sym (at_end (after_ids k h pre text) tree))
   | inr bad ↦ rw (ids_nil_bad k text last bad) (λ tree. at_end (Ids k h pre text last) tree ∙ rw bad refl)
 ]
 ids_follow k h pre text last (b ∷ rest) = elim (cases_Bool (is_identifier_byte b)) [
@@ -360,7 +377,8 @@ pub comparison_follows : (text : List ℕ) → Follows Lead text after (comparis
 comparison_follows text = rw (comparison_is text) (
     Follows-bind Lead text whole after (head_of text) _ (head_follows text) (λ h _.
     Follows-bind (Whole h.0) h.1 (λ pre. AfterPre h.0 pre) after (marked_of PreRelease h.1) _ (pre_follows h.0 h.1) (λ pre _.
-    Follows-bind (AfterPre h.0 pre.0) pre.1 (λ build. After (condition h.0 pre.0 build)) after (marked_of Build pre.1) _ (build_follows h.0 pre.0 pre.1) (λ build _ tree. refl))))
+    Follows-bind (AfterPre h.0 pre.0) pre.1 (λ build. After (condition h.0 pre.0 build)) after (marked_of Build pre.1) _
+    (build_follows h.0 pre.0 pre.1) (λ build _ tree. refl))))
 
 -- ---- what follows a comparison
 
@@ -380,7 +398,8 @@ Joins-text : (p q : Place) (text : List ℕ) (tree : Tree) (r : Result (List ℕ
 Joins-text p q text tree (Ok rest) f h next = Joins-later p q text rest tree (f rest) (h tree) (next rest)
 Joins-text p q text tree (Err s) f h next = h tree
 
-letter_follows : (x y : ℕ) (others : List ℕ) (j : Joint) (text : List ℕ) → FollowsText (Word x (y ∷ others) j) text (Word y others j) (after_byte x text)
+letter_follows : (x y : ℕ) (others : List ℕ) (j : Joint) (text : List ℕ)
+    → FollowsText (Word x (y ∷ others) j) text (Word y others j) (after_byte x text)
 letter_follows x y others j text = byte_follows (Word x (y ∷ others) j) (Word y others j) x text (λ tree. refl) (λ b h. rw h refl) (λ b h. rw h refl)
 
 word_ends : (j : Joint) (text : List ℕ) (tree : Tree) → Joins (Word 32 [] j) text tree (after_byte 32 text >>= λ rest. Ok (Some j, rest))
@@ -390,21 +409,27 @@ word_ends j (b ∷ rest) tree = elim (cases_Bool (b == 32)) [
   | inr other ↦ rw other (halt (Word 32 [] j) b rest tree (rw other refl))
 ]
 
-and_joins : (text : List ℕ) (tree : Tree) → Joins (Word 110 (100 ∷ 32 ∷ []) And) text tree (after_byte 110 text >>= λ t. after_byte 100 t >>= λ u. after_byte 32 u >>= λ v. Ok (Some And, v))
+and_joins : (text : List ℕ) (tree : Tree)
+    → Joins (Word 110 (100 ∷ 32 ∷ []) And) text tree
+    (after_byte 110 text >>= λ t. after_byte 100 t >>= λ u. after_byte 32 u >>= λ v. Ok (Some And, v))
 and_joins text tree =
-    Joins-text (Word 110 (100 ∷ 32 ∷ []) And) (Word 100 (32 ∷ []) And) text tree (after_byte 110 text) _ (letter_follows 110 100 (32 ∷ []) And text) (λ t.
+    Joins-text (Word 110 (100 ∷ 32 ∷ []) And) (Word 100 (32 ∷ []) And) text tree (after_byte 110 text) _ (letter_follows 110 100 (32 ∷ []) And text)
+    (λ t.
     Joins-text (Word 100 (32 ∷ []) And) (Word 32 [] And) t tree (after_byte 100 t) _ (letter_follows 100 32 [] And t) (λ u. word_ends And u tree))
 
-or_joins : (text : List ℕ) (tree : Tree) → Joins (Word 114 (32 ∷ []) Or) text tree (after_byte 114 text >>= λ t. after_byte 32 t >>= λ u. Ok (Some Or, u))
+or_joins : (text : List ℕ) (tree : Tree) → Joins (Word 114 (32 ∷ []) Or) text tree
+    (after_byte 114 text >>= λ t. after_byte 32 t >>= λ u. Ok (Some Or, u))
 or_joins text tree =
     Joins-text (Word 114 (32 ∷ []) Or) (Word 32 [] Or) text tree (after_byte 114 text) _ (letter_follows 114 32 [] Or text) (λ t. word_ends Or t tree)
 
 word_joins : (text : List ℕ) (tree : Tree) → starts_space text ≡ false → Joins Gap text tree (word_of text)
 word_joins [] tree h = at_end Gap tree
 word_joins (b ∷ rest) tree h = elim (cases_Bool (b == 97)) [
-  | inl a ↦ rw a (Joins-later Gap (Word 110 (100 ∷ 32 ∷ []) And) (b ∷ rest) rest tree _ (go Gap (Word 110 (100 ∷ 32 ∷ []) And) b rest tree (rw (h, a) refl)) (and_joins rest tree))
+  | inl a ↦ rw a (Joins-later Gap (Word 110 (100 ∷ 32 ∷ []) And) (b ∷ rest) rest tree _
+      (go Gap (Word 110 (100 ∷ 32 ∷ []) And) b rest tree (rw (h, a) refl)) (and_joins rest tree))
   | inr n1 ↦ elim (cases_Bool (b == 111)) [
-    | inl o ↦ rw (n1, o) (Joins-later Gap (Word 114 (32 ∷ []) Or) (b ∷ rest) rest tree _ (go Gap (Word 114 (32 ∷ []) Or) b rest tree (rw (h, n1, o) refl)) (or_joins rest tree))
+    | inl o ↦ rw (n1, o) (Joins-later Gap (Word 114 (32 ∷ []) Or) (b ∷ rest) rest tree _
+        (go Gap (Word 114 (32 ∷ []) Or) b rest tree (rw (h, n1, o) refl)) (or_joins rest tree))
     | inr n2 ↦ rw (n1, n2) (halt Gap b rest tree (rw (h, n1, n2) refl))
   ]
 ]
@@ -415,7 +440,8 @@ JoinsAfter c text tree (Ok (None, rest)) = run text (After c) tree ≡ Ok (close
 JoinsAfter c text tree (Ok (Some j, rest)) = run text (After c) tree ≡ run rest Lead (joined j (with_condition c tree))
 JoinsAfter c text tree (Err s) = run text (After c) tree ≡ Err s.left
 
-after_gap : (c : Condition) (text rest : List ℕ) (tree : Tree) (r : Read (Option Joint)) → run text (After c) tree ≡ run rest Gap (with_condition c tree)
+after_gap : (c : Condition) (text rest : List ℕ) (tree : Tree) (r : Read (Option Joint))
+    → run text (After c) tree ≡ run rest Gap (with_condition c tree)
     → Joins Gap rest (with_condition c tree) r → JoinsAfter c text tree r
 after_gap c text rest tree (Ok (None, after)) same h = same ∙ h
 after_gap c text rest tree (Ok (Some j, after)) same h = same ∙ h

@@ -41,7 +41,9 @@ number_other b rest h = rw h refl
 
 -- ---- the operator and the numbers
 
-pub head_is : (text : List ℕ) → head_of text ≡ (operator_of (without_spaces text) >>= λ o. number_of (without_spaces o.1) >>= λ a. after_byte 46 a.1 >>= λ t. number_of t >>= λ m. patch_of o.0 a.0 m.0 m.1)
+pub head_is : (text : List ℕ) → head_of text
+    ≡ (operator_of (without_spaces text) >>= λ o. number_of (without_spaces o.1) >>= λ a. after_byte 46 a.1 >>= λ t. number_of t >>= λ m. patch_of o.0
+    a.0 m.0 m.1)
 unfolding head_of
 head_is text = refl
 
@@ -65,7 +67,8 @@ pub ids_dot : (k : Kind) (text last : List ℕ) (b : ℕ) (rest : List ℕ) → 
 unfolding identifiers_from
 ids_dot k text last b rest h g d = rw (h, g, d) refl
 
-pub ids_stop : (k : Kind) (text last : List ℕ) (b : ℕ) (rest : List ℕ) → is_identifier_byte b ≡ false → is_identifier k last ≡ true → (b == 46) ≡ false
+pub ids_stop : (k : Kind) (text last : List ℕ) (b : ℕ) (rest : List ℕ) → is_identifier_byte b ≡ false → is_identifier k last ≡ true
+    → (b == 46) ≡ false
     → identifiers_from k text last (b ∷ rest) ≡ Ok (text, b ∷ rest)
 unfolding identifiers_from
 ids_stop k text last b rest h g d = rw (h, g, d) refl
@@ -77,7 +80,8 @@ ids_bad k text last b rest h g = rw (h, g) refl
 
 -- ---- a comparison
 
-pub comparison_is : (text : List ℕ) → comparison_of text ≡ (head_of text >>= λ h. marked_of PreRelease h.1 >>= λ pre. marked_of Build pre.1 >>= λ build. Ok (condition h.0 pre.0 build.0, build.1))
+pub comparison_is : (text : List ℕ) → comparison_of
+    text ≡ (head_of text >>= λ h. marked_of PreRelease h.1 >>= λ pre. marked_of Build pre.1 >>= λ build. Ok (condition h.0 pre.0 build.0, build.1))
 unfolding comparison_of
 comparison_is text = refl
 

@@ -68,7 +68,8 @@ digit_sound : (n : Numbers) (o : Option ℕ) → LeadsSound (next_digit n o)
 digit_sound n (Some v) = tt
 digit_sound n None = tt
 
-lacking_sound : (o : Operator) (a v b : ℕ) → (lacking_patch o a v ≡ None) ⊎ ((h : Head) × (lacking_patch o a v ≡ Some h)) → LeadsSound (number_end (Minor o a) v b)
+lacking_sound : (o : Operator) (a v b : ℕ) → (lacking_patch o a v ≡ None) ⊎ ((h : Head) × (lacking_patch o a v ≡ Some h))
+    → LeadsSound (number_end (Minor o a) v b)
 lacking_sound o a v b (inl none) = if_sound (b == 46) (Some (Go (Before (Patch o a v)))) _ tt (rw none tt)
 lacking_sound o a v b (inr (h, some)) = if_sound (b == 46) (Some (Go (Before (Patch o a v)))) _ tt (rw some (numbers_sound h b))
 
@@ -81,7 +82,8 @@ ids_end_sound : (k : Kind) (h : Head) (pre text : List ℕ) (b : ℕ) → LeadsS
 ids_end_sound PreRelease h pre text b = pre_sound h text b
 ids_end_sound Build h pre text b = end_sound _ b
 
-ids_sound : (k : Kind) (h : Head) (pre text last : List ℕ) (b : ℕ) → list_all is_identifier_byte last ≡ true → LeadsSound (step (Ids k h pre text last) b)
+ids_sound : (k : Kind) (h : Head) (pre text last : List ℕ) (b : ℕ) → list_all is_identifier_byte last ≡ true
+    → LeadsSound (step (Ids k h pre text last) b)
 ids_sound k h pre text last b all = elim (cases_Bool (is_identifier_byte b)) [
   | inl letter ↦ rw letter (rw (list_all-append, all, letter) refl)
   | inr other ↦ rw other (
@@ -172,11 +174,13 @@ lives_word next (x ∷ others) j tree =
     lives_before (Word next (x ∷ others) j) (Word x others j) next tree (rw (eq-eqb next next refl) refl) (lives_word x others j tree)
 
 ids_letter_end : (k : Kind) (h : Head) (pre text last : List ℕ) (tree : Tree) → is_identifier k last ≡ true → Lives (Ids k h pre text last) tree
-ids_letter_end k h pre text last tree good = ([], closed (with_condition (ids_ends k h pre text) tree), at_end (Ids k h pre text last) tree ∙ rw good refl)
+ids_letter_end k h pre text last tree good =
+    ([], closed (with_condition (ids_ends k h pre text) tree), at_end (Ids k h pre text last) tree ∙ rw good refl)
 
 lives : (p : Place) (tree : Tree) → IsSound p → Lives p tree
 lives Lead tree s = lives_lead tree
-lives (Half second o) tree s = lives_before (Half second o) (Before (Major o)) second tree (rw (eq-eqb second second refl) refl) (lives_first (Major o) tree)
+lives (Half second o) tree s = lives_before (Half second o) (Before (Major o)) second tree (rw (eq-eqb second second refl) refl)
+    (lives_first (Major o) tree)
 lives (Angle alone both) tree s = lives_before (Angle alone both) (Number (Major alone) 0) 48 tree refl (lives_number (Major alone) 0 tree)
 lives (Before n) tree s = lives_first n tree
 lives (Number n v) tree s = lives_number n v tree
@@ -240,7 +244,8 @@ same_left m n e = cc e
 same_head : (a b : ℕ) (s t : List ℕ) → a ∷ s ≡ b ∷ t → a ≡ b
 same_head a b s t e = cc e
 
-stops_here : (p : Place) (tree : Tree) (b : ℕ) (rest : List ℕ) (left : ℕ) → IsSound p → step p b ≡ None → run (b ∷ rest) p tree ≡ Err left → StopsAt (b ∷ rest) p tree left
+stops_here : (p : Place) (tree : Tree) (b : ℕ) (rest : List ℕ) (left : ℕ) → IsSound p → step p b ≡ None → run (b ∷ rest) p tree ≡ Err left
+    → StopsAt (b ∷ rest) p tree left
 stops_here p tree b rest left s none h = record {
   taken = [];
   rest = b ∷ rest;

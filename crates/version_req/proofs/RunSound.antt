@@ -31,7 +31,8 @@ and_cons t c before later inner d ds (k ∷ more) s (first, b, l, rest, hf, hr, 
   rest,
   (t, before, later, first, s, hf, refl),
   hr,
-  ap (and_text t before later) e ∙ and_regroup t (spaces (suc before)) (codes "and") (spaces (suc later)) first (spaces (suc b)) (codes "or") (spaces (suc l)) rest,
+  ap (and_text t before later) e ∙ and_regroup t (spaces (suc before)) (codes "and") (spaces (suc later)) first (spaces (suc b)) (codes "or")
+      (spaces (suc l)) rest,
 )
 
 or_cons : (t : List ℕ) (c : Condition) (before later : ℕ) (inner : List ℕ) (g : List Condition) (gs : List (List Condition))
@@ -88,7 +89,8 @@ or_step done g h gs = append_assoc done (g ∷ []) (h ∷ gs)
 same_Ok : (a b : Alternatives) → ◌≡◌ {A = Result Alternatives ℕ} (Ok a) (Ok b) → a ≡ b
 same_Ok a b e = cc
 
-by_joint : (k : ℕ) → SoundBelow k → (text rest : List ℕ) (c : Condition) → length text < suc k → (done : List (List Condition)) (group : List Condition) (r : Alternatives)
+by_joint : (k : ℕ) → SoundBelow k → (text rest : List ℕ) (c : Condition) → length text < suc k
+    → (done : List (List Condition)) (group : List Condition) (r : Alternatives)
     → ReadsComparison text rest c → run rest (After c) (tree_of done group) ≡ Ok r
     → (q : Read (Option Joint)) → joint_of rest ≡ q → JoinsAfter c rest (tree_of done group) q → Spelled text done group r
 by_joint k ih text rest c lt done group r read h (Err s) e joins = cc (sym h ∙ joins)
@@ -121,7 +123,8 @@ by_joint k ih text rest c lt done group r (before, t, bytes, spelled) h (Ok (Som
     }
 by_joint k ih text rest c lt done group r (before, t, bytes, spelled) h (Ok (Some Or, tail)) e joins =
     let word = joint_of-Ok rest (Some Or) tail e in
-    let more = ih tail (is_shorter k text rest tail t before word.0 (codes "or") lt bytes word.1) (done ++ (group ++ c ∷ []) ∷ []) [] r (sym joins ∙ h) in
+    let more = ih tail (is_shorter k text rest tail t before word.0 (codes "or") lt bytes word.1) (done ++ (group ++ c ∷ []) ∷ []) [] r
+    (sym joins ∙ h) in
     record {
       before = before;
       inner = or_text t word.0 more.before more.inner;
@@ -134,8 +137,10 @@ by_joint k ih text rest c lt done group r (before, t, bytes, spelled) h (Ok (Som
       tree = more.tree ∙ or_step done (group ++ c ∷ []) (more.first ∷ more.others) more.groups;
     }
 
-by_comparison : (k : ℕ) → SoundBelow k → (text : List ℕ) → length text < suc k → (done : List (List Condition)) (group : List Condition) (r : Alternatives)
-    → run text Lead (tree_of done group) ≡ Ok r → (q : Read Condition) → comparison_of text ≡ q → Follows Lead text after q → Spelled text done group r
+by_comparison : (k : ℕ) → SoundBelow k → (text : List ℕ) → length text < suc k
+    → (done : List (List Condition)) (group : List Condition) (r : Alternatives)
+    → run text Lead (tree_of done group) ≡ Ok r → (q : Read Condition) → comparison_of text ≡ q → Follows Lead text after q
+    → Spelled text done group r
 by_comparison k ih text lt done group r h (Err s) e follows = cc (sym h ∙ follows (tree_of done group))
 by_comparison k ih text lt done group r h (Ok (c, rest)) e follows =
     by_joint k ih text rest c lt done group r (comparison_of-Ok text c rest e) (sym (follows (tree_of done group)) ∙ h)

@@ -82,7 +82,8 @@ completed-Ok o first second text p rest spelled h =
     let bytes : text ≡ second ∷ rest = after_byte-Ok second text b.0 b.1 ∙ ap (λ (t : List ℕ). second ∷ t) pair.1 in
     (first ∷ second ∷ [], inl (sym spelled ∙ ap operator_text pair.0), ap (λ (t : List ℕ). first ∷ t) bytes)
 
-with_equal-Ok : (alone both : Operator) (first : ℕ) (text : List ℕ) (p : Operator) (rest : List ℕ) → operator_text alone ≡ first ∷ [] → operator_text both ≡ first ∷ 61 ∷ []
+with_equal-Ok : (alone both : Operator) (first : ℕ) (text : List ℕ) (p : Operator) (rest : List ℕ) → operator_text alone ≡ first ∷ []
+    → operator_text both ≡ first ∷ 61 ∷ []
     → got (with_equal alone both text) ≡ Ok (p, rest) → ReadsOperator (first ∷ text) p rest
 with_equal-Ok alone both first [] p rest one two h =
     let pair = ok_pair alone p [] rest h in
@@ -96,7 +97,8 @@ with_equal-Ok alone both first (b ∷ r) p rest one two h = elim (cases_Bool (b 
       (first ∷ [], inl (sym one ∙ ap operator_text pair.0), ap (λ (t : List ℕ). first ∷ t) pair.1)
 ]
 
-first_is : (b k : ℕ) (text : List ℕ) (o : Operator) (rest : List ℕ) → (b == k) ≡ true → ReadsOperator (k ∷ text) o rest → ReadsOperator (b ∷ text) o rest
+first_is : (b k : ℕ) (text : List ℕ) (o : Operator) (rest : List ℕ) → (b == k) ≡ true → ReadsOperator (k ∷ text) o rest
+    → ReadsOperator (b ∷ text) o rest
 first_is b k text o rest e h = subst (λ (n : ℕ). ReadsOperator (n ∷ text) o rest) (sym (eqb-true b k e)) h
 
 pub operator_of-Ok : (text : List ℕ) (o : Operator) (rest : List ℕ) → operator_of text ≡ Ok (o, rest) → ReadsOperator text o rest
@@ -125,7 +127,8 @@ operator_of-Ok (b ∷ r) o rest h = elim (cases_Bool (b == 61)) [
 -- ---- numbers
 
 -- a number that took one digit more
-with_digit-cases : (value digit : ℕ) → (with_digit value digit ≡ None) ⊎ ((0 < value) × (value * 10 + digit < 2 ^ 64) × (with_digit value digit ≡ Some (value * 10 + digit)))
+with_digit-cases : (value digit : ℕ) → (with_digit value digit ≡ None) ⊎
+    ((0 < value) × (value * 10 + digit < 2 ^ 64) × (with_digit value digit ≡ Some (value * 10 + digit)))
 with_digit-cases value digit = elim (cases_Bool (value == 0)) [
   | inl none ↦ inl (rw none refl)
   | inr some ↦ elim (cases_lt (value * 10 + digit) (2 ^ 64)) [
@@ -277,7 +280,8 @@ head_of-Ok text h rest e =
         op.0,
         gap.0,
         subst (SpellsOperator op.0) (sym patch.operator) op.1,
-        before.1 ∙ ap (λ (x : List ℕ). spaces before.0 ++ x) (op.2 ∙ ap (λ (x : List ℕ). op.0 ++ x) (gap.1 ∙ ap (λ (x : List ℕ). spaces gap.0 ++ x) numbers)),
+        before.1 ∙ ap (λ (x : List ℕ). spaces before.0 ++ x)
+            (op.2 ∙ ap (λ (x : List ℕ). op.0 ++ x) (gap.1 ∙ ap (λ (x : List ℕ). spaces gap.0 ++ x) numbers)),
       );
     }
 
@@ -345,7 +349,8 @@ marked_of-Ok k (b ∷ r) v rest h = elim (cases_Bool (b == mark_of k)) [
       let read = ids_read k [] [] r v rest refl (rw mark at h) in
       let same : read.0 ≡ v = read.1 in
       let good = ids_good k v (subst (λ (t : List ℕ). list_all (is_identifier k) (parts t) ≡ true) same read.3) in
-      let bytes : b ∷ r ≡ mark_of k ∷ (v ++ rest) = rw (eqb-true b (mark_of k) mark) (ap (λ (t : List ℕ). mark_of k ∷ t) (read.2 ∙ ap (λ (t : List ℕ). t ++ rest) same)) in
+      let bytes : b ∷ r ≡ mark_of k ∷ (v ++ rest) = rw (eqb-true b (mark_of k) mark)
+      (ap (λ (t : List ℕ). mark_of k ∷ t) (read.2 ∙ ap (λ (t : List ℕ). t ++ rest) same)) in
       let shape : marked (mark_of k) v ≡ mark_of k ∷ v = rw good.1.2 refl in
       (bytes ∙ ap (λ (t : List ℕ). t ++ rest) (sym shape), good.0)
   | inr other ↦
@@ -362,7 +367,8 @@ operand-split false a m p pre build = short_text (decimal a) (decimal m) (marked
 
 -- a text by its pieces, as the grammar groups them
 whole_text : (text s op gap numbers after_numbers pre after_pre build after_build rest operand : List ℕ)
-    → text ≡ s ++ (op ++ (gap ++ (numbers ++ after_numbers))) → after_numbers ≡ pre ++ after_pre → after_pre ≡ build ++ after_build → after_build ≡ rest
+    → text ≡ s ++ (op ++ (gap ++ (numbers ++ after_numbers))) → after_numbers ≡ pre ++ after_pre → after_pre ≡ build ++ after_build
+    → after_build ≡ rest
     → operand ≡ numbers ++ (pre ++ build) → text ≡ s ++ ((op ++ (gap ++ operand)) ++ rest)
 whole_text text s op gap numbers after_numbers pre after_pre build after_build rest operand e f g h i = rw (e, f, g, h, i) (simp append_assoc)
 
@@ -382,8 +388,10 @@ comparison_of-Ok text c rest e =
     let n = h.0.0 in
     let t = s.1 ++ (spaces s.2 ++ operand_text n.patch_written (n.major, n.minor, n.patch, p.0.0, b.0.0)) in
     let whole : text ≡ spaces s.0 ++ (t ++ rest) =
-    whole_text text (spaces s.0) s.1 (spaces s.2) (numbers_text n.patch_written n.major n.minor n.patch) h.0.1 (marked 45 p.0.0) p.0.1 (marked 43 b.0.0) b.0.1 rest
-    (operand_text n.patch_written (n.major, n.minor, n.patch, p.0.0, b.0.0)) s.4 pre.0 build.0 pair.1 (operand-split n.patch_written n.major n.minor n.patch p.0.0 b.0.0) in
+    whole_text text (spaces s.0) s.1 (spaces s.2) (numbers_text n.patch_written n.major n.minor n.patch) h.0.1 (marked 45 p.0.0) p.0.1
+    (marked 43 b.0.0) b.0.1 rest
+    (operand_text n.patch_written (n.major, n.minor, n.patch, p.0.0, b.0.0)) s.4 pre.0 build.0 pair.1
+    (operand-split n.patch_written n.major n.minor n.patch p.0.0 b.0.0) in
     let spelled : SpellsComparison t (condition h.0.0 p.0.0 b.0.0) = record {
       valid = (head.major, head.minor, head.patch, pre.1, build.1);
       patch = head.lacks;
@@ -404,7 +412,8 @@ ReadsWord text (Some j) rest = text ≡ joint_word j ++ (32 ∷ rest)
 got_joint : (o q : Option Joint) (s t : List ℕ) → got_pair o s ≡ got_pair q t → (o ≡ q) × (s ≡ t)
 got_joint o q s t e = ok_pair o q s t e
 
-word_read : (text : List ℕ) (j : Joint) (o : Option Joint) (s rest : List ℕ) → text ≡ joint_word j ++ (32 ∷ s) → got_pair (Some j) s ≡ Ok (o, rest) → ReadsWord text o rest
+word_read : (text : List ℕ) (j : Joint) (o : Option Joint) (s rest : List ℕ) → text ≡ joint_word j ++ (32 ∷ s) → got_pair (Some j) s ≡ Ok (o, rest)
+    → ReadsWord text o rest
 word_read text j o s rest bytes e =
     let pair = got_joint (Some j) o s rest e in
     subst (λ (q : Option Joint). ReadsWord text q rest) pair.0 (bytes ∙ ap (λ (t : List ℕ). joint_word j ++ (32 ∷ t)) pair.1)
@@ -424,7 +433,8 @@ word_of-Ok (b ∷ r) o rest h = elim (cases_Bool (b == 97)) [
       let n = bind_ok (after_byte 110 r) (λ t. after_byte 100 t >>= λ u. after_byte 32 u >>= λ v. got_pair (Some And) v) (o, rest) (rw a at h) in
       let d = bind_ok (after_byte 100 n.0) (λ u. after_byte 32 u >>= λ v. got_pair (Some And) v) (o, rest) n.2 in
       let s = bind_ok (after_byte 32 d.0) (λ v. got_pair (Some And) v) (o, rest) d.2 in
-      let bytes = and_bytes b r n.0 d.0 s.0 (eqb-true b 97 a) (after_byte-Ok 110 r n.0 n.1) (after_byte-Ok 100 n.0 d.0 d.1) (after_byte-Ok 32 d.0 s.0 s.1) in
+      let bytes = and_bytes b r n.0 d.0 s.0 (eqb-true b 97 a) (after_byte-Ok 110 r n.0 n.1) (after_byte-Ok 100 n.0 d.0 d.1)
+      (after_byte-Ok 32 d.0 s.0 s.1) in
       word_read (b ∷ r) And o s.0 rest bytes s.2
   | inr n1 ↦ elim (cases_Bool (b == 111)) [
     | inl oh ↦
@@ -440,7 +450,8 @@ abbrev pub ReadsJoint : List ℕ → Option Joint → List ℕ → Type 0
 ReadsJoint text None rest = (n : ℕ) × (text ≡ spaces n)
 ReadsJoint text (Some j) rest = (n : ℕ) × (text ≡ spaces (suc n) ++ (joint_word j ++ (32 ∷ rest)))
 
-spaced_word : (n : ℕ) (text word : List ℕ) (o : Option Joint) (rest : List ℕ) → text ≡ 32 ∷ (spaces n ++ word) → ReadsWord word o rest → ReadsJoint text o rest
+spaced_word : (n : ℕ) (text word : List ℕ) (o : Option Joint) (rest : List ℕ) → text ≡ 32 ∷ (spaces n ++ word) → ReadsWord word o rest
+    → ReadsJoint text o rest
 spaced_word n text word None rest e w = (suc n, e ∙ ap (λ (t : List ℕ). 32 ∷ (spaces n ++ t)) w ∙ append-nil (spaces (suc n)))
 spaced_word n text word (Some j) rest e w = (n, e ∙ ap (λ (t : List ℕ). 32 ∷ (spaces n ++ t)) w)
 

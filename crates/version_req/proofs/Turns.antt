@@ -27,7 +27,8 @@ comparison_stuck text rest done group s comes e = comes ∙ follows_at rest (Err
 
 -- after a comparison
 comes_after : (text rest next : List ℕ) (done : List (List Condition)) (group : List Condition) (c : Condition)
-    → ComesTo text rest done group → Ok (c, next) ≡ comparison_of rest → run text Lead empty ≡ run next (After c) (record { done = done; group = group })
+    → ComesTo text rest done group → Ok (c, next) ≡ comparison_of rest
+    → run text Lead empty ≡ run next (After c) (record { done = done; group = group })
 comes_after text rest next done group c comes e = comes ∙ follows_at rest (Ok (c, next)) e (record { done = done; group = group })
 
 -- no word and no end

@@ -3,7 +3,8 @@ use Rattle.hex_messages.proofs.StandLemmas.{merged_some, merged_none}
 use Rattle.hex_messages.proofs.building.given_merged.Goals as goal
 
 pub returns-in-Some : goal.returns-in-Some
-returns-in-Some c = merged_some c.args.number c.args.text.now c.bytes.result.now (payload_of c.in-Some.value) c.requires c.in-Some.ensures c.bytes.ensures
+returns-in-Some c = merged_some c.args.number c.args.text.now c.bytes.result.now (payload_of c.in-Some.value) c.requires c.in-Some.ensures
+    c.bytes.ensures
 
 pub returns-in-None : goal.returns-in-None
 returns-in-None c = merged_none c.args.number c.args.text.now c.requires c.in-None.ensures

@@ -8,5 +8,6 @@ returns-in_default c = retired_none c.args.text.now c.requires c.in_default.ensu
 
 pub returns : goal.returns
 returns c =
-    retired_some c.args.text.now (payload_of c.in-Some.reason) c.varint.result (record { reason = c.reason_of.result; message = c.in_ok-text_of.field-0 }) c.in-Some.ensures c.varint.ensures c.reason_of.ensures
+    retired_some c.args.text.now (payload_of c.in-Some.reason) c.varint.result
+    (record { reason = c.reason_of.result; message = c.in_ok-text_of.field-0 }) c.in-Some.ensures c.varint.ensures c.reason_of.ensures
     (λ fields merged s g h. c.in_ok-text_of.ensures ∙ c.given_merged.ensures fields merged s g h)

@@ -10,7 +10,9 @@ pub loop-value-smaller : goal.loop-value-smaller
 loop-value-smaller c = found_shorter c.args.number c.loop-value.rest.now c.in-Some.after.now (payload_of c.in-Some.value) c.in-Some.ensures
 
 pub loop-value-preserved : goal.loop-value-preserved
-loop-value-preserved c = last_more c.args.number c.args.text.now c.loop-value.rest.now c.in-Some.after.now (option_map payload_of c.loop-value.found) (payload_of c.in-Some.value) c.loop-value.invariant c.in-Some.ensures
+loop-value-preserved c = last_more c.args.number c.args.text.now c.loop-value.rest.now c.in-Some.after.now (option_map payload_of c.loop-value.found)
+    (payload_of c.in-Some.value) c.loop-value.invariant c.in-Some.ensures
 
 pub returns : goal.returns
-returns c = last_end c.args.message c.args.number c.args.text.now c.loop-value.rest.now (option_map payload_of c.loop-value.found) c.loop-value.invariant c.in_default.ensures
+returns c = last_end c.args.message c.args.number c.args.text.now c.loop-value.rest.now (option_map payload_of c.loop-value.found)
+    c.loop-value.invariant c.in_default.ensures

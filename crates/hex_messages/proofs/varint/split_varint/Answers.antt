@@ -14,21 +14,24 @@ overflow_mul-unit c = omega (arith, unit_fits c.loop-index.index c.loop-index.un
 pub returns-in-Ok-clause-read : goal.returns-in-Ok-clause-read
 returns-in-Ok-clause-read c =
     let i = c.loop-index.invariant in
-    let n = number_more c.args.text.now c.loop-index.index c.loop-index.number c.loop-index.unit c.from.result (omega arith) i.value i.unit (c.from.ensures ∙ c.digit.ensures.value) in
+    let n = number_more c.args.text.now c.loop-index.index c.loop-index.number c.loop-index.unit c.from.result (omega arith) i.value i.unit
+    (c.from.ensures ∙ c.digit.ensures.value) in
     let e = c.in-Ok.ensures in
     begins_at c.args.text.now c.loop-index.index c.in-Ok.number (omega arith) (omega arith) i.on c.if-byte-lt128.true (e.1 ∙ n) (omega arith)
 
 pub returns-in-Err-clause-refused : goal.returns-in-Err-clause-refused
 returns-in-Err-clause-refused c =
     let i = c.loop-index.invariant in
-    let n = number_more c.args.text.now c.loop-index.index c.loop-index.number c.loop-index.unit c.from.result (omega arith) i.value i.unit (c.from.ensures ∙ c.digit.ensures.value) in
+    let n = number_more c.args.text.now c.loop-index.index c.loop-index.number c.loop-index.unit c.from.result (omega arith) i.value i.unit
+    (c.from.ensures ∙ c.digit.ensures.value) in
     great_at c.args.text.now c.loop-index.index (omega arith) (omega arith) i.on c.if-byte-lt128.true (no_number _ _ n c.in-Err.ensures)
 
 pub loop-index-preserved : goal.loop-index-preserved
 loop-index-preserved c =
     let i = c.loop-index.invariant in
     record {
-      value = number_more c.args.text.now c.loop-index.index c.loop-index.number c.loop-index.unit c.from.result (omega arith) i.value i.unit (c.from.ensures ∙ c.digit.ensures.value);
+      value = number_more c.args.text.now c.loop-index.index c.loop-index.number c.loop-index.unit c.from.result (omega arith) i.value i.unit
+          (c.from.ensures ∙ c.digit.ensures.value);
       unit = rw (pow_more 128 c.loop-index.index, i.unit) refl;
       small = digit_fits c.loop-index.number c.loop-index.unit c.from.result i.small (omega arith);
       on = on_more c.args.text.now c.loop-index.index (omega arith) i.on c.if-byte-lt128.false;

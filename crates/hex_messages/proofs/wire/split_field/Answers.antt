@@ -9,7 +9,8 @@ use Rattle.hex_messages.proofs.wire.split_field.Goals.{in-Some+else-not-is_spell
 
 pub returns-then-not-is_spelled-clause-refused : goal.returns-then-not-is_spelled-clause-refused
 returns-then-not-is_spelled-clause-refused c =
-    wrong_at c.args.message c.args.text.now c.in_ok-number.after.now c.in_ok-number.number (wire_code c.in_ok-number.wire) c.in-Some.known c.in_ok-number.ensures.read c.in-Some.ensures (λ e. let f : false ≡ true = c.if-not-is_spelled.ensures.1 e in absurd cc)
+    wrong_at c.args.message c.args.text.now c.in_ok-number.after.now c.in_ok-number.number (wire_code c.in_ok-number.wire) c.in-Some.known
+    c.in_ok-number.ensures.read c.in-Some.ensures (λ e. let f : false ≡ true = c.if-not-is_spelled.ensures.1 e in absurd cc)
 
 pub returns-in_err-value-clause-refused : goal.returns-in_err-value-clause-refused
 returns-in_err-value-clause-refused c =
@@ -21,7 +22,8 @@ returns-in_err-value-clause-refused c =
       | in_default w ↦ own_none known wire w.in_default.ensures
     ] in
     let p = err_from_is_err_and c.from_residual-in_err-value.result c.from_residual-in_err-value.ensures.1 in
-    rw (p.1, p.2) (value_at c.args.message c.args.text.now c.in_ok-number.after.now c.in_ok-number.number wire c.in_err-value.field-0.0 c.in_ok-number.ensures.read own c.in_err-value.ensures.refused)
+    rw (p.1, p.2) (value_at c.args.message c.args.text.now c.in_ok-number.after.now c.in_ok-number.number wire c.in_err-value.field-0.0
+    c.in_ok-number.ensures.read own c.in_err-value.ensures.refused)
 
 pub returns-clause-read : goal.returns-clause-read
 returns-clause-read c =
@@ -32,4 +34,5 @@ returns-clause-read c =
       | in-Some+else-not-is_spelled w ↦ own_some known w.in-Some.known wire w.in-Some.ensures (w.if-not-is_spelled.ensures.0 refl)
       | in_default w ↦ own_none known wire w.in_default.ensures
     ] in
-    field_at_front c.args.message c.args.text.now c.in_ok-number.after.now c.in_ok-value.rest.now c.in_ok-number.number wire (payload_of c.in_ok-value.value) c.in_ok-number.ensures.read own c.in_ok-value.ensures.read
+    field_at_front c.args.message c.args.text.now c.in_ok-number.after.now c.in_ok-value.rest.now c.in_ok-number.number wire
+    (payload_of c.in_ok-value.value) c.in_ok-number.ensures.read own c.in_ok-value.ensures.read

@@ -12,7 +12,8 @@ returns-in_err-key-clause-refused c =
 pub returns-in_default-clause-refused : goal.returns-in_default-clause-refused
 returns-in_default-clause-refused c = λ m some. bad_key_at c.args.text.now c.in_ok-key.rest.now c.in_ok-key.key c.in_ok-key.ensures.read
     (elim c.in_default.branch [
-      | in_default-via-in-Some+then-number-ge1+else-number-le-GREATEST_NUMBER w ↦ λ k. let l = k.most in omega (arith, w.if-number-le-GREATEST_NUMBER.false)
+      | in_default-via-in-Some+then-number-ge1+else-number-le-GREATEST_NUMBER w ↦ λ k. let l = k.most in omega
+          (arith, w.if-number-le-GREATEST_NUMBER.false)
       | in_default-via-in-Some+else-number-ge1 w ↦ λ k. let l = k.least in omega (arith, w.if-number-ge1.false)
       | in_default-via-in_default w ↦ λ k. w.in_default.ensures k.typed
     ]) m

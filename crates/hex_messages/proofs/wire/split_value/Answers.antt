@@ -21,7 +21,9 @@ returns-in_err-size-in-Length-clause-refused c =
 pub returns-in_err-bytes-in-Length-clause-refused : goal.returns-in_err-bytes-in-Length-clause-refused
 returns-in_err-bytes-in-Length-clause-refused c =
     let p = err_from_is_err_and c.from_residual-in_err-bytes-in-Length.result c.from_residual-in_err-bytes-in-Length.ensures.1 in
-    rw (p.1, p.2, c.in-Length.is, c.in_err-bytes-in-Length.ensures.cause) (bytes_at c.args.text.now c.in_ok-size-in-Length.after.now c.in_ok-size-in-Length.size c.in_ok-size-in-Length.ensures.read c.in_err-bytes-in-Length.ensures.short)
+    rw (p.1, p.2, c.in-Length.is, c.in_err-bytes-in-Length.ensures.cause)
+    (bytes_at c.args.text.now c.in_ok-size-in-Length.after.now c.in_ok-size-in-Length.size c.in_ok-size-in-Length.ensures.read
+    c.in_err-bytes-in-Length.ensures.short)
 
 pub returns-in_err-bytes-in-Fixed32-clause-refused : goal.returns-in_err-bytes-in-Fixed32-clause-refused
 returns-in_err-bytes-in-Fixed32-clause-refused c =
@@ -30,4 +32,5 @@ returns-in_err-bytes-in-Fixed32-clause-refused c =
 
 pub returns-in_ok-bytes-in-Length-clause-read : goal.returns-in_ok-bytes-in-Length-clause-read
 returns-in_ok-bytes-in-Length-clause-read c =
-    rw c.in-Length.is (length_at c.args.text.now c.in_ok-size-in-Length.after.now c.in_ok-bytes-in-Length.bytes.now c.in_ok-bytes-in-Length.rest.now c.in_ok-size-in-Length.size c.in_ok-size-in-Length.ensures.read c.in_ok-bytes-in-Length.ensures.front c.in_ok-bytes-in-Length.ensures.whole)
+    rw c.in-Length.is (length_at c.args.text.now c.in_ok-size-in-Length.after.now c.in_ok-bytes-in-Length.bytes.now c.in_ok-bytes-in-Length.rest.now
+    c.in_ok-size-in-Length.size c.in_ok-size-in-Length.ensures.read c.in_ok-bytes-in-Length.ensures.front c.in_ok-bytes-in-Length.ensures.whole)

@@ -44,7 +44,8 @@ pub returns-then-not-is_identifier-2 : goal.returns-then-not-is_identifier-2
 returns-then-not-is_identifier-2 c =
     let text = c.args.text.now in
     let all : c.bytes.i ≡ length text = omega arith in
-    let bad : is_identifier c.args.kind (part text c.bytes.start c.bytes.i) ≡ false = rw all (sym c.is_identifier-2.ensures ∙ c.if-not-is_identifier-2.true) in
+    let bad : is_identifier c.args.kind (part text c.bytes.start c.bytes.i) ≡ false = rw all
+    (sym c.is_identifier-2.ensures ∙ c.if-not-is_identifier-2.true) in
     stuck_end text _ c.stuck_at-then-not-is_identifier-2.ensures
     ∙ sym (c.bytes.invariant.same ∙ ids_end_stuck c.args.kind text c.bytes.start c.bytes.i (omega arith) bad)
 
@@ -52,7 +53,8 @@ pub returns : goal.returns
 returns c =
     let text = c.args.text.now in
     let all : c.bytes.i ≡ length text = omega arith in
-    let good : is_identifier c.args.kind (part text c.bytes.start c.bytes.i) ≡ true = rw all (sym c.is_identifier-2.ensures ∙ c.if-not-is_identifier-2.false) in
+    let good : is_identifier c.args.kind (part text c.bytes.start c.bytes.i) ≡ true = rw all
+    (sym c.is_identifier-2.ensures ∙ c.if-not-is_identifier-2.false) in
     let whole = ids_end c.args.kind text c.bytes.start c.bytes.i (omega arith) good in
     rw (take_rest text (length text), drop_all (length text) text (omega arith))
     (sym (c.bytes.invariant.same ∙ whole))

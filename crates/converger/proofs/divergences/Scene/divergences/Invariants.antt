@@ -1,6 +1,0 @@
-use Rattle.converger.specs.Cases.{AreBefore, turn_of}
-use Rattle.converger.specs.declared.divergence.Rule.TheVariants.{V1}
-use Rattle.converger.proofs.divergences.Scene.divergences.Given as goal
-
-abbrev pub invariant-loop-other : goal.invariant-loop-other
-invariant-loop-other l = AreBefore l.self.web.now.rows.now l.self.winners.now l.self.versions.now (turn_of l.other V1) l.list
