@@ -1,5 +1,5 @@
 // Cases of graphs.
-ghost use Rattle.std.specs.Prelude.{◌<◌, length, IfOk};
+ghost use Rattle.std.specs.Prelude.{◌<◌, IfOk};
 ghost use Rattle.std.specs.List.{All};
 
 use crate::fields::{Fault, number_of, word};

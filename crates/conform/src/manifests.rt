@@ -1,5 +1,4 @@
 // Cases of declarations and manifests.
-ghost use Rattle.std.specs.Prelude.{IsFalse};
 
 use crate::fields::Fault;
 use crate::shown::{push_after, refused, say};

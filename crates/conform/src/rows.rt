@@ -1,5 +1,4 @@
 // Cases of rows, of what can't live together, and of what an environment reaches.
-ghost use Rattle.std.specs.Prelude.{◌≡◌, ◌<◌, length};
 
 use crate::fields::{Fault, word};
 use crate::shown::{refused, say};
