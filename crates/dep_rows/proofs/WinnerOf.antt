@@ -1,14 +1,11 @@
 -- The winner of an app: the place that is computed, and the fact that says who wins.
-use Rattle.std.proofs.Common.{◌≡◌, ◌≢◌, ℕ, ◌+◌, ◌<◌, Bool, true, false, cond, ◌&&◌, inl, inr, List, [], ◌∷◌, ◌++◌, length, slice_get, bytes_eq, sym, ◌∙◌, ap, subst, refl, arith, IsTrue, Option, Some, None}
+use Rattle.std.proofs.Common.{◌≡◌, ◌≢◌, ℕ, ◌+◌, ◌<◌, Bool, true, false, cond, ◌&&◌, inl, inr, List, [], ◌∷◌, ◌++◌, length, slice_get, nat_eq, bytes_eq, sym, ◌∙◌, ap, subst, refl, arith, IsTrue, Option, Some, None}
 use Rattle.std.specs.Option.{is_none, is_some, option_or}
-use Rattle.std.specs.BTreeMap.{BTreeMap, get, Updates}
-use Rattle.std.specs.Ordering.{is_eq}
-use Rattle.std.specs.Cmp.Lexicographic.{texts_ties, same_text}
-use Rattle.std.proofs.lemmas.Cmp.{nat_list_cmp_total, tied_itself}
+use Rattle.std.specs.Cmp.Lexicographic.{pointwise, nat_list_eq_equiv}
+use Rattle.indexmap.specs.IndexMap.{IndexMap, get, Updates}
 use Rattle.std.proofs.lemmas.Option.{none-some, slice_get_within}
 use Rattle.std.proofs.lemmas.Bool.{both_ways, cases_order, and_parts, and_from}
 use Rattle.std.proofs.lemmas.Slice.Eq.{bytes_eq-Decides}
-use Rattle.mx_base.specs.Order.{text_cmp}
 use Rattle.dep_rows.specs.declared.row.Row.{Row}
 use Rattle.dep_rows.specs.Growing.{KnowsWinners}
 use Rattle.dep_rows.specs.Rows.{IsWinner, is_required_of, winner_of}
@@ -21,18 +18,6 @@ same_bytes a b h = (bytes_eq-Decides a b).0 h
 
 bytes_same : (a b : List ℕ) → a ≡ b → bytes_eq a b ≡ true
 bytes_same a b e = (bytes_eq-Decides a b).1 e
-
--- two names compare as equal where their bytes do
-ties_bytes : (a b : List ℕ) → is_eq (text_cmp a b) ≡ bytes_eq b a
-ties_bytes a b = at (bytes_eq b a) refl
-  where
-    at : (t : Bool) → bytes_eq b a ≡ t → is_eq (text_cmp a b) ≡ t
-    at true e = rw (same_bytes b a e) (ap is_eq (tied_itself nat_list_cmp_total a))
-    at false e = other (is_eq (text_cmp a b)) refl
-      where
-        other : (s : Bool) → is_eq (text_cmp a b) ≡ s → s ≡ false
-        other true h = absurd (both_ways (bytes_eq b a) e (bytes_same b a (sym (same_text a b (sym (texts_ties a b ∙ h))))))
-        other false h = refl
 
 -- ---- the winner of an app
 
@@ -108,12 +93,12 @@ none_left : (o : Option ℕ) → is_some o ≡ false → o ≡ None
 none_left None h = refl
 none_left (Some x) h = cc
 
-pub knows_nothing : (by_app : BTreeMap (List ℕ) ℕ) (rows : List Row) → rows ≡ [] → by_app.entries ≡ [] → KnowsWinners by_app rows
+pub knows_nothing : {Hasher : Type 0} (by_app : IndexMap (List ℕ) ℕ Hasher) (rows : List Row) → rows ≡ [] → by_app.entries ≡ [] → KnowsWinners by_app rows
 unfolding winner_of
 knows_nothing by_app rows none empty app = rw (empty, none) refl
 
 -- a row that isn't required, or whose app has a winner, changes no winner
-pub knows_same : (by_app : BTreeMap (List ℕ) ℕ) (rows : List Row) (row : Row) → KnowsWinners by_app rows → (row.required ≡ true → is_some (get text_cmp by_app row.app) ≡ true) → KnowsWinners by_app (rows ++ row ∷ [])
+pub knows_same : {Hasher : Type 0} (by_app : IndexMap (List ℕ) ℕ Hasher) (rows : List Row) (row : Row) → KnowsWinners by_app rows → (row.required ≡ true → is_some (get (pointwise nat_eq) by_app row.app) ≡ true) → KnowsWinners by_app (rows ++ row ∷ [])
 knows_same by_app rows row known had app = known app ∙ sym (winner_of-push rows row app ∙ at (is_required_of app row) refl (winner_of rows app) refl)
   where
     at : (b : Bool) → is_required_of app row ≡ b → (o : Option ℕ) → winner_of rows app ≡ o → option_or o (cond b (Some (length rows)) None) ≡ o
@@ -122,18 +107,18 @@ knows_same by_app rows row known had app = known app ∙ sym (winner_of-push row
     at true is None was =
         let parts = and_parts row.required (bytes_eq app row.app) is in
         let same = same_bytes app row.app parts.1 in
-        absurd (both_ways (is_some (get text_cmp by_app row.app)) (ap is_some (ap (get text_cmp by_app) (sym same) ∙ known app ∙ was)) (had parts.0))
+        absurd (both_ways (is_some (get (pointwise nat_eq) by_app row.app)) (ap is_some (ap (get (pointwise nat_eq) by_app) (sym same) ∙ known app ∙ was)) (had parts.0))
 
 -- the first required row of an app is its winner
-pub knows_more : (by_app new : BTreeMap (List ℕ) ℕ) (rows : List Row) (row : Row) (name : List ℕ) (place : ℕ) → KnowsWinners by_app rows → row.required ≡ true → is_some (get text_cmp by_app row.app) ≡ false → name ≡ row.app → place ≡ length rows → Updates text_cmp by_app new name (Some place) → KnowsWinners new (rows ++ row ∷ [])
+pub knows_more : {Hasher : Type 0} (by_app new : IndexMap (List ℕ) ℕ Hasher) (rows : List Row) (row : Row) (name : List ℕ) (place : ℕ) → KnowsWinners by_app rows → row.required ≡ true → is_some (get (pointwise nat_eq) by_app row.app) ≡ false → name ≡ row.app → place ≡ length rows → Updates (pointwise nat_eq) by_app new name (Some place) → KnowsWinners new (rows ++ row ∷ [])
 knows_more by_app new rows row name place known required fresh named at_end updates app =
     updates.0 app
-    ∙ ap (λ (n : List ℕ). cond (is_eq (text_cmp n app)) (Some place) (get text_cmp by_app app)) named
-    ∙ ap (λ (b : Bool). cond b (Some place) (get text_cmp by_app app)) (ties_bytes row.app app)
-    ∙ ap (λ (n : ℕ). cond (bytes_eq app row.app) (Some n) (get text_cmp by_app app)) at_end
+    ∙ ap (λ (n : List ℕ). cond (pointwise nat_eq n app) (Some place) (get (pointwise nat_eq) by_app app)) named
+    ∙ ap (λ (b : Bool). cond b (Some place) (get (pointwise nat_eq) by_app app)) (nat_list_eq_equiv.symm row.app app)
+    ∙ ap (λ (n : ℕ). cond (bytes_eq app row.app) (Some n) (get (pointwise nat_eq) by_app app)) at_end
     ∙ ap (λ (o : Option ℕ). cond (bytes_eq app row.app) (Some (length rows)) o) (known app)
     ∙ sym (winner_of-push rows row app ∙ ap (λ (b : Bool). option_or (winner_of rows app) (cond (b && bytes_eq app row.app) (Some (length rows)) None)) required ∙ at (bytes_eq app row.app) refl)
   where
     at : (b : Bool) → bytes_eq app row.app ≡ b → option_or (winner_of rows app) (cond b (Some (length rows)) None) ≡ cond b (Some (length rows)) (winner_of rows app)
-    at true is = ap (λ (o : Option ℕ). option_or o (Some (length rows))) (sym (known app) ∙ ap (get text_cmp by_app) (same_bytes app row.app is) ∙ none_left (get text_cmp by_app row.app) fresh)
+    at true is = ap (λ (o : Option ℕ). option_or o (Some (length rows))) (sym (known app) ∙ ap (get (pointwise nat_eq) by_app) (same_bytes app row.app is) ∙ none_left (get (pointwise nat_eq) by_app row.app) fresh)
     at false is = none_more (winner_of rows app)

@@ -1,9 +1,9 @@
 -- Rows that grow at their end, and the winners among the new ones.
-use Rattle.std.specs.Prelude.{◌≡◌, ℕ, ◌+◌, ◌<◌, ◌≤◌, ◌&&◌, is_none, List, [], ◌∷◌, ◌++◌, length, if◌then◌else◌, slice_get, Option, Some, Ok, Err, IfSome}
-use Rattle.std.specs.BTreeMap.{BTreeMap, get}
+use Rattle.std.specs.Prelude.{◌≡◌, ℕ, ◌+◌, ◌<◌, ◌≤◌, ◌&&◌, is_none, nat_eq, List, [], ◌∷◌, ◌++◌, length, if◌then◌else◌, slice_get, Option, Some, Ok, Err, IfSome}
+use Rattle.std.specs.Cmp.Lexicographic.{pointwise}
+use Rattle.indexmap.specs.IndexMap.{IndexMap, get}
 use Rattle.mx_base.specs.Blame.{Blame}
 use Rattle.mx_base.specs.Blame.Blame.{Input}
-use Rattle.mx_base.specs.Order.{text_cmp}
 use Rattle.dep_options.specs.declared.decl.Decl.{Decl}
 use Rattle.dep_rows.specs.declared.row.Row.{Row}
 use Rattle.dep_rows.specs.declared.error.RowsError.{RowsError}
@@ -20,8 +20,8 @@ next_winners rows [] = []
 next_winners rows (row ∷ more) = next_winner rows row ++ next_winners (rows ++ row ∷ []) more
 
 -- the map has the winner of each app
-abbrev pub KnowsWinners : BTreeMap (List ℕ) ℕ → List Row → Type 0
-KnowsWinners by_app rows = (app : List ℕ) → get text_cmp by_app app ≡ winner_of rows app
+abbrev pub KnowsWinners : {Hasher : Type 0} → IndexMap (List ℕ) ℕ Hasher → List Row → Type 0
+KnowsWinners by_app rows = (app : List ℕ) → get (pointwise nat_eq) by_app app ≡ winner_of rows app
 
 -- the children of the winner at a place have come at the end, the known ones where they are told
 pub record BringsIn {Known Fault : Type 0} (children_of : Known → ChildrenOf Fault) (meaning : Option Known) (winner : ℕ) (old_rows new_rows : List Row) (old_winners new_winners : List ℕ) : Type 0 where

@@ -5,8 +5,8 @@ ghost use Rattle.dep_rows.specs.Rows.{AreWellFormed, most_rows, winner_of};
 
 use crate::listing::Listing;
 use crate::row::{Places, Row, RowList};
+use indexmap::IndexMap;
 use mx_base::AppName;
-use std::collections::BTreeMap;
 use std::marker::Model;
 
 /// The rows of a project, and the places of their winners. It has at most 65,536 rows.
@@ -14,7 +14,7 @@ use std::marker::Model;
 pub struct Rows {
     rows: RowList,
     winners: Places,
-    by_app: BTreeMap<AppName, u32>,
+    by_app: IndexMap<AppName, u32>,
 }
 
 impl Model for Rows {

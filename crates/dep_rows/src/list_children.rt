@@ -22,7 +22,7 @@ pub struct ListAnswer {
 pub type ListAnswers = ListOf<ListAnswer>;
 
 /// Why a call has no answer.
-#[derive(Clone, Copy, PartialEq, Eq)]
+#[derive(Drop)]
 pub enum ListFault {
     /// The list has this reason in place of children.
     Refused(u32),

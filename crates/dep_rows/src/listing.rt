@@ -5,9 +5,9 @@ ghost use Rattle.dep_rows.specs.Rows.{most_rows, row_of, rows_from};
 
 use crate::row::Row;
 use dep_options::Decl;
+use indexmap::IndexMap;
 use mx_base::AppName;
 use std::alloc::{AllocError, Global};
-use std::collections::BTreeMap;
 
 /// How many rows there may be.
 pub(crate) const MOST_ROWS: usize = 65_536;
@@ -17,7 +17,7 @@ pub(crate) const MOST_ROWS: usize = 65_536;
 pub(crate) struct Listing {
     pub(crate) rows: Vec<Row>,
     pub(crate) winners: Vec<u32>,
-    pub(crate) by_app: BTreeMap<AppName, u32>,
+    pub(crate) by_app: IndexMap<AppName, u32>,
     ghost knows: { KnowsWinners by_app rows.items },
 }
 
@@ -28,7 +28,7 @@ impl Listing {
     {
         let rows = Vec::new(alloc);
         let winners = Vec::new(alloc);
-        let by_app = BTreeMap::new(alloc);
+        let by_app = IndexMap::new(alloc);
         Listing {
             rows,
             winners,
@@ -78,7 +78,7 @@ fn note(
     rows: &Vec<Row>,
     row: &Row,
     winners: &mut Vec<u32>,
-    by_app: &mut BTreeMap<AppName, u32>,
+    by_app: &mut IndexMap<AppName, u32>,
 ) -> Result<(), AllocError>
     requires few { vec_len rows.now < most_rows }
     requires knows { KnowsWinners by_app.old rows.now.items }
