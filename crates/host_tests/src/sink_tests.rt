@@ -27,8 +27,8 @@ impl Print for Closed {
 #[test]
 fn a_sink_counts_what_it_could_not_write(rt: HostRuntime) -> Result<(), Fail> {
     let mut open = HostSink::new(rt);
-    assert_eq!(rt; open.write(b"written\n"), Ok(()));
+    assert!(rt; open.write(b"written\n").is_ok());
     let mut closed = HostSink::new(Closed);
-    assert_eq!(rt; closed.write(b"lost"), Err(Failed));
+    assert!(rt; closed.write(b"lost") == Err(Failed));
     Ok(())
 }

@@ -112,13 +112,12 @@ fn each_failing_call_is_answered(rt: HostRuntime) -> Result<(), Fail> {
             failing_at(alloc, folder_fails)?,
         );
         let seen = rebuilt(alloc, &mut store, &name, &path);
-        assert_eq!(rt;
-            seen,
-            wanted,
+        assert!(rt;
+            seen == wanted,
             "store's call {store_fails}, folder's call {folder_fails}"
         );
     }
     let mut store: ConstStore = MemStore::new(alloc, project(alloc)?, NoFaults, NoFaults, NoFaults);
-    assert_eq!(rt; rebuilt(alloc, &mut store, &name, &path), whole);
+    assert!(rt; rebuilt(alloc, &mut store, &name, &path) == whole);
     Ok(())
 }
