@@ -52,6 +52,3 @@ fn main(rt: HostRuntime) -> ExitCode {
     };
     exit_of(status)
 }
-
-#[cfg(test)]
-mod tests;

@@ -1,5 +1,0 @@
-//! Tests of `build_plan`.
-#![tactic(auto)]
-
-#[cfg(test)]
-mod tests;

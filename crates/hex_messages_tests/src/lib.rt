@@ -1,5 +1,0 @@
-//! Tests of `hex_messages`.
-#![tactic(auto)]
-
-#[cfg(test)]
-mod tests;

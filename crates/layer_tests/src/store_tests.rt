@@ -1,0 +1,123 @@
+// One project, through each call of a store and of a folder.
+ghost use Rattle.std.specs.Prelude.{◌≡◌};
+ghost use Rattle.tree_store.specs.Slot.Slot.{Out};
+
+use mx_base::{AppName, Bytes, FaultPlan, NoFaults, RelPath};
+use std::alloc::{AllocError, Global};
+use std::test::Fail;
+use tree_store::{
+    ConstStore, Contents, Folder, MemFolder, MemStore, Store, StoreFault, is_in_build,
+};
+
+// Three files, and one of a build, which a store doesn't see as the project's.
+const FILES: [(&str, &str); 4] = [
+    ("a/x", "one"),
+    ("_build/dev/lib/a/x", "built"),
+    ("a/b/y", "two"),
+    ("a-b", "three"),
+];
+
+fn path(alloc: Global, text: &str) -> Result<RelPath, Fail> {
+    Ok(RelPath::join(alloc, &RelPath::root(alloc), text.as_bytes())?)
+}
+
+fn project(alloc: Global) -> Result<Contents, Fail> {
+    let mut files = Contents::new(alloc);
+    for (text, bytes) in FILES {
+        files.put(
+            path(alloc, text)?,
+            Bytes::from_slice(alloc, bytes.as_bytes())?,
+        )?;
+    }
+    Ok(files)
+}
+
+// Only this call fails, and none at 0.
+fn failing_at(alloc: Global, call: u64) -> Result<FaultPlan, AllocError> {
+    Ok(FaultPlan::new([call].to_vec(alloc)?))
+}
+
+// Writes the file anew, and answers how many there are.
+fn refilled<F: Folder>(
+    alloc: Global,
+    folder: &mut F,
+    path: &RelPath,
+    bytes: &[u8],
+) -> Result<usize, StoreFault>
+    ensures { F.key folder.new ≡ F.key folder.old }
+{
+    folder.clear(alloc)?;
+    folder.put(alloc, path, bytes)?;
+    Ok(folder.files(alloc)?.as_slice().len())
+}
+
+// How many paths were listed, files built and apps found.
+fn rebuilt<S: Store>(
+    alloc: Global,
+    store: &mut S,
+    name: &AppName,
+    path: &RelPath,
+) -> Result<(usize, usize, usize), StoreFault>
+    requires { (S.known store.old).slot (record { env = name.now; app = name.now }) ≡ Out → ⊥ }
+{
+    if is_in_build(path) {
+        return Err(StoreFault::Failed);
+    }
+    let listed = store.list(alloc, &RelPath::root(alloc))?;
+    let bytes = match store.get(alloc, path)? {
+        Some(bytes) => bytes,
+        None => Bytes::new(alloc),
+    };
+    let mut folder = store.folder(alloc, name, name)?;
+    let files = refilled(alloc, &mut folder, path, bytes.as_slice());
+    store.give_back(folder);
+    let apps = store.apps(alloc, name)?;
+    Ok((listed.len(), files?, apps.len()))
+}
+
+fn may_cross_threads<T: Send>() {}
+
+#[test]
+fn stores_and_folders_may_cross_threads() {
+    may_cross_threads::<ConstStore>();
+    may_cross_threads::<MemStore<FaultPlan>>();
+    may_cross_threads::<MemFolder<FaultPlan>>();
+}
+
+#[test]
+fn each_failing_call_is_answered(rt: HostRuntime) -> Result<(), Fail> {
+    let alloc = rt.alloc();
+    let name = AppName::of(alloc, b"dev")?;
+    let path = path(alloc, "a/x")?;
+    let whole = Ok((3, 1, 1));
+    let failed = Err(StoreFault::Failed);
+    let cases = [
+        (0, 0, whole),
+        (1, 0, failed),
+        (2, 0, failed),
+        (3, 0, failed),
+        (4, 0, failed),
+        (5, 0, whole),
+        (0, 1, failed),
+        (0, 2, failed),
+        (0, 3, failed),
+        (0, 4, whole),
+    ];
+    for (store_fails, folder_fails, wanted) in cases {
+        let mut store = MemStore::new(
+            alloc,
+            project(alloc)?,
+            failing_at(alloc, store_fails)?,
+            failing_at(alloc, 0)?,
+            failing_at(alloc, folder_fails)?,
+        );
+        let seen = rebuilt(alloc, &mut store, &name, &path);
+        assert!(rt;
+            seen == wanted,
+            "store's call {store_fails}, folder's call {folder_fails}"
+        );
+    }
+    let mut store: ConstStore = MemStore::new(alloc, project(alloc)?, NoFaults, NoFaults, NoFaults);
+    assert!(rt; rebuilt(alloc, &mut store, &name, &path) == whole);
+    Ok(())
+}

@@ -1,5 +1,0 @@
-//! Tests of `unit_lang`.
-#![tactic(auto)]
-
-#[cfg(test)]
-mod tests;
