@@ -2,7 +2,7 @@
 ghost use Rattle.std.specs.Prelude.{◌≡◌};
 ghost use Rattle.tree_store.specs.Slot.Slot.{Out};
 
-use crate::given::{name, path, write_files};
+use crate::given::{name, path, told, write_files};
 use mx_base::{AppName, RelPath};
 use std::alloc::Global;
 use std::os::unix::fs::symlink;
@@ -14,7 +14,7 @@ use tree_store::{Folder, Store, StoreFault};
 fn folder_of(rt: HostRuntime, alloc: Global, root: &str) -> Result<HostFolder<HostRuntime>, Fail> {
     let mut store = HostStore::new(rt, alloc, root)?;
     let (env, app) = (name(alloc, "dev")?, name(alloc, "a")?);
-    Ok(store.folder(alloc, &env, &app)?)
+    told(store.folder(alloc, &env, &app))
 }
 
 fn put(
@@ -30,7 +30,7 @@ fn put(
 // The files of a build, as `PATH=BYTES` with a blank after each.
 fn held(folder: &mut HostFolder<HostRuntime>, alloc: Global) -> Result<String, Fail> {
     let mut text = String::new(alloc);
-    for file in folder.files(alloc)?.as_slice() {
+    for file in told(folder.files(alloc))?.as_slice() {
         text.push_str(file.path.as_str())?;
         text.push('=')?;
         text.push_str(str::from_utf8(file.bytes.as_slice())?)?;
@@ -45,7 +45,7 @@ fn a_folder_gives_back_what_was_written(rt: HostRuntime) -> Result<(), Fail> {
     let mut folder = folder_of(rt, alloc, "written")?;
     assert!(rt; held(&mut folder, alloc)?.is_empty());
     for (file, bytes) in &[("a/b", "longer"), ("a-b", "1"), ("a/b", "2")] {
-        put(&mut folder, alloc, *file, *bytes)??;
+        told(put(&mut folder, alloc, *file, *bytes)?)?;
     }
     assert_eq!(rt; held(&mut folder, alloc)?.as_str(), "a-b=1 a/b=2 ");
     assert!(rt; put(&mut folder, alloc, "a", "3")? == Err(StoreFault::Failed));
@@ -57,15 +57,15 @@ fn a_folder_gives_back_what_was_written(rt: HostRuntime) -> Result<(), Fail> {
 fn a_folder_is_cleared_but_for_what_links_lead_to(rt: HostRuntime) -> Result<(), Fail> {
     let alloc = rt.alloc();
     let mut folder = folder_of(rt, alloc, "cleared")?;
-    folder.clear(alloc)?;
+    told(folder.clear(alloc))?;
     write_files(rt, "cleared/_build/dev/lib/a", &["x", "y/z"])?;
     write_files(rt, "kept", &["x"])?;
     symlink(&rt, "../../../../../kept", "cleared/_build/dev/lib/a/link")?;
     assert_eq!(rt; held(&mut folder, alloc)?.as_str(), "x=x y/z=y/z ");
-    folder.clear(alloc)?;
+    told(folder.clear(alloc))?;
     assert!(rt; held(&mut folder, alloc)?.is_empty());
     assert!(rt; fs::exists(&rt, "kept/x")?);
-    put(&mut folder, alloc, "x", "again")??;
+    told(put(&mut folder, alloc, "x", "again")?)?;
     assert_eq!(rt; held(&mut folder, alloc)?.as_str(), "x=again ");
     Ok(())
 }

@@ -4,6 +4,7 @@ use mx_base::{AppName, PathError, RelPath};
 use std::alloc::Global;
 use std::fs;
 use std::test::Fail;
+use tree_store::StoreFault;
 
 pub(crate) fn path(alloc: Global, text: &str) -> Result<RelPath, PathError> {
     let root = RelPath::root(alloc);
@@ -15,6 +16,14 @@ pub(crate) fn path(alloc: Global, text: &str) -> Result<RelPath, PathError> {
 
 pub(crate) fn name(alloc: Global, text: &str) -> Result<AppName, Fail> {
     Ok(AppName::of(alloc, text.as_bytes())?)
+}
+
+// What a store or a folder answers that doesn't fail.
+pub(crate) fn told<T>(answer: Result<T, StoreFault>) -> Result<T, Fail> {
+    match answer {
+        Ok(told) => Ok(told),
+        Err(_) => Err(Fail::new("a fault")),
+    }
 }
 
 // Writes files, each with its own path in it.

@@ -1,6 +1,6 @@
 // What a store over a real folder answers.
 
-use crate::given::{name, path, write_files};
+use crate::given::{name, path, told, write_files};
 use mx_base::Bytes;
 use std::alloc::Global;
 use std::fs;
@@ -16,7 +16,7 @@ fn listed(store: &mut HostStore<HostRuntime>, alloc: Global, dir: &str) -> Resul
     if is_in_build(&dir) {
         return Err(Fail::new("a folder of builds"));
     }
-    for path in &store.list(alloc, &dir)? {
+    for path in &told(store.list(alloc, &dir))? {
         text.push_str(path.as_str())?;
         text.push(' ')?;
     }
@@ -71,11 +71,14 @@ fn a_store_reads_files(rt: HostRuntime) -> Result<(), Fail> {
     symlink(&rt, "circle", "read/circle")?;
     let mut store = HostStore::new(rt, alloc, "read")?;
     for file in &["a/b", "file_link"] {
-        let bytes = answer(&mut store, alloc, *file)??.ok_or("no file")?;
+        let bytes = told(answer(&mut store, alloc, *file)?)?.ok_or("no file")?;
         assert_eq!(rt; bytes.as_slice(), b"a/b".as_slice(), "at {file}");
     }
     for file in &["circle", "missing", "a/b/c"] {
-        assert!(rt; answer(&mut store, alloc, *file)??.is_none(), "at {file}");
+        assert!(rt;
+            told(answer(&mut store, alloc, *file)?)?.is_none(),
+            "at {file}"
+        );
     }
     let folder = answer(&mut store, alloc, "a")?;
     assert!(rt; folder.err() == Some(StoreFault::Failed));
@@ -106,11 +109,11 @@ fn a_store_lists_apps_that_have_files(rt: HostRuntime) -> Result<(), Fail> {
     symlink(&rt, "a", "apps/_build/dev/lib/link")?;
     let mut store = HostStore::new(rt, alloc, "apps")?;
     let mut text = String::new(alloc);
-    for app in &store.apps(alloc, &name(alloc, "dev")?)? {
+    for app in &told(store.apps(alloc, &name(alloc, "dev")?))? {
         text.push_str(app.as_str())?;
         text.push(' ')?;
     }
     assert_eq!(rt; text.as_str(), "_c a b ");
-    assert!(rt; store.apps(alloc, &name(alloc, "test")?)?.is_empty());
+    assert!(rt; told(store.apps(alloc, &name(alloc, "test")?))?.is_empty());
     Ok(())
 }
