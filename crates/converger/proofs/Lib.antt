@@ -8,3 +8,4 @@ pub mod CaseLemmas
 pub mod SoundLemmas
 pub mod OneLemmas
 pub mod OneAnswer
+pub mod LinkLemmas

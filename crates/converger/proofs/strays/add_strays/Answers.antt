@@ -1,6 +1,8 @@
-use Rattle.std.proofs.Common.{◌∙◌, arith}
+use Rattle.std.proofs.Common.{◌↔◌, ℕ, Bool, List, IsTrue, sym, subst, ◌∙◌, arith}
 use Rattle.std.proofs.lemmas.List.{length-set}
 use Rattle.std.proofs.lemmas.Bool.{both_ways}
+use Rattle.converger.specs.Walk.{is_marked}
+use Rattle.converger.specs.Web.{IsReachedAt}
 use Rattle.converger.proofs.StrayLemmas.{stray_yes, stray_no, stray_all}
 use Rattle.converger.proofs.strays.add_strays.Goals as goal
 use Rattle.converger.proofs.strays.add_strays.Goals.{then-is_stray, else-is_stray}
@@ -24,3 +26,8 @@ loop-other-preserved c =
 
 pub returns-clause-marks : goal.returns-clause-marks
 returns-clause-marks c = stray_all c.args.web.now.rows.now c.args.env.now c.args.strays.now.items c.loop-other.strays.items c.loop-other.other (omega arith) c.loop-other.invariant.marks
+
+pub is_stray-requires-clause-marks : goal.is_stray-requires-clause-marks
+is_stray-requires-clause-marks c =
+    let rows = c.args.web.now.rows.now in
+    subst (λ (marks : List Bool). (place : ℕ) → IsTrue (is_marked marks place) ↔ IsReachedAt rows c.args.env.now place) (sym c.deref.ensures.value) c.in_ok-marks.ensures.marks
