@@ -1,7 +1,7 @@
 use Rattle.std.proofs.Common.{List, Option, Some, None, IfSome, subst}
 use Rattle.mx_base.specs.declared.file.File.{File}
 use Rattle.build_plan.specs.Found.{AreSources, IsFound}
-use Rattle.build_plan.proofs.JobLemmas.{if_job, if_missed}
+use Rattle.build_plan.proofs.JobLemmas.{if_job, if_missed, known_at}
 use Rattle.build_plan.proofs.jobs.job_of.Goals as goal
 
 pub returns-in_ok-described-in-Some-clause-job : goal.returns-in_ok-described-in-Some-clause-job
@@ -21,3 +21,9 @@ returns-in-None-clause-job g c =
     let read : IfSome told (λ files. IsFound files post.found.now → AreSources files post.found.now.dir c.min.result None) =
     subst (λ (o : Option (List File)). IfSome told (λ files. IsFound files post.found.now → AreSources files post.found.now.dir c.min.result o)) c.in-None.is c.in_ok-sources.ensures.read in
     if_missed s.settings.now s.rows.now s.places.now s.order.now s.found.now c.args.at post.row.now post.found.now post.reached.items c.requires.post told c.args.room c.min.result c.min.ensures c.requires.meant read
+
+pub returns-in_ok-described-in-Some-clause-known : goal.returns-in_ok-described-in-Some-clause-known
+returns-in_ok-described-in-Some-clause-known g c =
+    let s = c.args.scene.now in
+    let post = c.args.post.now in
+    known_at s.settings.now s.rows.now s.places.now s.order.now s.found.now c.args.at post.row.now post.found.now post.reached.items c.requires.post c.in-Some.sources c.in_ok-described-in-Some.field-0 c.in_ok-described-in-Some.ensures
