@@ -1,7 +1,7 @@
 -- How a call of the program ends.
 use Rattle.std.specs.Prelude.{◌≡◌, ℕ, List, take, Ok, Err}
 use Rattle.mx_base.specs.Causes.{Rose}
-use Rattle.mx_base.specs.Sink.{with_bytes}
+use Rattle.mx_base.specs.Sink.{Sunk, with_bytes}
 use Rattle.compile_model.specs.declared.outcome.Outcome.{Outcome}
 use Rattle.compile_model.specs.Content.{Content}
 use Rattle.mix_main.specs.declared.command.Command.{Command}
@@ -13,7 +13,7 @@ use Rattle.mix_main.specs.Compile.{Compiles}
 use Rattle.mix_main.specs.Help.{Helps}
 use Rattle.mix_main.specs.Texts.{bad_words_line, memory_line}
 use Rattle.mix_main.specs.Words.{command_of}
-use Rattle.mix_main.specs.World.{Site, Sunk, World}
+use Rattle.mix_main.specs.World.{Site, World}
 
 -- the words are no command: the line says where, and nothing changed
 pub data Misread (at : ℕ) (old new : Site) (status : Status) (text : List ℕ) : Type 0 where

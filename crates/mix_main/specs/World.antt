@@ -1,5 +1,6 @@
 -- What the outside is known by.
-use Rattle.std.specs.Prelude.{◌≡◌, ℕ, List, Option}
+use Rattle.std.specs.Prelude.{◌≡◌, ℕ}
+use Rattle.mx_base.specs.Sink.{Sunk}
 use Rattle.tree_store.specs.Known.{Known}
 use Rattle.tree_store.specs.Slot.{AllHere}
 
@@ -9,13 +10,6 @@ pub record Site : Type 0 where
   -- how often the compiler died
   pub deaths : ℕ
 
--- what the sink is known by
-pub record Sunk : Type 0 where
-  -- the bytes that it took, where it tells
-  pub taken : Option (List ℕ)
-  -- how often it failed
-  pub faults : ℕ
-
 pub record World : Type 0 where
   pub site : Site
   pub sink : Sunk
@@ -23,11 +17,8 @@ pub record World : Type 0 where
 abbrev pub site_of : Known → ℕ → Site
 site_of store deaths = record { store = store; deaths = deaths }
 
-abbrev pub sunk_of : Option (List ℕ) → ℕ → Sunk
-sunk_of taken faults = record { taken = taken; faults = faults }
-
-abbrev pub world_of : Known → ℕ → Option (List ℕ) → ℕ → World
-world_of store deaths taken faults = record { site = site_of store deaths; sink = sunk_of taken faults }
+abbrev pub world_of : Known → ℕ → Sunk → World
+world_of store deaths sink = record { site = site_of store deaths; sink = sink }
 
 -- nothing failed where the command works
 pub record Calm (old new : Site) : Type 0 where

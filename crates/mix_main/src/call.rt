@@ -6,7 +6,7 @@ ghost use Rattle.mix_main.specs.Compile.{Compiles, MayStand};
 ghost use Rattle.mix_main.specs.Ends.{Comes, Does, Ends, EndsBy, Misread, Says};
 ghost use Rattle.mix_main.specs.Tree.{StaysElsewhere};
 ghost use Rattle.mix_main.specs.Words.{dev};
-ghost use Rattle.mix_main.specs.World.{Keeps, Site, site_of, sunk_of, world_of};
+ghost use Rattle.mix_main.specs.World.{Keeps, Site, site_of, world_of};
 
 use crate::answer::{Answer, Stop};
 use crate::command::{Command, WordsError, read_words};
@@ -34,8 +34,8 @@ pub fn run<S: Store, C: Compiler, K: Sink>(
 ) -> Status
     requires { AllHere (S.known store.old).slot }
     ensures ends { Ends C.compile_of (map (λ word. string_bytes word) words.now)
-        (world_of (S.known store.old) (C.deaths compiler.old) (K.taken out.old) (K.faults out.old))
-        (world_of (S.known store.new) (C.deaths compiler.new) (K.taken out.new) (K.faults out.new)) result }
+        (world_of (S.known store.old) (C.deaths compiler.old) (K.known out.old))
+        (world_of (S.known store.new) (C.deaths compiler.new) (K.known out.new)) result }
     ensures stands { MayStand C.compile_of dev (S.known store.old) (S.known store.new) }
     ensures elsewhere { StaysElsewhere dev (S.known store.old).slot (S.known store.new).slot }
     ensures keeps { Keeps (S.known store.old) (S.known store.new) }
@@ -54,8 +54,8 @@ pub fn plain_compile<S: Store, C: Compiler, K: Sink>(
 ) -> Status
     requires { AllHere (S.known store.old).slot }
     ensures ends { EndsBy (Compiles C.compile_of env.now)
-        (world_of (S.known store.old) (C.deaths compiler.old) (K.taken out.old) (K.faults out.old))
-        (world_of (S.known store.new) (C.deaths compiler.new) (K.taken out.new) (K.faults out.new)) result }
+        (world_of (S.known store.old) (C.deaths compiler.old) (K.known out.old))
+        (world_of (S.known store.new) (C.deaths compiler.new) (K.known out.new)) result }
     ensures stands { MayStand C.compile_of env.now (S.known store.old) (S.known store.new) }
     ensures elsewhere { StaysElsewhere env.now (S.known store.old).slot (S.known store.new).slot }
     ensures keeps { Keeps (S.known store.old) (S.known store.new) }
@@ -114,7 +114,7 @@ fn misread(alloc: Global, at: u64) -> Result<Answer, Stop>
 
 // Writes the text of an answer, with which its status goes.
 fn say<K: Sink>(out: &mut K, answer: &Result<Answer, Stop>) -> Status
-    ensures { Says (status_in answer.now) (text_in answer.now) (sunk_of (K.taken out.old) (K.faults out.old)) (sunk_of (K.taken out.new) (K.faults out.new)) result }
+    ensures { Says (status_in answer.now) (text_in answer.now) (K.known out.old) (K.known out.new) result }
 {
     match out.write(text_in(answer)) {
         Ok(()) => status_in(answer),

@@ -1,54 +1,9 @@
-//! The program `mixc`: it hands the words after its own name to the top call, over the folder that it is run in
-//! and standard output, and ends with the status.
+//! The program `mixc`. Its stored run is that of three dependencies that need one another: status 0.
 #![tactic(auto)]
 
-ghost use Rattle.std.specs.Prelude.{◌≡◌};
-ghost use Rattle.std.specs.Process.{exit_status};
-ghost use Rattle.mix_main.specs.Status.{code_of};
-
-use compile_model::EchoCompiler;
-use mix_main::{Status, run};
-use std::alloc::AllocError;
-use std::env;
-use std::io::ErrorKind;
+use mixc_call::run_here;
 use std::process::ExitCode;
-use tree_host::{HostSink, HostStore};
-
-// The words of the command line. Words that aren't UTF-8 are none, so that the first of them is refused.
-fn words(rt: &HostRuntime) -> Result<Vec<String>, AllocError> {
-    match env::args(rt) {
-        Ok(words) => words.skip(1).collect(rt.alloc()),
-        Err(error) if error.kind() == ErrorKind::OutOfMemory => Err(AllocError),
-        Err(_) => Ok(Vec::new(rt.alloc())),
-    }
-}
-
-fn status(rt: &HostRuntime) -> Result<Status, AllocError> {
-    let words = words(rt)?;
-    let mut store = HostStore::new(rt.clone()?, rt.alloc(), ".")?;
-    let mut out = HostSink::new(rt.clone()?);
-    Ok(run(rt.alloc(), &words, &mut store, &mut EchoCompiler, &mut out))
-}
-
-// Memory ran out before the top call was made.
-fn say_memory(rt: &HostRuntime) -> Status {
-    match rt.println("mixc: out of memory") {
-        Ok(()) => Status::OutOfMemory,
-        Err(_) => Status::WriteFault,
-    }
-}
-
-// What the program exits with.
-fn exit_of(status: Status) -> ExitCode
-    ensures { exit_status result ≡ code_of status }
-{
-    ExitCode::from(status.code())
-}
 
 fn main(rt: HostRuntime) -> ExitCode {
-    let status = match status(&rt) {
-        Ok(status) => status,
-        Err(_) => say_memory(&rt),
-    };
-    exit_of(status)
+    run_here(&rt)
 }

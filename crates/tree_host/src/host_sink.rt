@@ -1,5 +1,6 @@
 // Standard output as a sink.
-ghost use Rattle.std.specs.Prelude.{◌≡◌};
+ghost use Rattle.std.specs.Prelude.{◌≡◌, None};
+ghost use Rattle.mx_base.specs.Sink.{sunk_of};
 
 use mx_base::{Count, Failed, Sink};
 use std::io::Print;
@@ -13,7 +14,7 @@ pub struct HostSink<R> {
 
 impl<R: Print + Drop> HostSink<R> {
     pub fn new(rt: R) -> HostSink<R>
-        ensures { ⟦<HostSink<R> as Sink>⟧.faults result ≡ 0 }
+        ensures { ⟦<HostSink<R> as Sink>⟧.known result ≡ sunk_of None 0 }
     {
         HostSink {
             rt,
@@ -24,10 +25,9 @@ impl<R: Print + Drop> HostSink<R> {
 
 impl<R: Print + Drop> Sink for HostSink<R> {
     ghost use Rattle.std.specs.Prelude.{None};
+    ghost use Rattle.mx_base.specs.Sink.{sunk_of};
 
-    ghost taken = { λ _. None };
-
-    ghost faults = { λ sink. sink.faults };
+    ghost known = { λ sink. sunk_of None sink.faults };
 
     /// It takes no memory.
     fn write(&mut self, piece: &[u8]) -> Result<(), Failed> {
