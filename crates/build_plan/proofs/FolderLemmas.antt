@@ -8,7 +8,8 @@ use Rattle.semver.proofs.OnLiterals.{semver_on_literals}
 use Rattle.mx_base.specs.Blame.Blame.{Input}
 use Rattle.mx_base.specs.declared.file.File.{File}
 use Rattle.mx_base.specs.Order.{bytes_at}
-use Rattle.tree_store.specs.Files.{paths_below, is_in_build}
+use Rattle.mx_base.specs.Layout.{is_in_build}
+use Rattle.tree_store.specs.Files.{paths_below}
 use Rattle.dep_options.specs.declared.decl.Decl.{Decl}
 use Rattle.dep_options.specs.declared.decl.DepSource.TheVariants.{Hex, Path}
 use Rattle.converger.specs.Reach.{admits}

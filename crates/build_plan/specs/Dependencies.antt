@@ -5,7 +5,8 @@ use Rattle.semver.specs.Identifiers.{parts_of}
 use Rattle.semver.specs.Parse.{version_parts}
 use Rattle.semver.specs.declared.Version.{Version}
 use Rattle.mx_base.specs.declared.file.File.{File}
-use Rattle.tree_store.specs.Files.{paths_below, is_in_build}
+use Rattle.mx_base.specs.Layout.{is_in_build}
+use Rattle.tree_store.specs.Files.{paths_below}
 use Rattle.dep_options.specs.declared.decl.Decl.{Decl}
 use Rattle.dep_options.specs.declared.decl.DepSource.TheVariants.{Hex, Path}
 use Rattle.project_file.specs.declared.error.ProjectError.{ProjectError}

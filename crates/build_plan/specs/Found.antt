@@ -3,7 +3,8 @@ use Rattle.std.specs.Prelude.{◌≡◌, ◌⊎◌, ℕ, ◌<◌, List, length, 
 use Rattle.std.specs.List.{All, AllZip}
 use Rattle.mx_base.specs.declared.file.File.{File}
 use Rattle.mx_base.specs.Order.{ArePathsInOrder, bytes_at}
-use Rattle.tree_store.specs.Files.{paths_below, is_in_build}
+use Rattle.mx_base.specs.Layout.{is_in_build}
+use Rattle.tree_store.specs.Files.{paths_below}
 use Rattle.dep_options.specs.declared.decl.DepSource.TheVariants.{Path}
 use Rattle.dep_rows.specs.declared.row.Row.{Row}
 use Rattle.dep_rows.specs.Listed.{Listed, IsWithinLimit}

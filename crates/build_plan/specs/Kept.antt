@@ -4,7 +4,8 @@ use Rattle.std.specs.BTreeMap.{BTreeMap, get}
 use Rattle.std.specs.List.{All, Contains}
 use Rattle.mx_base.specs.declared.file.File.{File}
 use Rattle.mx_base.specs.Order.{ArePathsInOrder, text_cmp}
-use Rattle.tree_store.specs.Files.{paths_below, is_in_build}
+use Rattle.mx_base.specs.Layout.{is_in_build}
+use Rattle.tree_store.specs.Files.{paths_below}
 use Rattle.tree_store.specs.Known.{Known}
 use Rattle.dep_options.specs.declared.decl.Decl.{Decl}
 use Rattle.dep_options.specs.declared.decl.DepSource.TheVariants.{Path}

@@ -19,7 +19,7 @@ use dep_options::Decl;
 use mx_base::{AppName, Bytes, RelPath};
 use project_file::{Project, ProjectError, project_of_text};
 use std::alloc::{AllocError, Global};
-use tree_store::{Store, StoreFault, is_in_build};
+use tree_store::{Store, StoreFault};
 
 pub(crate) const MANIFEST: &str = "project.exs";
 
@@ -108,7 +108,7 @@ fn paths_in<S: Store>(
 fn is_apart(dir: &RelPath) -> bool
     ensures { result ≡ is_apart dir.now }
 {
-    !dir.as_str().is_empty() && !is_in_build(dir)
+    !dir.as_str().is_empty() && !dir.is_in_build()
 }
 
 /// What the text of a manifest says, where there is one.

@@ -4,7 +4,7 @@ ghost use Rattle.mx_base.specs.Blame.{fails};
 ghost use Rattle.mx_base.specs.Order.{bytes_at};
 ghost use Rattle.mx_base.specs.Path.{child_of};
 ghost use Rattle.tree_store.specs.Blame.{blame_of};
-ghost use Rattle.tree_store.specs.Files.{is_in_build};
+ghost use Rattle.mx_base.specs.Layout.{is_in_build};
 ghost use Rattle.tree_store.specs.Known.{OnlyReads};
 ghost use Rattle.build_plan.specs.Found.{AreSources, IsFound, IsSound};
 ghost use Rattle.build_plan.specs.Jobs.{most_files};

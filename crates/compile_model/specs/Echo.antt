@@ -1,6 +1,7 @@
 -- The echo rule.
 use Rattle.std.specs.Prelude.{◌≡◌, ◌≢◌, ℕ, Bool, not, ◌&&◌, List, [], ◌∷◌, ◌++◌, flat_map, filter, find, Option, Some, None, option_map, unwrap_or, codes, bytes_eq, refl}
 use Rattle.mx_base.specs.declared.file.File.{File}
+use Rattle.mx_base.specs.Layout.{manifest_name}
 use Rattle.mx_base.specs.Order.{AreInOrder}
 use Rattle.compile_model.specs.declared.how.How.{How}
 use Rattle.compile_model.specs.declared.how.How.TheVariants.{Nothing, Unit as ByUnit, Program}
@@ -11,7 +12,7 @@ abbrev pub is_named : List ℕ → File → Bool
 is_named name file = bytes_eq file.path name
 
 abbrev pub is_copied : File → Bool
-is_copied file = not (is_named (codes "project.exs") file) && not (is_named (codes "warn") file)
+is_copied file = not (is_named manifest_name file) && not (is_named (codes "warn") file)
 
 abbrev pub bytes_of : List File → List ℕ
 bytes_of files = flat_map (λ file. file.bytes) files

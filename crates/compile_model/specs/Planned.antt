@@ -1,7 +1,7 @@
 -- What holds of the jobs of a plan.
-use Rattle.std.specs.Prelude.{◌≡◌, ◌≢◌, ℕ, ◌+◌, ◌<◌, ◌≤◌, List, [], length, map, filter_map, option_map, sum, Option, Some, slice_get, IsFalse, codes, bytes_eq}
+use Rattle.std.specs.Prelude.{◌≡◌, ◌≢◌, ℕ, ◌+◌, ◌<◌, ◌≤◌, List, [], length, map, filter_map, option_map, sum, Option, Some, slice_get, IsFalse}
 use Rattle.std.specs.List.{All, AllPairs, Contains}
-use Rattle.mx_base.specs.Path.{first_segment}
+use Rattle.mx_base.specs.Layout.{is_in_build}
 use Rattle.mx_base.specs.declared.variable.Variable.{Variable}
 use Rattle.compile_model.specs.declared.how.How.{How}
 use Rattle.compile_model.specs.declared.how.How.TheVariants.{Nothing, Unit as ByUnit, Program}
@@ -44,7 +44,7 @@ pub record IsSound (job : Job) : Type 0 where
   pub few : length job.needs ≤ most_needs
   pub named : IsNamed job
   pub not_root : job.dir ≢ []
-  pub outside : IsFalse (bytes_eq (first_segment job.dir) (codes "_build"))
+  pub outside : IsFalse (is_in_build job.dir)
   pub sent : sent_size job ≤ most_sent
 
 abbrev pub app_at : List Job → ℕ → Option (List ℕ)

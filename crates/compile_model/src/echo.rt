@@ -8,7 +8,7 @@ ghost use Rattle.compile_model.specs.Echo.{echo_of, echo_file, echo_bytes, is_na
 use crate::compiler::{CompileFault, Compiler, Input, Meaning};
 use crate::how::How;
 use crate::outcome::Outcome;
-use mx_base::{Bytes, File, Files, RelPath, Shared};
+use mx_base::{Bytes, File, Files, MANIFEST, RelPath, Shared};
 use std::alloc::{AllocError, Global};
 
 /// Copies sources into one output file, and never dies. A source `fail` makes a job fail with its text, and
@@ -127,7 +127,7 @@ fn push_copied(bytes: &mut Vec<u8>, sources: &[File]) -> Result<(), AllocError>
 fn is_copied(file: &File) -> bool
     ensures { result ≡ is_copied file.now }
 {
-    !has_name(file, "project.exs") && !has_name(file, "warn")
+    !has_name(file, MANIFEST) && !has_name(file, "warn")
 }
 
 fn push_files(bytes: &mut Vec<u8>, files: &[File]) -> Result<(), AllocError>

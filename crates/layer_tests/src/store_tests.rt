@@ -5,9 +5,7 @@ ghost use Rattle.tree_store.specs.Slot.Slot.{Out};
 use mx_base::{AppName, Bytes, FaultPlan, NoFaults, RelPath};
 use std::alloc::{AllocError, Global};
 use std::test::Fail;
-use tree_store::{
-    ConstStore, Contents, Folder, MemFolder, MemStore, Store, StoreFault, is_in_build,
-};
+use tree_store::{ConstStore, Contents, Folder, MemFolder, MemStore, Store, StoreFault};
 
 // Three files, and one of a build, which a store doesn't see as the project's.
 const FILES: [(&str, &str); 4] = [
@@ -60,7 +58,7 @@ fn rebuilt<S: Store>(
 ) -> Result<(usize, usize, usize), StoreFault>
     requires { (S.known store.old).slot (record { env = name.now; app = name.now }) ≡ Out → ⊥ }
 {
-    if is_in_build(path) {
+    if path.is_in_build() {
         return Err(StoreFault::Failed);
     }
     let listed = store.list(alloc, &RelPath::root(alloc))?;

@@ -2,7 +2,7 @@
 use Rattle.std.proofs.Common.{◌≡◌, ℕ, suc, ◌+◌, Bool, true, false, not, cond, IsFalse, List, [], ◌∷◌, ◌++◌, take, refl, sym, ◌∙◌, ap, append_assoc, codes, bytes_eq, arith}
 use Rattle.std.specs.List.{position_or_len}
 use Rattle.mx_base.specs.Path.{is_slash, first_segment}
-use Rattle.tree_store.specs.Files.{is_in_build}
+use Rattle.mx_base.specs.Layout.{is_in_build}
 use Rattle.project_file.specs.Files.{manifest_at}
 
 one_more : (n : ℕ) (b : ℕ) (bs : List ℕ) → take (1 + n) (b ∷ bs) ≡ b ∷ take n bs

@@ -1,6 +1,7 @@
 -- What a project's files say.
 use Rattle.std.specs.Prelude.{◌≡◌, ℕ, Bool, ◌||◌, List, Option, Some, None, is_some, Result, Ok, Err, IsFalse, IfSome, if◌then◌else◌, codes}
 use Rattle.mx_base.specs.declared.file.File.{File}
+use Rattle.mx_base.specs.Layout.{manifest_name, settings_name}
 use Rattle.mx_base.specs.Order.{bytes_at}
 use Rattle.mx_base.specs.Path.{child_of}
 use Rattle.tree_store.specs.Known.{Known}
@@ -42,7 +43,7 @@ pub data SaysProject (dir : List ℕ) : Option (List ℕ) → Result (Option Pro
 
 -- the path of a manifest
 abbrev pub manifest_at : List ℕ → List ℕ
-manifest_at dir = child_of dir (codes "project.exs")
+manifest_at dir = child_of dir (manifest_name)
 
 -- what the manifest in a folder says
 abbrev pub IsLoaded : List File → List ℕ → Result (Option Project) ProjectError → Type 0
@@ -57,7 +58,7 @@ pub data SaysSettings : Option (List ℕ) → Result Settings SettingsError → 
 
 -- the path of the settings
 abbrev pub settings_path : List ℕ
-settings_path = codes "settings.exs"
+settings_path = settings_name
 
 -- what the settings of a project say
 abbrev pub AreSettings : List File → Result Settings SettingsError → Type 0
@@ -76,7 +77,7 @@ has_file files dir name = is_some (bytes_at (child_of dir name) files)
 -- the manager of a dependency, by the files in its folder
 abbrev pub manager_by_files : List File → List ℕ → Manager
 manager_by_files files dir =
-    if has_file files dir (codes "project.exs") || has_file files dir (codes "mix.exs") then Mix
+    if has_file files dir (manifest_name) || has_file files dir (codes "mix.exs") then Mix
     else if has_file files dir (codes "rebar.config") then Rebar3
     else if has_file files dir (codes "Makefile") then Make
     else Mix

@@ -1,7 +1,7 @@
 // The files of a project, read from a store or as texts.
 ghost use Rattle.std.specs.Prelude.{IsFalse};
 ghost use Rattle.mx_base.specs.Blame.{Answers, Computes, fails};
-ghost use Rattle.tree_store.specs.Files.{is_in_build};
+ghost use Rattle.mx_base.specs.Layout.{is_in_build};
 ghost use Rattle.tree_store.specs.Known.{Told, OnlyReads};
 ghost use Rattle.project_file.specs.Blame.{project_blame, settings_blame};
 ghost use Rattle.project_file.specs.Files.{IsManifest, SaysProject, IsLoaded, SaysSettings, AreSettings, IsOfText, manifest_at, settings_path};
@@ -12,13 +12,9 @@ use crate::manifest::project_in;
 use crate::project::Project;
 use crate::settings::Settings;
 use elixir_terms::read;
-use mx_base::{Bytes, RelPath};
+use mx_base::{Bytes, MANIFEST, RelPath, SETTINGS};
 use std::alloc::Global;
 use tree_store::Store;
-
-const MANIFEST: &str = "project.exs";
-
-const SETTINGS: &str = "settings.exs";
 
 /// Reads the manifest of a folder, and answers none where the folder has no manifest.
 pub fn load_project<S: Store>(

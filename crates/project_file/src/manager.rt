@@ -4,13 +4,13 @@ ghost use Rattle.std.specs.List.{list_any};
 ghost use Rattle.project_file.specs.Files.{has_file, manager_by_files};
 
 use dep_options::Manager;
-use mx_base::File;
+use mx_base::{File, MANIFEST};
 
 /// The manager of a dependency by its files, with their paths from its folder.
 pub fn manager_by_files(files: &[File]) -> Manager
     ensures { result ≡ manager_by_files files.now [] }
 {
-    if has_file(files, "project.exs") || has_file(files, "mix.exs") {
+    if has_file(files, MANIFEST) || has_file(files, "mix.exs") {
         Manager::Mix
     } else if has_file(files, "rebar.config") {
         Manager::Rebar3

@@ -1,7 +1,7 @@
 -- The paths that a walk through folders finds.
 use Rattle.std.specs.Prelude.{ℕ, Bool, true, not, List, IsTrue}
 use Rattle.mx_base.specs.Path.{child_of, is_below}
-use Rattle.tree_store.specs.Files.{is_in_build}
+use Rattle.mx_base.specs.Layout.{is_in_build}
 use Rattle.tree_host.specs.declared.walk.Scope.{Scope}
 use Rattle.tree_host.specs.declared.walk.Scope.TheVariants.{Everything, Sources}
 

@@ -3,7 +3,7 @@ ghost use Rattle.std.specs.Prelude.{◌≡◌, IfOk, All, IsTrue, IsFalse};
 ghost use Rattle.mx_base.specs.Order.{ArePathsInOrder};
 ghost use Rattle.mx_base.specs.Path.{is_below};
 ghost use Rattle.tree_store.specs.declared.key.BuildKey.{BuildKey};
-ghost use Rattle.tree_store.specs.Files.{is_in_build};
+ghost use Rattle.mx_base.specs.Layout.{is_in_build};
 ghost use Rattle.tree_store.specs.Slot.{AreNamesInOrder};
 ghost use Rattle.tree_store.specs.Slot.Slot.{Here};
 
@@ -11,7 +11,7 @@ use crate::counted::counted;
 use crate::files::{Kind, host_path, if_there, is_link, kind_at, read_file};
 use crate::host_folder::HostFolder;
 use crate::walk::{Scope, files_below, has_file};
-use mx_base::{AppName, Bytes, Count, NameError, RelPath};
+use mx_base::{AppName, BUILD, Bytes, Count, NameError, RelPath};
 use std::alloc::{AllocError, Global};
 use std::collections::BTreeSet;
 use std::fs::{DirEntry, Files};
@@ -123,7 +123,7 @@ impl<R: Files + AllocGlobal + Clone + Drop> Store for HostStore<R> {
 
 // The folder of an environment's builds.
 fn builds_of(alloc: Global, root: Path<'_>, env: &AppName) -> Result<PathBuf, AllocError> {
-    let mut folder = root.join(alloc, "_build")?;
+    let mut folder = root.join(alloc, BUILD)?;
     folder.push(env.as_str())?;
     folder.push("lib")?;
     Ok(folder)

@@ -14,7 +14,6 @@ use std::io::ErrorKind;
 use std::marker::Model;
 use std::path::Path;
 use std::{fs, io};
-use tree_store::is_in_build;
 
 /// What a walk leaves out.
 #[derive(Clone, Copy)]
@@ -31,7 +30,7 @@ impl Scope {
     {
         match self {
             Scope::Everything => true,
-            Scope::Sources => !is_in_build(path),
+            Scope::Sources => !path.is_in_build(),
         }
     }
 }

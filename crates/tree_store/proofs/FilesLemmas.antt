@@ -13,7 +13,8 @@ use Rattle.mx_base.specs.declared.file.File.{File}
 use Rattle.mx_base.specs.Order.{text_cmp, IsBefore, ArePathsInOrder, AreInOrder, paths_of, bytes_at}
 use Rattle.mx_base.specs.Path.{is_below}
 use Rattle.tree_store.specs.Contents.{file_of}
-use Rattle.tree_store.specs.Files.{is_in_build, outside_build, paths_below, put_file, put_all, with_file, with_files, HoldsPart}
+use Rattle.mx_base.specs.Layout.{is_in_build}
+use Rattle.tree_store.specs.Files.{outside_build, paths_below, put_file, put_all, with_file, with_files, HoldsPart}
 use Rattle.tree_store.proofs.OrderLemmas.{less_back, same_name, in_order_filter}
 
 abbrev Entry : Type 0

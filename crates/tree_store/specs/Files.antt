@@ -1,13 +1,10 @@
 -- Files, and what writes do to them.
-use Rattle.std.specs.Prelude.{◌≡◌, ◌⊎◌, ℕ, Bool, not, List, [], ◌∷◌, take, filter, Option, option_map, codes, bytes_eq}
+use Rattle.std.specs.Prelude.{◌≡◌, ◌⊎◌, ℕ, Bool, not, List, [], ◌∷◌, take, filter, Option, option_map}
 use Rattle.std.specs.Ordering.{match_ordering, is_eq}
 use Rattle.mx_base.specs.declared.file.File.{File}
 use Rattle.mx_base.specs.Order.{text_cmp, paths_of}
-use Rattle.mx_base.specs.Path.{is_below, first_segment}
-
--- the path leads into the folder of builds
-abbrev pub is_in_build : List ℕ → Bool
-is_in_build path = bytes_eq (first_segment path) (codes "_build")
+use Rattle.mx_base.specs.Layout.{is_in_build}
+use Rattle.mx_base.specs.Path.{is_below}
 
 abbrev pub outside_build : List File → List File
 outside_build files = filter (λ f. not (is_in_build f.path)) files

@@ -3,14 +3,12 @@
 #![tactic(auto)]
 
 mod contents;
-mod in_build;
 mod key;
 mod mem_folder;
 mod mem_store;
 mod store;
 
 pub use contents::{Contents, files_in_order};
-pub use in_build::is_in_build;
 pub use key::BuildKey;
 pub use mem_folder::MemFolder;
 pub use mem_store::{ConstStore, MemStore};

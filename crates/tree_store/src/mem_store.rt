@@ -6,14 +6,14 @@ ghost use Rattle.mx_base.specs.Order.{ArePathsInOrder};
 ghost use Rattle.mx_base.specs.Path.{is_below};
 ghost use Rattle.tree_store.specs.declared.key.BuildKey.{BuildKey};
 ghost use Rattle.tree_store.specs.Blame.{blame_of};
-ghost use Rattle.tree_store.specs.Files.{outside_build, paths_below, is_in_build};
+ghost use Rattle.mx_base.specs.Layout.{is_in_build};
+ghost use Rattle.tree_store.specs.Files.{outside_build, paths_below};
 ghost use Rattle.tree_store.specs.Key.{key_cmp};
 ghost use Rattle.tree_store.specs.MemStore.{slot_of, apps_in, has_files};
 ghost use Rattle.tree_store.specs.Slot.{SetsSlot, AreNamesInOrder};
 ghost use Rattle.tree_store.specs.Slot.Slot.{Here, Out};
 
 use crate::contents::Contents;
-use crate::in_build::is_in_build;
 use crate::key::BuildKey;
 use crate::mem_folder::MemFolder;
 use crate::store::{Store, StoreFault};
@@ -135,7 +135,7 @@ fn listed(alloc: Global, sources: &Contents, dir: &RelPath) -> Result<Vec<RelPat
     ensures outside { IfOk result (λ paths. All (λ path. IsFalse (is_in_build path)) paths.items) }
 {
     let mut paths = sources.below(alloc, dir)?;
-    paths.retain(|path| !is_in_build(path));
+    paths.retain(|path| !path.is_in_build());
     Ok(paths)
 }
 
