@@ -9,6 +9,7 @@ pub mod Needs
 pub mod Options
 pub mod Plan
 pub mod Refusals
+pub mod Said
 pub mod Scenes
 pub mod Sources
 pub mod Stages

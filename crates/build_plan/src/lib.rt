@@ -18,6 +18,7 @@ mod options;
 mod planning;
 mod posts;
 mod root;
+mod said;
 mod sources;
 mod versions;
 

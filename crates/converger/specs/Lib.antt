@@ -1,5 +1,6 @@
 pub mod Reach
 pub mod Divergence
+pub mod Said
 pub mod Converged
 pub mod Web
 pub mod Walk

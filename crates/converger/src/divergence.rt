@@ -1,4 +1,6 @@
 // What can't live together.
+ghost use Rattle.std.specs.Prelude.{◌≡◌};
+ghost use Rattle.converger.specs.Said.{rule_said};
 
 use mx_base::ListOf;
 
@@ -13,6 +15,20 @@ pub enum Rule {
     V3,
     /// The other is reached in an environment that the winner, in the root, isn't for.
     V4,
+}
+
+impl Rule {
+    /// Its name.
+    pub fn said(self) -> &'static [u8]
+        ensures { result.now ≡ rule_said self }
+    {
+        match self {
+            Rule::V1 => b"V1",
+            Rule::V2 => b"V2",
+            Rule::V3 => b"V3",
+            Rule::V4 => b"V4",
+        }
+    }
 }
 
 /// A row that can't live together with the winner of its app. Both are places in the list of rows.

@@ -5,5 +5,6 @@ pub mod Limits
 pub mod Machine
 pub mod Prefixes
 pub mod Refusals
+pub mod Said
 pub mod Codes
 pub mod Reading

@@ -1,7 +1,9 @@
 // Why a text is not read, and where.
-ghost use Rattle.std.specs.Prelude.{◌≡◌};
+ghost use Rattle.std.specs.Prelude.{◌≡◌, ◌++◌, OnOk};
+ghost use Rattle.elixir_terms.specs.Said.{term_said};
 
-use std::alloc::{AllocError, AllocFailed};
+use mx_base::push_decimal;
+use std::alloc::{AllocError, AllocFailed, Global};
 use term_tokens::TermCause;
 
 /// Why a text is not read, and where.
@@ -19,6 +21,16 @@ impl TermError {
         at: 0,
         cause: TermCause::OutOfMemory,
     };
+
+    /// Adds `refused at N: CAUSE`, for people.
+    pub fn say(&self, alloc: Global, text: &mut Vec<u8>) -> Result<(), AllocError>
+        ensures { OnOk result (text.new.items ≡ text.old.items ++ term_said self.now) }
+    {
+        text.extend_from_slice(b"refused at ")?;
+        push_decimal(alloc, text, self.at)?;
+        text.extend_from_slice(b": ")?;
+        text.extend_from_slice(self.cause.said())
+    }
 }
 
 impl From<AllocError> for TermError {

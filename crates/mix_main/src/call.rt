@@ -12,10 +12,9 @@ use crate::answer::{Answer, Stop};
 use crate::command::{Command, WordsError, read_words};
 use crate::compile::compile;
 use crate::help::help;
-use crate::report::push_number;
 use crate::status::Status;
 use compile_model::Compiler;
-use mx_base::{AppName, Sink};
+use mx_base::{AppName, Sink, push_decimal};
 use std::alloc::Global;
 use tree_store::Store;
 
@@ -104,7 +103,7 @@ fn misread(alloc: Global, at: u64) -> Result<Answer, Stop>
     ensures { (site : Site) → Misread at site site (status_in result) (text_in result) }
 {
     let mut text = Vec::from_slice(alloc, b"mixc: bad words at ")?;
-    push_number(alloc, &mut text, at)?;
+    push_decimal(alloc, &mut text, at)?;
     text.extend_from_slice(b"\n")?;
     Ok(Answer {
         status: Status::BadWords,

@@ -13,9 +13,7 @@ mod compile;
 mod fill;
 mod help;
 mod laws;
-mod manifest_texts;
 mod refusal;
-mod refusal_texts;
 mod report;
 mod status;
 

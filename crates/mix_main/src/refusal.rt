@@ -6,7 +6,6 @@ ghost use Rattle.mix_main.specs.Answer.{status_in, text_in};
 ghost use Rattle.mix_main.specs.Refusal.{TellsError, status_of};
 
 use crate::answer::{Answer, Stop};
-use crate::refusal_texts::refusal_line;
 use crate::status::Status;
 use build_plan::PlanError;
 use std::alloc::Global;
@@ -26,7 +25,8 @@ fn refused(alloc: Global, error: &PlanError) -> Result<Answer, Stop>
     requires { blame_of error.now ≡ Input }
     ensures { TellsError error.now (status_in result) (text_in result) }
 {
-    let text = refusal_line(alloc, error)?;
+    let mut text = Vec::new(alloc);
+    error.say(alloc, b"mixc: ", &mut text)?;
     Ok(Answer {
         status: status_of(error),
         text,

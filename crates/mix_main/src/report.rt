@@ -5,7 +5,7 @@ ghost use Rattle.std.specs.Fmt.{decimal};
 ghost use Rattle.mix_main.specs.Report.{report, jobs_text, job_text, fate_text, shown_text, shown_after, failed_text, skipped_text, app_at, count_text, totals, is_built, is_failed, is_skipped};
 
 use compile_model::{Fate, Job, Outcome};
-use mx_base::Bytes;
+use mx_base::{Bytes, push_decimal};
 use std::alloc::{AllocError, Global};
 
 /// One entry for each job in order, and last the totals.
@@ -68,7 +68,7 @@ fn push_failed(alloc: Global, text: &mut Vec<u8>, outcome: &Outcome) -> Result<(
     ensures { OnOk result (text.new.items ≡ text.old.items ++ failed_text outcome.now.status outcome.now.text) }
 {
     text.extend_from_slice(b" failed with status ")?;
-    push_number(alloc, text, outcome.status as u64)?;
+    push_decimal(alloc, text, outcome.status as u64)?;
     text.extend_from_slice(b"\n")?;
     push_shown(text, &outcome.text)?;
     Ok(())
@@ -172,7 +172,7 @@ fn push_count(
 ) -> Result<(), AllocError>
     ensures { OnOk result (text.new.items ≡ text.old.items ++ count_text count label.now) }
 {
-    push_number(alloc, text, count as u64)?;
+    push_decimal(alloc, text, count as u64)?;
     text.extend_from_slice(label)
 }
 
@@ -180,14 +180,6 @@ fn is_failed(fate: &Fate) -> bool
     ensures { result ≡ is_failed fate.now }
 {
     matches!(fate, Fate::Failed(_))
-}
-
-/// A number in decimal.
-pub(crate) fn push_number(alloc: Global, text: &mut Vec<u8>, number: u64) -> Result<(), AllocError>
-    ensures { OnOk result (text.new.items ≡ text.old.items ++ decimal number) }
-{
-    let digits = format!(in alloc; "{number}")?;
-    text.extend_from_slice(digits.as_bytes())
 }
 
 pub(crate) fn any_failed(fates: &[Fate]) -> bool

@@ -7,5 +7,6 @@ pub mod MemSink
 pub mod NameFaults
 pub mod Order
 pub mod Path
+pub mod Said
 pub mod Sink
 pub mod Stack

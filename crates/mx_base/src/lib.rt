@@ -3,6 +3,7 @@
 
 mod bytes;
 mod count;
+mod decimal;
 mod fault_plan;
 mod file;
 mod layout;
@@ -21,6 +22,7 @@ mod variable;
 
 pub use bytes::Bytes;
 pub use count::Count;
+pub use decimal::push_decimal;
 pub use fault_plan::{FaultPlan, Faults, NoFaults};
 pub use file::{File, Files};
 pub use layout::{BUILD, DEPS, LOCK, MANIFEST, REGISTRY, SETTINGS};

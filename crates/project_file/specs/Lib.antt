@@ -5,3 +5,4 @@ pub mod Compilers
 pub mod Files
 pub mod Entries
 pub mod Refusals
+pub mod Said

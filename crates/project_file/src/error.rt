@@ -1,8 +1,10 @@
 // Why a file of a project is refused.
+ghost use Rattle.std.specs.Prelude.{◌≡◌, ◌++◌, OnOk};
+ghost use Rattle.project_file.specs.Said.{manifest_said, settings_said};
 
 use dep_options::{OptionCause, OptionError};
 use elixir_terms::{TermCause, TermError};
-use std::alloc::{AllocError, AllocFailed};
+use std::alloc::{AllocError, AllocFailed, Global};
 use tree_store::StoreFault;
 
 /// Why a manifest is refused.
@@ -121,6 +123,35 @@ impl From<StoreFault> for SettingsError {
         match fault {
             StoreFault::Failed => SettingsError::Read,
             StoreFault::OutOfMemory => SettingsError::OutOfMemory,
+        }
+    }
+}
+
+impl ProjectError {
+    /// Adds why the manifest is refused, for people.
+    pub fn say(&self, alloc: Global, text: &mut Vec<u8>) -> Result<(), AllocError>
+        ensures { OnOk result (text.new.items ≡ text.old.items ++ manifest_said self.now) }
+    {
+        match self {
+            ProjectError::Read => text.extend_from_slice(b"read fault"),
+            ProjectError::Term(error) => error.say(alloc, text),
+            ProjectError::Shape => text.extend_from_slice(b"shape"),
+            ProjectError::Options(error) => error.say(alloc, text),
+            ProjectError::OutOfMemory => text.extend_from_slice(b"out of memory"),
+        }
+    }
+}
+
+impl SettingsError {
+    /// Adds why the settings are refused, for people.
+    pub fn say(&self, alloc: Global, text: &mut Vec<u8>) -> Result<(), AllocError>
+        ensures { OnOk result (text.new.items ≡ text.old.items ++ settings_said self.now) }
+    {
+        match self {
+            SettingsError::Read => text.extend_from_slice(b"read fault"),
+            SettingsError::Term(error) => error.say(alloc, text),
+            SettingsError::Shape => text.extend_from_slice(b"shape"),
+            SettingsError::OutOfMemory => text.extend_from_slice(b"out of memory"),
         }
     }
 }

@@ -4,6 +4,7 @@ pub mod Numbers
 pub mod Words
 pub mod Tokens
 pub mod Refused
+pub mod Said
 pub mod Lexing
 pub mod Local
 pub mod Lexed

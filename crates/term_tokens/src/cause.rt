@@ -1,4 +1,6 @@
 // Why a text is not read.
+ghost use Rattle.std.specs.Prelude.{◌≡◌};
+ghost use Rattle.term_tokens.specs.Said.{cause_said, unsupported_said};
 
 /// Why a text is not read.
 #[derive(Clone, Copy, Debug, PartialEq, Eq, Drop)]
@@ -44,4 +46,42 @@ pub enum Feature {
     Alias,
     /// `<<`.
     Bits,
+}
+
+impl TermCause {
+    /// Its name, with the feature's where it has one.
+    pub fn said(self) -> &'static [u8]
+        ensures { result.now ≡ cause_said self }
+    {
+        match self {
+            TermCause::Unsupported(feature) => feature.unsupported(),
+            TermCause::BadEscape => b"BadEscape",
+            TermCause::BadUtf8 => b"BadUtf8",
+            TermCause::NumberTooBig => b"NumberTooBig",
+            TermCause::TooDeep => b"TooDeep",
+            TermCause::DuplicateKey => b"DuplicateKey",
+            TermCause::TrailingText => b"TrailingText",
+            TermCause::Unclosed => b"Unclosed",
+            TermCause::Unexpected => b"Unexpected",
+            TermCause::TooLong => b"TooLong",
+            TermCause::OutOfMemory => b"OutOfMemory",
+        }
+    }
+}
+
+impl Feature {
+    // That it isn't read.
+    fn unsupported(self) -> &'static [u8]
+        ensures { result.now ≡ unsupported_said self }
+    {
+        match self {
+            Feature::Charlist => b"Unsupported(Charlist)",
+            Feature::Sigil => b"Unsupported(Sigil)",
+            Feature::Heredoc => b"Unsupported(Heredoc)",
+            Feature::Interpolation => b"Unsupported(Interpolation)",
+            Feature::Float => b"Unsupported(Float)",
+            Feature::Alias => b"Unsupported(Alias)",
+            Feature::Bits => b"Unsupported(Bits)",
+        }
+    }
 }

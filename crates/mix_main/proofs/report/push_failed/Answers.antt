@@ -7,4 +7,4 @@ use Rattle.mix_main.proofs.report.push_failed.Goals as goal
 pub returns : goal.returns
 returns c =
     four_pieces c.args.text.now.items (codes " failed with status ") (decimal c.args.outcome.now.status) (codes "\n") (shown_text c.args.outcome.now.text) _ _ _ _
-    c.in_ok-extend_from_slice.ensures.items c.in_ok-push_number.ensures c.in_ok-extend_from_slice-2.ensures.items c.in_ok-push_shown.ensures
+    c.in_ok-extend_from_slice.ensures.items c.in_ok-push_decimal.ensures c.in_ok-extend_from_slice-2.ensures.items c.in_ok-push_shown.ensures
