@@ -1,5 +1,6 @@
 pub mod BlameLemmas
 pub mod FolderLemmas
+pub mod ListingLemmas
 pub mod NameLemmas
 pub mod OrderLemmas
 pub mod PathLemmas
