@@ -50,10 +50,21 @@ fn say_settings(
         ++ line_of before.now (settings_name ++ codes ": " ++ settings_said fault.now)) }
 {
     text.extend_from_slice(before)?;
+    say_of_settings(alloc, text, fault)?;
+    text.extend_from_slice(b"\n")
+}
+
+fn say_of_settings(
+    alloc: Global,
+    text: &mut Vec<u8>,
+    fault: &SettingsError,
+) -> Result<(), AllocError>
+    ensures { OnOk result (text.new.items ≡ text.old.items
+        ++ settings_name ++ codes ": " ++ settings_said fault.now) }
+{
     text.extend_from_slice(SETTINGS.as_bytes())?;
     text.extend_from_slice(b": ")?;
-    fault.say(alloc, text)?;
-    text.extend_from_slice(b"\n")
+    fault.say(alloc, text)
 }
 
 fn say_manifest(
@@ -67,10 +78,22 @@ fn say_manifest(
         ++ line_of before.now (path.now ++ codes ": " ++ manifest_said fault.now)) }
 {
     text.extend_from_slice(before)?;
+    say_of_manifest(alloc, text, path, fault)?;
+    text.extend_from_slice(b"\n")
+}
+
+fn say_of_manifest(
+    alloc: Global,
+    text: &mut Vec<u8>,
+    path: &RelPath,
+    fault: &ProjectError,
+) -> Result<(), AllocError>
+    ensures { OnOk result (text.new.items ≡ text.old.items
+        ++ path.now ++ codes ": " ++ manifest_said fault.now) }
+{
     text.extend_from_slice(path.as_str().as_bytes())?;
     text.extend_from_slice(b": ")?;
-    fault.say(alloc, text)?;
-    text.extend_from_slice(b"\n")
+    fault.say(alloc, text)
 }
 
 fn say_missing(
@@ -83,11 +106,18 @@ fn say_missing(
         ++ line_of before.now (codes "path missing: " ++ app.now ++ codes " " ++ dir.now)) }
 {
     text.extend_from_slice(before)?;
+    say_of_missing(text, app, dir)?;
+    text.extend_from_slice(b"\n")
+}
+
+fn say_of_missing(text: &mut Vec<u8>, app: &AppName, dir: &RelPath) -> Result<(), AllocError>
+    ensures { OnOk result (text.new.items ≡ text.old.items
+        ++ codes "path missing: " ++ app.now ++ codes " " ++ dir.now) }
+{
     text.extend_from_slice(b"path missing: ")?;
     text.extend_from_slice(app.as_str().as_bytes())?;
     text.extend_from_slice(b" ")?;
-    text.extend_from_slice(dir.as_str().as_bytes())?;
-    text.extend_from_slice(b"\n")
+    text.extend_from_slice(dir.as_str().as_bytes())
 }
 
 // What is said of an app.
