@@ -1,5 +1,7 @@
 pub mod BlameLemmas
 pub mod FolderLemmas
+pub mod ListingLemmas
 pub mod NameLemmas
+pub mod OneListing
 pub mod OrderLemmas
 pub mod PathLemmas

@@ -1,5 +1,5 @@
 -- The path that a text names from a base.
-use Rattle.std.specs.Prelude.{◌≡◌, ℕ, ◌-◌, Bool, true, false, ◌||◌, nat_lt, List, [], ◌∷◌, ◌++◌, length, take, position, Option, Some, None, Result, Ok, Err, if◌then◌else◌, codes, bytes_eq}
+use Rattle.std.specs.Prelude.{◌≡◌, ℕ, ◌-◌, true, ◌||◌, nat_lt, List, [], ◌∷◌, ◌++◌, length, take, position, Option, Some, None, Result, Ok, Err, if◌then◌else◌, codes, bytes_eq}
 use Rattle.std.specs.List.{slice_split}
 use Rattle.std.specs.Str.Lossy.{utf8_valid_len}
 use Rattle.mx_base.specs.Blame.{Blame}

@@ -1,8 +1,10 @@
 pub mod AppName
 pub mod Blame
 pub mod Causes
+pub mod Digest
 pub mod Join
 pub mod Layout
+pub mod Listing
 pub mod MemSink
 pub mod NameFaults
 pub mod Order
