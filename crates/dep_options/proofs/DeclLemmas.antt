@@ -22,7 +22,7 @@ use Rattle.dep_options.specs.Stated.{written_by}
 use Rattle.term_values.specs.Views.{Lent, named}
 
 nothing_in : (text : List ℕ) (at : ℕ) → IsRefusedAt text at → IsBadRequirement (Some text)
-nothing_in text at stuck = stuck.nothing
+nothing_in text at stuck = λ requirement spells. stuck.nothing (requirement, spells)
 
 -- a text that is refused is no requirement
 pub bad_text : (o : Option (Bor (List ℕ))) (text : Bor (List ℕ)) (slice : List ℕ) (e : ReqError) (at : ℕ) → o ≡ Some text → slice ≡ text.now → e ≡ Refused at → HasCause slice e → IsBadRequirement (option_copied o)

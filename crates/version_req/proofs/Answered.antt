@@ -1,6 +1,5 @@
 -- Each text spells a requirement, or is refused at one place.
-use Rattle.std.proofs.Common.{◌≡◌, ◌⊎◌, ℕ, ◌-◌, ◌<◌, List, length, Result, Ok, Err, refl, inl, inr, ⊎_elim}
-use Rattle.std.proofs.lemmas.Bool.{cases_order}
+use Rattle.std.proofs.Common.{◌≡◌, ◌⊎◌, ℕ, ◌-◌, List, length, Result, Ok, Err, refl, inl, inr}
 use Rattle.version_req.specs.Condition.{Alternatives}
 use Rattle.version_req.specs.Grammar.{Spells}
 use Rattle.version_req.specs.Machine.{Lead, empty, run}
@@ -15,10 +14,3 @@ answered text (Err left) e = inr (length text - left, (refused text left e).1)
 
 pub read_or_refused : (text : List ℕ) → ((requirement : Alternatives) × Spells text requirement) ⊎ ((at : ℕ) × IsRefusedAt text at)
 read_or_refused text = answered text (run text Lead empty) refl
-
-pub one_place : (text : List ℕ) (at other : ℕ) → IsRefusedAt text at → IsRefusedAt text other → at ≡ other
-one_place text at other a b =
-    ⊎_elim (λ e. e)
-    (λ more. ⊎_elim
-    (λ (h : at < other). absurd (a.longest other h b.within b.begins))
-    (λ (h : other < at). absurd (b.longest at h a.within a.begins)) more) (cases_order at other)

@@ -1,9 +1,8 @@
 -- Where the machine is stuck: some text leads on from each place before, and none from there.
-use Rattle.std.proofs.Common.{◌≡◌, ◌⊎◌, ℕ, suc, ◌+◌, ◌-◌, ◌<◌, ◌≤◌, ◌==◌, ◌++◌, ◌&&◌, List, [], ◌∷◌, length, take, Bool, true, false, Result, Ok, Err, Option, Some, None, refl, sym, ap, ◌∙◌, arith, inl, inr, subst, append_assoc, length-append}
+use Rattle.std.proofs.Common.{◌≡◌, ◌⊎◌, ℕ, ◌+◌, ◌-◌, ◌≤◌, ◌==◌, ◌++◌, ◌&&◌, List, [], ◌∷◌, length, Bool, true, false, Result, Ok, Err, Option, Some, None, refl, sym, ap, ◌∙◌, arith, inl, inr, subst, length-append}
 use Rattle.std.specs.Prelude.{if◌then◌else◌, nat_lt}
 use Rattle.std.specs.Char.{is_ascii_digit}
 use Rattle.std.specs.List.{list_all}
-use Rattle.std.proofs.Math.Seq.{take-append-add, take-append_seam}
 use Rattle.std.proofs.lemmas.Bool.{cases_Bool, eq-eqb, lt-ltb}
 use Rattle.std.proofs.lemmas.List.Folds.{list_all-append}
 use Rattle.semver.specs.Grammar.{is_build_identifier, is_identifier_byte}
@@ -16,7 +15,9 @@ use Rattle.version_req.specs.declared.identifiers.Kind.{Kind}
 use Rattle.version_req.specs.declared.identifiers.Kind.TheVariants.{PreRelease, Build}
 use Rattle.version_req.specs.declared.scan.Head.{Head}
 use Rattle.version_req.specs.Condition.{Condition, Alternatives}
-use Rattle.version_req.specs.Grammar.{Begins}
+use Rattle.reading.specs.Refusal.{IsStuck}
+use Rattle.reading.proofs.Refusals.{refused_where_stuck}
+use Rattle.version_req.specs.Grammar.{IsSpelled}
 use Rattle.version_req.specs.Machine.{Numbers, Major, Minor, Patch, Place, Lead, Half, Angle, Before, Number, Whole, Ids, AfterPre, After, Gap, Word, Tree, Next, Go, Close, Enter, after_letter, closed, closing, empty, ends, finish, ids_end, ids_ends, joined, lacking_patch, next_digit, number_end, run, step, with_condition}
 use Rattle.version_req.specs.Reading.{is_identifier, with_digit}
 use Rattle.version_req.specs.Refusal.{IsRefusedAt}
@@ -288,41 +289,27 @@ stops (b ∷ rest) p tree left s h =
 
 -- ---- the refusal
 
-longer_front : (text taken more : List ℕ) (b k j : ℕ) → text ≡ taken ++ b ∷ more → k ≡ length taken + suc j → take k text ≡ taken ++ b ∷ take j more
-longer_front text taken more b k j bytes place = rw (place, bytes) (take-append-add taken (b ∷ more) (suc j))
+-- from a place with its tree, the text leads to a requirement
+abbrev Leads : Place × Tree → List ℕ → Type 0
+Leads at text = (requirement : Alternatives) × (run text at.0 at.1 ≡ Ok requirement)
 
--- no longer prefix goes on
-no_longer : (text taken rest : List ℕ) (q : Place) (held : Tree) → text ≡ taken ++ rest → ((x : List ℕ) → run (taken ++ x) Lead empty ≡ run x q held)
-    → ((b : ℕ) (more : List ℕ) → rest ≡ b ∷ more → step q b ≡ None) → (k : ℕ) → length taken < k → k ≤ length text → Begins (take k text) → ⊥
-no_longer text taken [] q held bytes leads refuses k over within begins =
-    absurd (omega (arith, ap length bytes, length-append taken []))
-no_longer text taken (b ∷ more) q held bytes leads refuses k over within (w, r, spells) =
-    let j = k - suc (length taken) in
-    let place : k ≡ length taken + suc j = omega arith in
-    let front : take k text ≡ taken ++ b ∷ take j more = longer_front text taken more b k j bytes place in
-    let whole : take k text ++ w ≡ taken ++ b ∷ (take j more ++ w) = ap (λ (t : List ℕ). t ++ w) front ∙ append_assoc taken (b ∷ take j more) w in
-    let accepted = run-Spells (take k text ++ w) r spells in
-    let stuck = leads (b ∷ (take j more ++ w)) ∙ halt q b (take j more ++ w) held (refuses b more refl) in
-    cc (sym accepted ∙ ap (λ (t : List ℕ). run t Lead empty) whole ∙ stuck)
-
-begins_taken : (taken : List ℕ) (q : Place) (held : Tree) → ((x : List ℕ) → run (taken ++ x) Lead empty ≡ run x q held) → IsSound q → Begins taken
-begins_taken taken q held leads sound =
-    let more = lives q held sound in
-    (more.0, more.1, Spells-run (taken ++ more.0) more.1 (leads more.0 ∙ more.2))
+-- what is left leads on from no place where the next byte is refused
+stuck_there : (text : List ℕ) (left : ℕ) (s : StopsAt text Lead empty left) → run text Lead empty ≡ Err left
+    → IsStuck Leads (s.place, s.held) s.rest
+stuck_there text left s h = record {
+  lives = let l = lives s.place s.held s.sound in (l.0, (l.1, l.2));
+  ends = λ ended. cc (sym h ∙ ap (λ (t : List ℕ). run t Lead empty) s.bytes ∙ s.leads s.rest ∙ ended.1);
+  refuses = λ byte others more e led. cc (sym led.1 ∙ halt s.place byte more s.held (s.refuses byte others e));
+}
 
 -- a text at which the machine is stuck is refused there
 pub refused : (text : List ℕ) (left : ℕ) → run text Lead empty ≡ Err left → (left ≤ length text) × IsRefusedAt text (length text - left)
 refused text left h =
     let s = stops text Lead empty left tt h in
     let size = ap length s.bytes ∙ length-append s.taken s.rest in
-    let at : length text - left ≡ length s.taken = omega (arith, size, s.size) in
-    let front : take (length text - left) text ≡ s.taken =
-    ap (λ (n : ℕ). take n text) at ∙ ap (take (length s.taken)) s.bytes ∙ take-append_seam s.taken s.rest in (
-      omega (arith, size, s.size),
-      record {
-        nothing = λ r spells. cc (sym h ∙ run-Spells text r spells);
-        within = omega arith;
-        begins = subst Begins (sym front) (begins_taken s.taken s.place s.held s.leads s.sound);
-        longest = λ k over within. no_longer text s.taken s.rest s.place s.held s.bytes s.leads s.refuses k (omega (arith, at)) within;
-      },
-    )
+    let at : length s.taken ≡ length text - left = omega (arith, size, s.size) in
+    let there : IsRefusedAt (s.taken ++ s.rest) (length s.taken) =
+    refused_where_stuck IsSpelled Leads (Lead, empty) (s.place, s.held) s.taken s.rest
+    (λ t spelled. (spelled.0, run-Spells t spelled.0 spelled.1)) (λ t led. (led.0, Spells-run t led.0 led.1))
+    (λ more led. (led.0, sym (s.leads more) ∙ led.1)) (λ more led. (led.0, s.leads more ∙ led.1)) (stuck_there text left s h) in
+    (omega (arith, size, s.size), subst (λ (t : List ℕ). IsRefusedAt t (length text - left)) (sym s.bytes) (subst (IsRefusedAt (s.taken ++ s.rest)) at there))

@@ -62,6 +62,6 @@ Spells text requirement =
     (before : ℕ) × (inner : List ℕ) × (after : ℕ)
     × SpellsAlternatives inner requirement × (text ≡ spaces before ++ (inner ++ spaces after))
 
--- a text that some requirement begins with
-abbrev pub Begins : List ℕ → Type 0
-Begins text = (rest : List ℕ) × (requirement : Alternatives) × Spells (text ++ rest) requirement
+-- a text that spells some requirement
+abbrev pub IsSpelled : List ℕ → Type 0
+IsSpelled text = (requirement : Alternatives) × Spells text requirement
