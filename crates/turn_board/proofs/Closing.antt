@@ -49,14 +49,17 @@ module _ {X O E : Type 0} (account : Account X O E) (n : ℕ) where
   pub idle_of : (number : ℕ) (out : Bool) (m : M) → SeatIs account.maker number out m → out ≡ false → (m.0.stage ≡ Idle) × (m.1 ≡ [])
   idle_of number out m i e = subst (λ b. IsOut b m) e i.1
 
-  pub joins_from : (id other number : ℕ) (out : Bool) (m u : M) (all before : List (SeatView O E)) → Keeps all before m → SeatIs account.maker number out u → out ≡ false → Joins Rule id m.0 other u.0 (joined m.0 u.0) spent
+  pub joins_from : (id other number : ℕ) (out : Bool) (m u : M) (all before : List (SeatView O E)) → Keeps all before m → SeatIs account.maker number out u
+      → out ≡ false → Joins Rule id m.0 other u.0 (joined m.0 u.0) spent
   joins_from id other number out m u all before k i e =
       let p = k.3 in
       joins_at account n id m.0 other u.0 (tally_of k.0) (map tally_of k.1) (omega arith) k.4 (idle_of number out u i e).0 k.5
 
   -- the last state, where one seat stands for all
-  pub closes : (ws : List ℕ) (xs : List (Option X)) (id : ℕ) (m : M) (all : List (SeatView O E)) (y : Option X) → length all ≡ n → Keeps all [] m → Final (Seen Rule id m.0) ws xs → get_elem? xs 0 ≡ some y
-      → (x : X) × (y ≡ Some x) × All (λ s. s.opening ≡ Some (account.opening x)) all × All (λ s. Continues account.maker s.number s.seen (account.history x)) all × (length (account.history x) ≡ sum_by (λ s. s.made) all)
+  pub closes : (ws : List ℕ) (xs : List (Option X)) (id : ℕ) (m : M) (all : List (SeatView O E)) (y : Option X) → length all ≡ n → Keeps all [] m
+      → Final (Seen Rule id m.0) ws xs → get_elem? xs 0 ≡ some y
+      → (x : X) × (y ≡ Some x) × All (λ s. s.opening ≡ Some (account.opening x)) all
+      × All (λ s. Continues account.maker s.number s.seen (account.history x)) all × (length (account.history x) ≡ sum_by (λ s. s.made) all)
   closes ws xs id m all y many k final at =
       let p = k.3 in
       let same : all ≡ k.0 ∷ k.1 = k.2 in
@@ -65,7 +68,10 @@ module _ {X O E : Type 0} (account : Account X O E) (n : ℕ) where
       let x = z.0 in (
         x,
         some-injective _ _ (sym at ∙ z.1),
-        subst (All (λ s. s.opening ≡ Some (account.opening x))) (sym same) (each_all (λ r. r.opening ≡ Some (account.opening x)) (k.0 ∷ k.1) (subst (Each (λ r. r.opening ≡ Some (account.opening x))) k.5 z.2)),
-        subst (All (λ s. Continues account.maker s.number s.seen (account.history x))) (sym same) (each_all (λ r. Continues account.maker r.number r.seen (account.history x)) (k.0 ∷ k.1) (subst (Each (λ r. Continues account.maker r.number r.seen (account.history x))) k.5 z.3)),
+        subst (All (λ s. s.opening ≡ Some (account.opening x))) (sym same)
+            (each_all (λ r. r.opening ≡ Some (account.opening x)) (k.0 ∷ k.1) (subst (Each (λ r. r.opening ≡ Some (account.opening x))) k.5 z.2)),
+        subst (All (λ s. Continues account.maker s.number s.seen (account.history x))) (sym same)
+            (each_all (λ r. Continues account.maker r.number r.seen (account.history x)) (k.0 ∷ k.1)
+            (subst (Each (λ r. Continues account.maker r.number r.seen (account.history x))) k.5 z.3)),
         z.4 ∙ (ap (total (λ (r : Tally O E). r.made)) k.5 ∙ (made_sum (k.0 ∷ k.1) ∙ ap (sum_by (λ (s : SeatView O E). s.made)) (sym same))),
       )

@@ -30,8 +30,10 @@ module _ {X O E : Type 0} (account : Account X O E) (n : ℕ) where
   abbrev Turn : St → Type 0
   Turn = Turning account n
 
-  pub counts_at : (slots id p nx t : ℕ) (r : Tally O E) (x : X) (e : E) → 0 < p → account.history x ≡ r.seen ++ e ∷ [] → account.maker e ≡ r.number → length (account.history x) < 2 ^ 64
-      → Allows Rule slots id (seated p nx (Has t) r, (0, Some x) ∷ []) 2 (λ k. (k + 1) % 18446744073709551616) (counts account.history (step slots 2 1 0 none) (seated p nx (Has t) r, (0, Some x) ∷ []))
+  pub counts_at : (slots id p nx t : ℕ) (r : Tally O E) (x : X) (e : E) → 0 < p → account.history x ≡ r.seen ++ e ∷ [] → account.maker e ≡ r.number
+      → length (account.history x) < 2 ^ 64
+      → Allows Rule slots id (seated p nx (Has t) r, (0, Some x) ∷ []) 2 (λ k. (k + 1) % 18446744073709551616)
+      (counts account.history (step slots 2 1 0 none) (seated p nx (Has t) r, (0, Some x) ∷ []))
   counts_at slots id p nx t r x e some_part grows own small s kept _ at _ =
       let v : V = seated p nx (Has t) r in
       let q = turning account n s id v r [] refl at kept in
@@ -55,7 +57,8 @@ module _ {X O E : Type 0} (account : Account X O E) (n : ℕ) where
           log = account.history x;
           drawn = q.drawn;
           served = q.served;
-          words = ap (λ ws. set ws 2 ((slice_index ws 2 + 1) % 18446744073709551616)) q.words ∙ ap (λ k. (q.drawn % 18446744073709551616) ∷ (q.served % 18446744073709551616) ∷ k ∷ []) (omega arith);
+          words = ap (λ ws. set ws 2 ((slice_index ws 2 + 1) % 18446744073709551616)) q.words
+              ∙ ap (λ k. (q.drawn % 18446744073709551616) ∷ (q.served % 18446744073709551616) ∷ k ∷ []) (omega arith);
           one_slot = q.one_slot;
           few = q.few;
           tickets = omega arith;
@@ -69,7 +72,8 @@ module _ {X O E : Type 0} (account : Account X O E) (n : ℕ) where
                 staged = (now, f.staged.1, f.staged.2, (refl, tt));
                 continues = (([], sym (append-nil (account.history x)), refl), tt);
                 below = f.below;
-                fresh = λ k l m. let b = f.below r.number (inl refl) l in ap (made_by account.maker k) longer ∙ made_by_more account.maker k q.log e (λ same. omega arith) ∙ f.fresh k l m;
+                fresh = λ k l m. let b = f.below r.number (inl refl) l in
+                    ap (made_by account.maker k) longer ∙ made_by_more account.maker k q.log e (λ same. omega arith) ∙ f.fresh k l m;
                 nobody = λ (z : p ≡ 0). absurd (omega arith);
               }
               (λ j u other h.
@@ -92,7 +96,8 @@ module _ {X O E : Type 0} (account : Account X O E) (n : ℕ) where
       )
 
   pub passes_at : (slots id p nx t : ℕ) (r : Tally O E) (x : X) → 0 < p → account.history x ≡ r.seen → r.opening ≡ Some (account.opening x)
-      → Allows Rule slots id (seated p nx (Has t) r, (0, Some x) ∷ []) 1 (λ k. (k + 1) % 18446744073709551616) (passes (step slots 1 1 0 none) (seated p nx (Has t) r, (0, Some x) ∷ []))
+      → Allows Rule slots id (seated p nx (Has t) r, (0, Some x) ∷ []) 1 (λ k. (k + 1) % 18446744073709551616)
+      (passes (step slots 1 1 0 none) (seated p nx (Has t) r, (0, Some x) ∷ []))
   passes_at slots id p nx t r x some_part same opening s kept _ at _ =
       let v : V = seated p nx (Has t) r in
       let q = turning account n s id v r [] refl at kept in
@@ -114,7 +119,8 @@ module _ {X O E : Type 0} (account : Account X O E) (n : ℕ) where
           log = q.log;
           drawn = q.drawn;
           served = q.served + 1;
-          words = ap (λ ws. set ws 1 ((slice_index ws 1 + 1) % 18446744073709551616)) q.words ∙ ap (λ k. (q.drawn % 18446744073709551616) ∷ k ∷ length q.log ∷ []) (omega arith);
+          words = ap (λ ws. set ws 1 ((slice_index ws 1 + 1) % 18446744073709551616)) q.words
+              ∙ ap (λ k. (q.drawn % 18446744073709551616) ∷ k ∷ length q.log ∷ []) (omega arith);
           one_slot = ap length home;
           few = q.few;
           tickets = omega arith;
@@ -131,7 +137,8 @@ module _ {X O E : Type 0} (account : Account X O E) (n : ℕ) where
                 fresh = f.fresh;
                 nobody = λ (z : p ≡ 0). absurd (omega arith);
               }
-              (λ j u other h. fits_quiet account q.start q.log q.drawn q.served (q.served + 1) s.homes (set s.homes 0 (some (Some x))) u (omega arith) (λ k. (q.apart j id u v h at other).tickets q.served k now) (q.each j u h));
+              (λ j u other h. fits_quiet account q.start q.log q.drawn q.served (q.served + 1) s.homes (set s.homes 0 (some (Some x))) u (omega arith)
+              (λ k. (q.apart j id u v h at other).tickets q.served k now) (q.each j u h));
           apart = apart_set s.views id w
               (λ j u other h. apart_kept v w u refl refl (λ k k'. absurd k') (q.apart id j v u at h (λ z. other (sym z)), q.apart j id u v h at other))
               q.apart;

@@ -27,11 +27,14 @@ module _ {O E : Type 0} where
   owns_append k (x ∷ xs) ys (inr o) = ⊎_elim (λ a. inl (inr a)) inr (owns_append k xs ys o)
 
 module _ {O E : Type 0} where
-  pub each_set : (F : (Sight O E) → Type 0) (views : List (Sight O E)) (me : ℕ) (w : (Sight O E)) → F w → ((j : ℕ) (u : (Sight O E)) → j ≢ me → get_elem? views j ≡ some u → F u) → (j : ℕ) (u : (Sight O E)) → get_elem? (set views me w) j ≡ some u → F u
-  each_set F views me w mine others j u e = ⊎_elim (λ (t : (j ≡ me) × (w ≡ u)). subst F t.1 mine) (λ (t : (j ≢ me) × (get_elem? views j ≡ some u)). others j u t.0 t.1) (at_set views me j w u e)
+  pub each_set : (F : (Sight O E) → Type 0) (views : List (Sight O E)) (me : ℕ) (w : (Sight O E)) → F w
+      → ((j : ℕ) (u : (Sight O E)) → j ≢ me → get_elem? views j ≡ some u → F u) → (j : ℕ) (u : (Sight O E)) → get_elem? (set views me w) j ≡ some u → F u
+  each_set F views me w mine others j u e = ⊎_elim (λ (t : (j ≡ me) × (w ≡ u)). subst F t.1 mine)
+      (λ (t : (j ≢ me) × (get_elem? views j ≡ some u)). others j u t.0 t.1) (at_set views me j w u e)
 
   -- seats stay apart where one of them changes, among those that K speaks of
-  pub apart_set_on : (K : ℕ → Type 0) (views : List (Sight O E)) (me : ℕ) (w : (Sight O E)) → ((j : ℕ) (u : (Sight O E)) → K j → j ≢ me → get_elem? views j ≡ some u → Apart w u × Apart u w)
+  pub apart_set_on : (K : ℕ → Type 0) (views : List (Sight O E)) (me : ℕ) (w : (Sight O E))
+      → ((j : ℕ) (u : (Sight O E)) → K j → j ≢ me → get_elem? views j ≡ some u → Apart w u × Apart u w)
       → ((i j : ℕ) (v u : (Sight O E)) → K i → K j → i ≢ me → j ≢ me → get_elem? views i ≡ some v → get_elem? views j ≡ some u → i ≢ j → Apart v u)
       → (i j : ℕ) (v u : (Sight O E)) → K i → K j → get_elem? (set views me w) i ≡ some v → get_elem? (set views me w) j ≡ some u → i ≢ j → Apart v u
   apart_set_on K views me w mine others i j v u ki kj e e' n =
@@ -46,12 +49,15 @@ module _ {O E : Type 0} where
       (at_set views me j w u e'))
       (at_set views me i w v e)
 
-  pub apart_set : (views : List (Sight O E)) (me : ℕ) (w : (Sight O E)) → ((j : ℕ) (u : (Sight O E)) → j ≢ me → get_elem? views j ≡ some u → Apart w u × Apart u w)
+  pub apart_set : (views : List (Sight O E)) (me : ℕ) (w : (Sight O E))
+      → ((j : ℕ) (u : (Sight O E)) → j ≢ me → get_elem? views j ≡ some u → Apart w u × Apart u w)
       → ((i j : ℕ) (v u : (Sight O E)) → get_elem? views i ≡ some v → get_elem? views j ≡ some u → i ≢ j → Apart v u)
       → (i j : ℕ) (v u : (Sight O E)) → get_elem? (set views me w) i ≡ some v → get_elem? (set views me w) j ≡ some u → i ≢ j → Apart v u
-  apart_set views me w mine others i j v u e e' n = apart_set_on (λ _. Unit {0}) views me w (λ k x _. mine k x) (λ k l x y _ _ _ _. others k l x y) i j v u tt tt e e' n
+  apart_set views me w mine others i j v u e e' n = apart_set_on (λ _. Unit {0}) views me w (λ k x _. mine k x) (λ k l x y _ _ _ _. others k l x y) i j v u tt
+      tt e e' n
 
-  pub each_snoc : (F : (Sight O E) → Type 0) (views : List (Sight O E)) (w : (Sight O E)) → F w → ((j : ℕ) (u : (Sight O E)) → get_elem? views j ≡ some u → F u) → (j : ℕ) (u : (Sight O E)) → get_elem? (views ++ w ∷ []) j ≡ some u → F u
+  pub each_snoc : (F : (Sight O E) → Type 0) (views : List (Sight O E)) (w : (Sight O E)) → F w
+      → ((j : ℕ) (u : (Sight O E)) → get_elem? views j ≡ some u → F u) → (j : ℕ) (u : (Sight O E)) → get_elem? (views ++ w ∷ []) j ≡ some u → F u
   each_snoc F views w mine others j u e = ⊎_elim (λ t. others j u t) (λ (t : (j ≡ length views) × (w ≡ u)). subst F t.1 mine) (at_end views w u j e)
 
   pub apart_snoc : (views : List (Sight O E)) (w : (Sight O E)) → ((j : ℕ) (u : (Sight O E)) → get_elem? views j ≡ some u → Apart w u × Apart u w)
@@ -70,7 +76,8 @@ module _ {O E : Type 0} where
       (at_end views w v i e)
 
   -- a seat that changes neither its numbers nor its next one, and holds away further ticket
-  pub apart_kept : (v w u : (Sight O E)) → w.tallies ≡ v.tallies → w.next ≡ v.next → ((t : ℕ) → HasTicket t w.stage → HasTicket t v.stage) → Apart v u × Apart u v → Apart w u × Apart u w
+  pub apart_kept : (v w u : (Sight O E)) → w.tallies ≡ v.tallies → w.next ≡ v.next → ((t : ℕ) → HasTicket t w.stage → HasTicket t v.stage)
+      → Apart v u × Apart u v → Apart w u × Apart u w
   apart_kept v w u tallies next less a = (
     record {
       tickets = λ t x y. a.0.tickets t (less t x) y;
@@ -98,17 +105,21 @@ module _ {X O E : Type 0} (account : Account X O E) where
     Fit log d n hs = Fits account start log d n hs
 
     -- a seat without the ticket whose turn it is
-    quiet_stage : (log log' : List E) (d d' n n' : ℕ) (hs hs' : Homes) (tallies : List (Tally O E)) (st : Stage) → d ≤ d' → n' ≤ n + 1 → (HasTicket n st → ⊥) → On log d n hs tallies st → On log' d' n' hs' tallies st
+    quiet_stage : (log log' : List E) (d d' n n' : ℕ) (hs hs' : Homes) (tallies : List (Tally O E)) (st : Stage) → d ≤ d' → n' ≤ n + 1 → (HasTicket n st → ⊥)
+        → On log d n hs tallies st → On log' d' n' hs' tallies st
     quiet_stage log log' d d' n n' hs hs' tallies Idle more next away k = tt
-    quiet_stage log log' d d' n n' hs hs' tallies (Waits t) more next away k = let a = k.0 in let b = k.1 in (dite (ℕ_discrete t n) (λ e. absurd (away e)) (λ ne. omega arith), omega arith)
+    quiet_stage log log' d d' n n' hs hs' tallies (Waits t) more next away k = let a = k.0 in let b = k.1 in
+        (dite (ℕ_discrete t n) (λ e. absurd (away e)) (λ ne. omega arith), omega arith)
     quiet_stage log log' d d' n n' hs hs' tallies (Has t) more next away k = absurd (away k.0)
 
-    drawn_stage : (log : List E) (d d' n : ℕ) (hs : Homes) (tallies : List (Tally O E)) (st : Stage) → d ≤ d' → On log d n hs tallies st → On log d' n hs tallies st
+    drawn_stage : (log : List E) (d d' n : ℕ) (hs : Homes) (tallies : List (Tally O E)) (st : Stage) → d ≤ d' → On log d n hs tallies st
+        → On log d' n hs tallies st
     drawn_stage log d d' n hs tallies Idle more k = tt
     drawn_stage log d d' n hs tallies (Waits t) more k = let b = k.1 in (k.0, omega arith)
     drawn_stage log d d' n hs tallies (Has t) more k = let b = k.1 in (k.0, omega arith, k.2, k.3)
 
-    pub ticket_drawn : (log : List E) (d n : ℕ) (hs : Homes) (tallies : List (Tally O E)) (st : Stage) (t : ℕ) → On log d n hs tallies st → HasTicket t st → t < d
+    pub ticket_drawn : (log : List E) (d n : ℕ) (hs : Homes) (tallies : List (Tally O E)) (st : Stage) (t : ℕ) → On log d n hs tallies st → HasTicket t st
+        → t < d
     ticket_drawn log d n hs tallies Idle t k h = absurd h
     ticket_drawn log d n hs tallies (Waits u) t k h = let b = k.1 in omega arith
     ticket_drawn log d n hs tallies (Has u) t k h = let b = k.1 in omega arith
@@ -126,7 +137,8 @@ module _ {X O E : Type 0} (account : Account X O E) where
     }
 
     -- the seat whose turn it is moves the value, or passes on
-    pub fits_quiet : (log : List E) (d n n' : ℕ) (hs hs' : Homes) (u : Sight O E) → n' ≤ n + 1 → (HasTicket n u.stage → ⊥) → Fit log d n hs u → Fit log d n' hs' u
+    pub fits_quiet : (log : List E) (d n n' : ℕ) (hs hs' : Homes) (u : Sight O E) → n' ≤ n + 1 → (HasTicket n u.stage → ⊥) → Fit log d n hs u
+        → Fit log d n' hs' u
     fits_quiet log d n n' hs hs' u next away f = record {
       named = f.named;
       opened = f.opened;
@@ -137,15 +149,22 @@ module _ {X O E : Type 0} (account : Account X O E) where
       nobody = f.nobody;
     }
 
-    continues_more : (tallies : List (Tally O E)) (log : List E) (e : E) → (Owns (account.maker e) tallies → ⊥) → Each (λ r. Continues account.maker r.number r.seen log) tallies → Each (λ r. Continues account.maker r.number r.seen (log ++ e ∷ [])) tallies
+    continues_more : (tallies : List (Tally O E)) (log : List E) (e : E) → (Owns (account.maker e) tallies → ⊥)
+        → Each (λ r. Continues account.maker r.number r.seen log) tallies → Each (λ r. Continues account.maker r.number r.seen (log ++ e ∷ [])) tallies
     continues_more [] log e away k = tt
     continues_more (r ∷ rs) log e away k = let c = k.0 in (
-      (c.0 ++ e ∷ [], ap (λ l. l ++ e ∷ []) c.1 ∙ append_assoc r.seen c.0 (e ∷ []), made_by_more account.maker r.number c.0 e (λ is. away (inl (sym is))) ∙ c.2),
+      (
+        c.0 ++ e ∷ [],
+        ap (λ l. l ++ e ∷ []) c.1 ∙ append_assoc r.seen c.0 (e ∷ []),
+        made_by_more account.maker r.number c.0 e (λ is. away (inl (sym is)))
+            ∙ c.2,
+      ),
       continues_more rs log e (λ o. away (inr o)) k.1,
     )
 
     -- the seat whose turn it is makes an event
-    pub fits_grown : (log log' : List E) (e : E) (d n : ℕ) (hs : Homes) (u : Sight O E) → log' ≡ log ++ e ∷ [] → (HasTicket n u.stage → ⊥) → (Owns (account.maker e) u.tallies → ⊥) → (0 < u.next → account.maker e < u.next) → Fit log d n hs u → Fit log' d n hs u
+    pub fits_grown : (log log' : List E) (e : E) (d n : ℕ) (hs : Homes) (u : Sight O E) → log' ≡ log ++ e ∷ [] → (HasTicket n u.stage → ⊥)
+        → (Owns (account.maker e) u.tallies → ⊥) → (0 < u.next → account.maker e < u.next) → Fit log d n hs u → Fit log' d n hs u
     fits_grown log log' e d n hs u is away apart under f = record {
       named = f.named;
       opened = f.opened;
@@ -157,13 +176,20 @@ module _ {X O E : Type 0} (account : Account X O E) where
     }
 
     -- where the value is, after a step of a seat that keeps or gets the slot
-    pub housed_set : (log log' : List E) (d d' n : ℕ) (hs : Homes) (views : List (Sight O E)) (me : ℕ) (v w : Sight O E) → get_elem? views me ≡ some v → log' ≡ log → (v.stage ≡ Has n → w.stage ≡ Has n)
+    pub housed_set : (log log' : List E) (d d' n : ℕ) (hs : Homes) (views : List (Sight O E)) (me : ℕ) (v w : Sight O E) → get_elem? views me ≡ some v
+        → log' ≡ log → (v.stage ≡ Has n → w.stage ≡ Has n)
         → Housed account start log d n hs views → Housed account start log' d' n hs (set views me w)
     housed_set log log' d d' n hs views me v w at same stays (inl x) = inl (x.0, x.1, x.2, x.3 ∙ sym same)
     housed_set log log' d d' n hs views me v w at same stays (inr x) = dite (ℕ_discrete x.0 me)
-        (λ e. inr (me, w, set_at views me v w at, stays (subst (λ (y : Sight O E). y.stage ≡ Has n) (some-injective x.1 v (sym x.2 ∙ (ap (get_elem? views) e ∙ at))) x.3)))
+        (λ e. inr (
+          me,
+          w,
+          set_at views me v w at,
+          stays (subst (λ (y : Sight O E). y.stage ≡ Has n) (some-injective x.1 v (sym x.2 ∙ (ap (get_elem? views) e ∙ at))) x.3),
+        ))
         (λ ne. inr (x.0, x.1, set_else views me x.0 w ne ∙ x.2, x.3))
 
-    pub housed_snoc : (log : List E) (d n : ℕ) (hs : Homes) (views : List (Sight O E)) (w : Sight O E) → Housed account start log d n hs views → Housed account start log d n hs (views ++ w ∷ [])
+    pub housed_snoc : (log : List E) (d n : ℕ) (hs : Homes) (views : List (Sight O E)) (w : Sight O E) → Housed account start log d n hs views
+        → Housed account start log d n hs (views ++ w ∷ [])
     housed_snoc log d n hs views w (inl x) = inl x
     housed_snoc log d n hs views w (inr x) = inr (x.0, x.1, at_longer views (w ∷ []) x.0 x.1 x.2, x.3)

@@ -31,12 +31,14 @@ module _ {X O E : Type 0} (account : Account X O E) (n : ℕ) where
   abbrev Turn : St → Type 0
   Turn = Turning account n
 
-  pub joins_at : (id : ℕ) (v : V) (other : ℕ) (u : V) (r : Tally O E) (rs : List (Tally O E)) → 0 < v.parts → v.stage ≡ Idle → u.stage ≡ Idle → v.tallies ≡ r ∷ rs → Joins Rule id v other u (joined v u) spent
+  pub joins_at : (id : ℕ) (v : V) (other : ℕ) (u : V) (r : Tally O E) (rs : List (Tally O E)) → 0 < v.parts → v.stage ≡ Idle → u.stage ≡ Idle
+      → v.tallies ≡ r ∷ rs → Joins Rule id v other u (joined v u) spent
   joins_at id v other u r rs some_part idle idle' tally s kept at apart there =
       let q = turning account n s id v r rs tally at kept in
       let w : V = joined v u in
       let vs : List V = set s.views id w in
-      let there' : get_elem? s.views other ≡ some u = ⊎_elim (λ (t : (other ≡ id) × (w ≡ u)). absurd (apart t.0)) (λ (t : (other ≢ id) × (get_elem? s.views other ≡ some u)). t.1) (at_set s.views id other w u there) in
+      let there' : get_elem? s.views other ≡ some u = ⊎_elim (λ (t : (other ≡ id) × (w ≡ u)). absurd (apart t.0))
+      (λ (t : (other ≢ id) × (get_elem? s.views other ≡ some u)). t.1) (at_set s.views id other w u there) in
       let f = q.each id v at in
       let g = q.each other u there' in
       let held = total_set holding s.views id v w at in
@@ -91,8 +93,10 @@ module _ {X O E : Type 0} (account : Account X O E) (n : ℕ) where
         tickets = omega arith;
         whole = omega arith;
         counted = omega arith;
-        housed = housed_set account q.start q.log q.log q.drawn q.drawn q.served s.homes vs other u spent there refl (λ e. absurd (idle_not_has (sym idle' ∙ e)))
-            (housed_set account q.start q.log q.log q.drawn q.drawn q.served s.homes s.views id v w at refl (λ e. absurd (idle_not_has (sym idle ∙ e))) q.housed);
+        housed = housed_set account q.start q.log q.log q.drawn q.drawn q.served s.homes vs other u spent there refl
+            (λ e. absurd (idle_not_has (sym idle' ∙ e)))
+            (housed_set account q.start q.log q.log q.drawn q.drawn q.served s.homes s.views id v w at refl (λ e. absurd (idle_not_has (sym idle ∙ e)))
+            q.housed);
         each = each_set Fit vs other spent
             record {
               named = λ z. absurd (omega arith);
@@ -109,5 +113,6 @@ module _ {X O E : Type 0} (account : Account X O E) (n : ℕ) where
               record { tickets = λ t h _. h; numbers = λ k o _. o; above = λ k _ z. absurd (omega arith); one_next = λ z. absurd (omega arith) },
               record { tickets = λ t _ h. h; numbers = λ k _ o. o; above = λ k o _. absurd o; one_next = λ _. refl },
             ))
-            (λ i j x y _ _ far far' e e'. apart_set_on (λ k. k ≢ other) s.views id w mine (λ i j x y _ _ _ _. q.apart i j x y) i j x y far far' e e') i₀ j₀ v₀ u₀ tt tt;
+            (λ i j x y _ _ far far' e e'. apart_set_on (λ k. k ≢ other) s.views id w mine (λ i j x y _ _ _ _. q.apart i j x y) i j x y far far' e e') i₀ j₀ v₀
+            u₀ tt tt;
       }

@@ -8,3 +8,4 @@ pub mod Joining
 pub mod Ends
 pub mod Tokens
 pub mod Closing
+pub mod Fresh

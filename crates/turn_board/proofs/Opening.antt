@@ -94,5 +94,6 @@ module _ {X O E : Type 0} (account : Account X O E) (n : ℕ) where
       becomes = λ i. record {
         words = ap (λ ws. set ws 0 (either (eqb (slice_index ws 0) 0) 1 (slice_index ws 0))) b.words i;
         homes = ap (λ h. set h 0 none) b.homes i;
-        views = (ap (λ vs. set vs id (opener x)) b.views ∙ ap (λ k. set (start_seat ∷ []) k (opener x)) (first id (subst (λ vs. get_elem? vs id ≡ some start_seat) b.views at))) i;
+        views = (ap (λ vs. set vs id (opener x)) b.views ∙ ap (λ k. set (start_seat ∷ []) k (opener x))
+            (first id (subst (λ vs. get_elem? vs id ≡ some start_seat) b.views at))) i;
       }

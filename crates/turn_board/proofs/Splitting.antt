@@ -30,7 +30,8 @@ module _ {X O E : Type 0} (account : Account X O E) (n : ℕ) where
   abbrev Turn : St → Type 0
   Turn = Turning account n
 
-  pub splits_at : (id p nx : ℕ) (r : Tally O E) → 1 < p → 0 < nx → Splits Rule id (seated p nx Idle r) (splitter (seated p nx Idle r)) (split_off (seated p nx Idle r))
+  pub splits_at : (id p nx : ℕ) (r : Tally O E) → 1 < p → 0 < nx
+      → Splits Rule id (seated p nx Idle r) (splitter (seated p nx Idle r)) (split_off (seated p nx Idle r))
   splits_at id p nx r more some_next s kept at =
       let v : V = seated p nx Idle r in
       let q = turning account n s id v r [] refl at kept in
@@ -48,7 +49,8 @@ module _ {X O E : Type 0} (account : Account X O E) (n : ℕ) where
       let whole = q.whole in
       let counted = q.counted in
       let seen = f.continues.0 in
-      let unused : made_by account.maker nx seen.0 ≡ 0 = let a = f.fresh nx some_next (omega arith) in let b = ap (made_by account.maker nx) seen.1 in let c = made_by_append account.maker nx r.seen seen.0 in omega arith in
+      let unused : made_by account.maker nx seen.0 ≡ 0 = let a = f.fresh nx some_next (omega arith) in let b = ap (made_by account.maker nx) seen.1 in
+      let c = made_by_append account.maker nx r.seen seen.0 in omega arith in
       let Fit : V → Type 0 = Fits account q.start q.log q.drawn q.served s.homes in
       let fit : Fit w = record {
         named = λ _. omega arith;
@@ -73,11 +75,18 @@ module _ {X O E : Type 0} (account : Account X O E) (n : ℕ) where
       (λ j u other e.
       let a = q.apart id j v u at e (λ z. other (sym z)) in
       let b = q.apart j id u v e at other in (
-        record { tickets = a.tickets; numbers = a.numbers; above = λ k own _. let l = a.above k own some_next in omega arith; one_next = λ _. a.one_next some_next },
+        record {
+          tickets = a.tickets;
+          numbers = a.numbers;
+          above = λ k own _. let l = a.above k own some_next in omega arith;
+          one_next =
+              λ _. a.one_next some_next;
+        },
         record { tickets = b.tickets; numbers = b.numbers; above = b.above; one_next = λ l. absurd (let z = a.one_next some_next in omega arith) },
       ))
       q.apart in
-      let next_of_others : (j : ℕ) (u : V) → j ≢ id → get_elem? s.views j ≡ some u → u.next ≡ 0 = λ j u other e. (q.apart id j v u at e (λ z. other (sym z))).one_next some_next in
+      let next_of_others : (j : ℕ) (u : V) → j ≢ id → get_elem? s.views j ≡ some u
+      → u.next ≡ 0 = λ j u other e. (q.apart id j v u at e (λ z. other (sym z))).one_next some_next in
       let with_new : (j : ℕ) (u : V) → get_elem? vs j ≡ some u → Apart new u × Apart u new = each_set (λ u. Apart new u × Apart u new) s.views id w (
         record {
           tickets = λ t h _. h;
@@ -119,7 +128,8 @@ module _ {X O E : Type 0} (account : Account X O E) (n : ℕ) where
         tickets = omega arith;
         whole = omega arith;
         counted = omega arith;
-        housed = housed_snoc account q.start q.log q.drawn q.served s.homes vs new (housed_set account q.start q.log q.log q.drawn q.drawn q.served s.homes s.views id v w at refl (λ e. absurd (idle_not_has e)) q.housed);
+        housed = housed_snoc account q.start q.log q.drawn q.served s.homes vs new
+            (housed_set account q.start q.log q.log q.drawn q.drawn q.served s.homes s.views id v w at refl (λ e. absurd (idle_not_has e)) q.housed);
         each = each_snoc Fit vs new fit_new each_old;
         apart = apart_snoc vs new with_new apart_old;
       }

@@ -68,11 +68,13 @@ module _ {X O E : Type 0} (account : Account X O E) (n : ℕ) where
       nowhere (suc k) e = some-ne-none v (sym e)
 
   few_tickets : (s : St) (t : Turn s) → t.drawn ≤ t.served + 64
-  few_tickets s t = let a = total_below holding share s.views (λ j v at. each_holds v.stage v.parts (λ z. ((t.each j v at).nobody z).0)) in let b = t.tickets in let c = t.whole in let d = t.few in omega arith
+  few_tickets s t = let a = total_below holding share s.views (λ j v at. each_holds v.stage v.parts (λ z. ((t.each j v at).nobody z).0)) in
+      let b = t.tickets in let c = t.whole in let d = t.few in omega arith
     where
       each_holds : (st : Stage) (p : ℕ) → (p ≡ 0 → st ≡ Idle) → tickets_of st ≤ p
       each_holds Idle p h = omega arith
-      each_holds (Waits u) p h = dite (ℕ_discrete p 0) (λ z. let e : tickets_of (Waits u) ≡ 0 = ap tickets_of (h z) in absurd (omega arith)) (λ z. omega arith)
+      each_holds (Waits u) p h = dite (ℕ_discrete p 0) (λ z. let e : tickets_of (Waits u) ≡ 0 = ap tickets_of (h z) in absurd (omega arith))
+          (λ z. omega arith)
       each_holds (Has u) p h = dite (ℕ_discrete p 0) (λ z. let e : tickets_of (Has u) ≡ 0 = ap tickets_of (h z) in absurd (omega arith)) (λ z. omega arith)
 
   pub draws_at : (slots id p nx : ℕ) (r : Tally O E) (c : List (ℕ × S)) → 0 < p
@@ -96,21 +98,34 @@ module _ {X O E : Type 0} (account : Account X O E) (n : ℕ) where
           log = t.log;
           drawn = t.drawn + 1;
           served = t.served;
-          words = ap (λ ws. set ws 0 ((slice_index ws 0 + 1) % 18446744073709551616)) t.words ∙ ap (λ k. k ∷ (t.served % 18446744073709551616) ∷ length t.log ∷ []) (omega arith);
+          words = ap (λ ws. set ws 0 ((slice_index ws 0 + 1) % 18446744073709551616)) t.words
+              ∙ ap (λ k. k ∷ (t.served % 18446744073709551616) ∷ length t.log ∷ []) (omega arith);
           one_slot = t.one_slot;
           few = t.few;
           tickets = omega arith;
           whole = omega arith;
           counted = omega arith;
-          housed = housed_set account t.start t.log t.log t.drawn (t.drawn + 1) t.served s.homes s.views id v w at refl (λ e. absurd (idle_not_has e)) t.housed;
+          housed = housed_set account t.start t.log t.log t.drawn (t.drawn + 1) t.served s.homes s.views id v w at refl (λ e. absurd (idle_not_has e))
+              t.housed;
           each = each_set (Fits account t.start t.log (t.drawn + 1) t.served s.homes) s.views id w
-              record { named = λ _. omega arith; opened = f.opened; staged = (omega arith, omega arith); continues = f.continues; below = f.below; fresh = f.fresh; nobody = λ (z : p ≡ 0). absurd (omega arith) }
+              record {
+                named = λ _. omega arith;
+                opened = f.opened;
+                staged = (omega arith, omega arith);
+                continues = f.continues;
+                below = f.below;
+                fresh =
+                    f.fresh;
+                nobody = λ (z : p ≡ 0). absurd (omega arith);
+              }
               (λ j u _ e. fits_drawn account t.start t.log t.drawn (t.drawn + 1) t.served s.homes u (omega arith) (t.each j u e));
           apart = apart_set s.views id w
               (λ j u other e.
               let a = t.apart id j v u at e (λ z. other (sym z)) in
               let b = t.apart j id u v e at other in
-              let new : (k : ℕ) → HasTicket k u.stage → t.drawn ≡ k → ⊥ = λ k h is. let l = ticket_drawn account t.start t.log t.drawn t.served s.homes u.tallies u.stage k (t.each j u e).staged h in omega arith in (
+              let new : (k : ℕ) → HasTicket k u.stage → t.drawn ≡ k
+              → ⊥ = λ k h is. let l = ticket_drawn account t.start t.log t.drawn t.served s.homes u.tallies u.stage k (t.each j u e).staged h in
+              omega arith in (
                 record { tickets = λ k x y. new k y x; numbers = a.numbers; above = a.above; one_next = a.one_next },
                 record { tickets = λ k x y. new k x y; numbers = b.numbers; above = b.above; one_next = b.one_next },
               ))
@@ -121,7 +136,8 @@ module _ {X O E : Type 0} (account : Account X O E) (n : ℕ) where
 
   -- a step that changes nothing
   still : (s : St) (i id : ℕ) (v : V) (c : List (ℕ × S)) → get_elem? s.views id ≡ some v → Rule s → Rule (stepped s i (slice_index s.words i) id c v keeps)
-  still s i id v c at kept = subst (λ (z : List ℕ × List V). Rule record { words = z.0; homes = s.homes; views = z.1 }) (λ k. (sym (set-get_or s.words i 0) k, sym (set_again s.views id v at) k)) kept
+  still s i id v c at kept = subst (λ (z : List ℕ × List V). Rule record { words = z.0; homes = s.homes; views = z.1 })
+      (λ k. (sym (set-get_or s.words i 0) k, sym (set_again s.views id v at) k)) kept
 
   pub looks_at : (slots id p nx t : ℕ) (r : Tally O E) (c : List (ℕ × S)) → 0 < p
       → Allows Rule slots id (seated p nx (Waits t) r, c) 1 (λ k. k) (looks account (step slots 1 0 0 none) (seated p nx (Waits t) r, c))
@@ -176,7 +192,8 @@ module _ {X O E : Type 0} (account : Account X O E) (n : ℕ) where
                 fresh = f.fresh;
                 nobody = λ (z : p ≡ 0). absurd (omega arith);
               }
-              (λ j u other e. fits_quiet account q.start q.log q.drawn q.served q.served s.homes (set s.homes 0 none) u (omega arith) (λ h. (q.apart j id u v e at other).tickets q.served h mine) (q.each j u e));
+              (λ j u other e. fits_quiet account q.start q.log q.drawn q.served q.served s.homes (set s.homes 0 none) u (omega arith)
+              (λ h. (q.apart j id u v e at other).tickets q.served h mine) (q.each j u e));
           apart = apart_set s.views id w
               (λ j u other e.
               let a = q.apart id j v u at e (λ z. other (sym z)) in

@@ -1,6 +1,6 @@
 -- Sums over lists, and lists read by `get_elem?`.
-use Rattle.std.proofs.Common.{◌≡◌, ◌≢◌, ◌⊎◌, ℕ, zero, suc, ◌+◌, ◌≤◌, ◌==◌, ne_eqb, eq-eqb, List, [], ◌∷◌, ◌++◌, length, set, Bool, refl, sym, ap, inl, inr, ⊎_elim, arith}
-use Rattle.std.specs.Prelude.{if◌then◌else◌}
+use Rattle.std.proofs.Common.{◌≡◌, ◌≢◌, ◌⊎◌, ℕ, zero, suc, ◌+◌, ◌≤◌, ◌==◌, ne_eqb, eq-eqb, [], ◌∷◌, ◌++◌, length, set, refl, sym, ap, inl, inr, ⊎_elim, arith}
+use Rattle.std.specs.Prelude.{List, Bool, if◌then◌else◌}
 use mathlib.Core.Option.{some, some-injective, some-ne-none}
 use lib.ListN.{get_elem?}
 use Rattle.turn_board.specs.Histories.{total, made_by}
@@ -36,10 +36,13 @@ module _ {A : Type 0} where
   total_none f [] h = refl
   total_none f (x ∷ xs) h = let a = h zero x refl in let b = total_none f xs (λ j v e. h (suc j) v e) in omega arith
 
-  pub total_one : (f : A → ℕ) (xs : List A) (i : ℕ) (v : A) → get_elem? xs i ≡ some v → ((j : ℕ) (w : A) → j ≢ i → get_elem? xs j ≡ some w → f w ≡ 0) → total f xs ≡ f v
+  pub total_one : (f : A → ℕ) (xs : List A) (i : ℕ) (v : A) → get_elem? xs i ≡ some v → ((j : ℕ) (w : A) → j ≢ i → get_elem? xs j ≡ some w → f w ≡ 0)
+      → total f xs ≡ f v
   total_one f [] i v e h = absurd (some-ne-none v (sym e))
-  total_one f (x ∷ xs) zero v e h = let a : f x ≡ f v = ap f (some-injective x v e) in let b = total_none f xs (λ j w e'. h (suc j) w (λ z. omega arith) e') in omega arith
-  total_one f (x ∷ xs) (suc i) v e h = let a = h zero x (λ z. omega arith) refl in let b = total_one f xs i v e (λ j w n e'. h (suc j) w (λ z. n (omega arith)) e') in omega arith
+  total_one f (x ∷ xs) zero v e h = let a : f x ≡ f v = ap f (some-injective x v e) in
+      let b = total_none f xs (λ j w e'. h (suc j) w (λ z. omega arith) e') in omega arith
+  total_one f (x ∷ xs) (suc i) v e h = let a = h zero x (λ z. omega arith) refl in
+      let b = total_one f xs i v e (λ j w n e'. h (suc j) w (λ z. n (omega arith)) e') in omega arith
 
   pub set_at : (l : List A) (i : ℕ) (a b : A) → get_elem? l i ≡ some a → get_elem? (set l i b) i ≡ some b
   set_at [] i a b e = absurd (some-ne-none a (sym e))

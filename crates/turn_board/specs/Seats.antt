@@ -37,7 +37,8 @@ module _ {O E : Type 0} where
 
   -- the seat after it gave the value back
   abbrev pub left : SeatView O E → List E → Bool → SeatView O E
-  left s history grew = record { board = s.board; number = s.number; opening = s.opening; seen = history; made = s.made + (if grew then 1 else 0); has_value = false }
+  left s history grew =
+      record { board = s.board; number = s.number; opening = s.opening; seen = history; made = s.made + (if grew then 1 else 0); has_value = false }
 
   -- the history is the one that the seat has seen, with one event more at its end exactly where
   -- it grew, made by the seat

@@ -102,7 +102,8 @@ module _ {X O E : Type 0} (account : Account X O E) where
   -- the seat has the slot, and has seen the history of the value there
   abbrev pub took : Seated X O E → Seated X O E → Type 0
   took m m' =
-      (x : X) × ((first_tally m.0.tallies).opening ≡ Some (account.opening x)) × Continues account.maker (first_tally m.0.tallies).number (first_tally m.0.tallies).seen (account.history x)
+      (x : X) × ((first_tally m.0.tallies).opening ≡ Some (account.opening x))
+      × Continues account.maker (first_tally m.0.tallies).number (first_tally m.0.tallies).seen (account.history x)
       × (m' ≡ (having m.0 (account.history x), (0, Some x) ∷ m.1))
 
   -- look: at its turn the seat takes the slot

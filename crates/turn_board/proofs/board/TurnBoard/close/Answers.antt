@@ -12,7 +12,8 @@ pub join_seat-requires : goal.join_seat-requires
 join_seat-requires g c =
     let account = account_of g.V.Counted.opening g.V.Counted.history g.V.Counted.maker in
     let i = c.loop-next.invariant in
-    let q = All-pop (λ s. (s.board ≡ c.args.self.board) × (s.has_value ≡ false)) c.loop-next.seats.items c.pop-in-loop-next.new.self.items (Some c.in-Some-pop.next) c.in-Some-pop.ensures.items i.1 in
+    let q = All-pop (λ s. (s.board ≡ c.args.self.board) × (s.has_value ≡ false)) c.loop-next.seats.items c.pop-in-loop-next.new.self.items
+    (Some c.in-Some-pop.next) c.in-Some-pop.ensures.items i.1 in
     let home = ap (λ s. s.has_value) c.next.view_is ∙ q.1.1 in
     let own = sym (ap (λ b. b.board) c.self.view_is) in (
       i.0 ∙ own,
@@ -25,14 +26,16 @@ join_seat-requires g c =
 pub loop-next-preserved : goal.loop-next-preserved
 loop-next-preserved g c =
     let i = c.loop-next.invariant in
-    let q = All-pop (λ s. (s.board ≡ c.args.self.board) × (s.has_value ≡ false)) c.loop-next.seats.items c.pop-in-loop-next.new.self.items (Some c.in-Some-pop.next) c.in-Some-pop.ensures.items i.1 in
+    let q = All-pop (λ s. (s.board ≡ c.args.self.board) × (s.has_value ≡ false)) c.loop-next.seats.items c.pop-in-loop-next.new.self.items
+    (Some c.in-Some-pop.next) c.in-Some-pop.ensures.items i.1 in
     let home = ap (λ s. s.has_value) c.next.view_is ∙ q.1.1 in
     let own = sym (ap (λ b. b.board) c.self.view_is) in
     let j = c.join_seat.ensures in
     let alone = c.next.invariant.0.alone in (
       j.0 ∙ i.0,
       q.0,
-      keeps_more c.args.seats.items c.loop-next.seats.items c.pop-in-loop-next.new.self.items c.loop-next.keeper.me c.join_seat.new.seat.me c.in-Some-pop.next c.next.inside.seat.me.0 i.2 c.in-Some-pop.ensures.items
+      keeps_more c.args.seats.items c.loop-next.seats.items c.pop-in-loop-next.new.self.items c.loop-next.keeper.me c.join_seat.new.seat.me c.in-Some-pop.next
+          c.next.inside.seat.me.0 i.2 c.in-Some-pop.ensures.items
           (ap (λ v. v.parts) alone) (ap (λ v. v.tallies) alone ∙ ap (λ s. tally_of s ∷ []) c.next.view_is) j.2,
     )
 
@@ -42,7 +45,8 @@ unreachable-requires-in_default-take g c =
     let i = c.loop-next.invariant in
     let gone : c.loop-next.seats.items ≡ [] = search rules in
     let k = subst (λ l. Keeps c.args.seats.items l c.loop-next.keeper.me) gone i.2 in
-    let z = closes account c.self.inside.table.shared.key _ _ c.loop-next.keeper.id c.loop-next.keeper.me c.args.seats.items c.take.result (c.requires.all ∙ sym (ap (λ b. b.seats) c.self.view_is)) k c.close_with-closed.ensures.values.2 c.take.ensures.value in
+    let z = closes account c.self.inside.table.shared.key _ _ c.loop-next.keeper.id c.loop-next.keeper.me c.args.seats.items c.take.result
+    (c.requires.all ∙ sym (ap (λ b. b.seats) c.self.view_is)) k c.close_with-closed.ensures.values.2 c.take.ensures.value in
     c.in_default-take.not-Some z.0 z.1
 
 pub returns-clause-opening : goal.returns-clause-opening
@@ -51,7 +55,8 @@ returns-clause-opening g c =
     let i = c.loop-next.invariant in
     let gone : c.loop-next.seats.items ≡ [] = search rules in
     let k = subst (λ l. Keeps c.args.seats.items l c.loop-next.keeper.me) gone i.2 in
-    let z = closes account c.self.inside.table.shared.key _ _ c.loop-next.keeper.id c.loop-next.keeper.me c.args.seats.items c.take.result (c.requires.all ∙ sym (ap (λ b. b.seats) c.self.view_is)) k c.close_with-closed.ensures.values.2 c.take.ensures.value in
+    let z = closes account c.self.inside.table.shared.key _ _ c.loop-next.keeper.id c.loop-next.keeper.me c.args.seats.items c.take.result
+    (c.requires.all ∙ sym (ap (λ b. b.seats) c.self.view_is)) k c.close_with-closed.ensures.values.2 c.take.ensures.value in
     let same = option_some z.0 c.in-Some-take.value (sym z.1 ∙ c.in-Some-take.is) in
     subst (λ v. All (λ s. s.opening ≡ Some (g.V.Counted.opening v)) c.args.seats.items) same z.2
 
@@ -61,7 +66,8 @@ returns-clause-seen g c =
     let i = c.loop-next.invariant in
     let gone : c.loop-next.seats.items ≡ [] = search rules in
     let k = subst (λ l. Keeps c.args.seats.items l c.loop-next.keeper.me) gone i.2 in
-    let z = closes account c.self.inside.table.shared.key _ _ c.loop-next.keeper.id c.loop-next.keeper.me c.args.seats.items c.take.result (c.requires.all ∙ sym (ap (λ b. b.seats) c.self.view_is)) k c.close_with-closed.ensures.values.2 c.take.ensures.value in
+    let z = closes account c.self.inside.table.shared.key _ _ c.loop-next.keeper.id c.loop-next.keeper.me c.args.seats.items c.take.result
+    (c.requires.all ∙ sym (ap (λ b. b.seats) c.self.view_is)) k c.close_with-closed.ensures.values.2 c.take.ensures.value in
     let same = option_some z.0 c.in-Some-take.value (sym z.1 ∙ c.in-Some-take.is) in
     subst (λ v. All (λ s. Continues g.V.Counted.maker s.number s.seen (g.V.Counted.history v)) c.args.seats.items) same z.3
 
@@ -71,6 +77,7 @@ returns-clause-counted g c =
     let i = c.loop-next.invariant in
     let gone : c.loop-next.seats.items ≡ [] = search rules in
     let k = subst (λ l. Keeps c.args.seats.items l c.loop-next.keeper.me) gone i.2 in
-    let z = closes account c.self.inside.table.shared.key _ _ c.loop-next.keeper.id c.loop-next.keeper.me c.args.seats.items c.take.result (c.requires.all ∙ sym (ap (λ b. b.seats) c.self.view_is)) k c.close_with-closed.ensures.values.2 c.take.ensures.value in
+    let z = closes account c.self.inside.table.shared.key _ _ c.loop-next.keeper.id c.loop-next.keeper.me c.args.seats.items c.take.result
+    (c.requires.all ∙ sym (ap (λ b. b.seats) c.self.view_is)) k c.close_with-closed.ensures.values.2 c.take.ensures.value in
     let same = option_some z.0 c.in-Some-take.value (sym z.1 ∙ c.in-Some-take.is) in
     ap (λ v. length (g.V.Counted.history v)) (sym same) ∙ z.4

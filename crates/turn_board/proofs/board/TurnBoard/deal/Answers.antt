@@ -46,7 +46,8 @@ invariant_of-push_reserved g c =
     let o = (first_tally c.args.first.me.0.tallies).opening in
     let p = (c.args.seats - c.loop-number.number) + 1 in
     let s = c.split_seat-seat.ensures in
-    is_fresh account 0 (c.loop-number.number + 1) o c.split_seat-seat.result.me (split_is account p (c.loop-number.number + 1) o c.loop-number.first.me c.split_seat-seat.result.me i.3 s.4) (omega arith)
+    is_fresh account 0 (c.loop-number.number + 1) o c.split_seat-seat.result.me
+    (split_is account p (c.loop-number.number + 1) o c.loop-number.first.me c.split_seat-seat.result.me i.3 s.4) (omega arith)
 
 pub push_reserved-requires : goal.push_reserved-requires
 push_reserved-requires g c =
@@ -77,12 +78,16 @@ loop-number-preserved g c =
     let room = i.6 in
     let longer = u.len in
     let same = u.capacity in
-    let view = fresh_view account 0 (n + 1) o c.split_seat-seat.result.me b c.split_seat-seat.result.table_id (split_is account p (n + 1) o c.loop-number.first.me c.split_seat-seat.result.me i.3 s.4) (s.3 ∙ i.2) in (
+    let view = fresh_view account 0 (n + 1) o c.split_seat-seat.result.me b c.split_seat-seat.result.table_id
+    (split_is account p (n + 1) o c.loop-number.first.me c.split_seat-seat.result.me i.3 s.4) (s.3 ∙ i.2) in (
       omega arith,
       omega arith,
       s.0 ∙ i.2,
-      splitter_is account p ((c.args.seats - (n + 1)) + 1) (n + 1) ((n + 1) + 1) o c.loop-number.first.me c.split_seat-seat.new.seat.me i.3 s.2 (omega arith) refl,
-      ap (λ l. fresh_seat b o 1 ∷ l) u.items ∙ (ap (λ l. l ++ seat_view c.split_seat-seat.result.table_id (n + 1) false c.split_seat-seat.result.me.0 ∷ []) i.4 ∙ (ap (λ v. numbered b o n ++ v ∷ []) view ∙ sym (fresh_more b o n))),
+      splitter_is account p ((c.args.seats - (n + 1)) + 1) (n + 1) ((n + 1) + 1) o c.loop-number.first.me c.split_seat-seat.new.seat.me i.3 s.2 (omega arith)
+          refl,
+      ap (λ l. fresh_seat b o 1 ∷ l) u.items
+          ∙ (ap (λ l. l ++ seat_view c.split_seat-seat.result.table_id (n + 1) false c.split_seat-seat.result.me.0 ∷ []) i.4
+          ∙ (ap (λ v. numbered b o n ++ v ∷ []) view ∙ sym (fresh_more b o n))),
       omega arith,
       omega arith,
     )
@@ -96,7 +101,8 @@ invariant_of-first g c =
     let high = i.1 in
     let o = (first_tally c.args.first.me.0.tallies).opening in
     let one : (c.args.seats - c.loop-number.number) + 1 ≡ 1 = omega arith in
-    let e : c.loop-number.first.me ≡ (seated 1 (c.loop-number.number + 1) Idle (first_of o), []) = i.3 ∙ ap (λ k. (seated k (c.loop-number.number + 1) Idle (first_of o), [])) one in
+    let e : c.loop-number.first.me ≡ (seated 1 (c.loop-number.number + 1) Idle (first_of o), []) = i.3
+    ∙ ap (λ k. (seated k (c.loop-number.number + 1) Idle (first_of o), [])) one in
     is_fresh account (c.loop-number.number + 1) 1 o c.loop-number.first.me e (search rules)
 
 pub unreachable-requires : goal.unreachable-requires
@@ -117,7 +123,8 @@ returns g c =
     let high = i.1 in
     let o = (first_tally c.args.first.me.0.tallies).opening in
     let one : (c.args.seats - c.loop-number.number) + 1 ≡ 1 = omega arith in
-    let e : c.loop-number.first.me ≡ (seated 1 (c.loop-number.number + 1) Idle (first_of o), []) = i.3 ∙ ap (λ k. (seated k (c.loop-number.number + 1) Idle (first_of o), [])) one in
+    let e : c.loop-number.first.me ≡ (seated 1 (c.loop-number.number + 1) Idle (first_of o), []) = i.3
+    ∙ ap (λ k. (seated k (c.loop-number.number + 1) Idle (first_of o), [])) one in
     let b = c.args.self.now.board in
     let view = fresh_view account (c.loop-number.number + 1) 1 o c.loop-number.first.me b c.loop-number.first.table_id e i.2 in
     let last_number : c.loop-number.number ≡ c.args.seats = omega arith in

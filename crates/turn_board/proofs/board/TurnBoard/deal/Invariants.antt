@@ -10,7 +10,8 @@ invariant-loop-number g l =
     × (l.number ≤ l.fn.seats)
     × (l.first.table_id ≡ l.fn.self.board)
     × (l.first.me ≡ (seated ((l.fn.seats - l.number) + 1) (l.number + 1) Idle (first_of (first_tally l.fn.first.me.0.tallies).opening), []))
-    × (fresh_seat l.fn.self.board (first_tally l.fn.first.me.0.tallies).opening 1 ∷ l.all.items ≡ numbered l.fn.self.board (first_tally l.fn.first.me.0.tallies).opening l.number)
+    × (fresh_seat l.fn.self.board (first_tally l.fn.first.me.0.tallies).opening 1 ∷ l.all.items ≡ numbered l.fn.self.board
+    (first_tally l.fn.first.me.0.tallies).opening l.number)
     × (vec_len l.all + 1 ≡ l.number)
     × (l.fn.seats ≤ vec_capacity l.all)
 

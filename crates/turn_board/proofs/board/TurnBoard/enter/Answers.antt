@@ -45,7 +45,8 @@ invariant_of-seat g c =
     let d = drawn account c.seat.inside.number f.2.0 c.seat.inside.out c.seat.inside.seat.me c.fetch_add-ticket.new.seat.me c.seat.invariant home f.2.2 in
     let x = c.exchange-taken.ensures in
     let k = takes_out account c.seat.inside.number f.2.0 c.seat.inside.seat.me _ _ c.exchange-taken.new.seat.me _ d c.await_turn.ensures.took x.2 x.3 in
-    is_outside account c.seat.inside.number f.2.0 c.seat.inside.out c.seat.inside.seat.me c.exchange-taken.new.seat.me (g.V.Counted.history k.0) c.seat.invariant k.3 k.4
+    is_outside account c.seat.inside.number f.2.0 c.seat.inside.out c.seat.inside.seat.me c.exchange-taken.new.seat.me (g.V.Counted.history k.0)
+    c.seat.invariant k.3 k.4
 
 pub returns-clause-opening : goal.returns-clause-opening
 returns-clause-opening g c =
@@ -67,7 +68,8 @@ returns-clause-seen g c =
     let x = c.exchange-taken.ensures in
     let k = takes_out account c.seat.inside.number f.2.0 c.seat.inside.seat.me _ _ c.exchange-taken.new.seat.me _ d c.await_turn.ensures.took x.2 x.3 in
     let same = option_some k.0 c.in-Some.value (sym k.1 ∙ c.in-Some.is) in
-    subst (λ s. Continues g.V.Counted.maker s.number s.seen (g.V.Counted.history c.in-Some.value)) c.seat.view_is (subst (λ v. Continues g.V.Counted.maker c.seat.inside.number (first_tally c.seat.inside.seat.me.0.tallies).seen (g.V.Counted.history v)) same k.3)
+    subst (λ s. Continues g.V.Counted.maker s.number s.seen (g.V.Counted.history c.in-Some.value)) c.seat.view_is
+    (subst (λ v. Continues g.V.Counted.maker c.seat.inside.number (first_tally c.seat.inside.seat.me.0.tallies).seen (g.V.Counted.history v)) same k.3)
 
 pub returns-clause-seat : goal.returns-clause-seat
 returns-clause-seat g c =

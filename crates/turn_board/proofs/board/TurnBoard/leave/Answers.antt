@@ -12,10 +12,12 @@ count-requires g c =
     let taken = ap (λ s. s.has_value) c.seat.view_is ∙ c.requires.taken in
     let grows = subst (λ s. GrewBy g.V.Counted.maker s c.args.grew (g.V.Counted.history c.args.value)) (sym c.seat.view_is) c.requires.history in
     let x = c.exchange-empty.ensures in
-    let stored = puts_in account c.seat.inside.number c.seat.inside.out c.seat.inside.seat.me c.exchange-empty.new.seat.me c.args.value c.seat.invariant taken x.3 in
+    let stored = puts_in account c.seat.inside.number c.seat.inside.out c.seat.inside.seat.me c.exchange-empty.new.seat.me c.args.value c.seat.invariant taken
+    x.3 in
     record {
       own = x.0 ∙ (ap (λ s. s.board) c.seat.view_is ∙ c.requires.board);
-      may = may_count account c.seat.inside.number c.seat.inside.seat.me.0.next (ticket_of c.seat.inside.seat.me.0.stage) c.args.grew c.seat.inside.seat.me.0 c.exchange-empty.new.seat.me c.args.value stored grows c.is_counted.ensures;
+      may = may_count account c.seat.inside.number c.seat.inside.seat.me.0.next (ticket_of c.seat.inside.seat.me.0.stage) c.args.grew c.seat.inside.seat.me.0
+          c.exchange-empty.new.seat.me c.args.value stored grows c.is_counted.ensures;
     }
 
 pub fetch_add-requires : goal.fetch_add-requires
@@ -24,12 +26,15 @@ fetch_add-requires g c =
     let taken = ap (λ s. s.has_value) c.seat.view_is ∙ c.requires.taken in
     let grows = subst (λ s. GrewBy g.V.Counted.maker s c.args.grew (g.V.Counted.history c.args.value)) (sym c.seat.view_is) c.requires.history in
     let x = c.exchange-empty.ensures in
-    let stored = puts_in account c.seat.inside.number c.seat.inside.out c.seat.inside.seat.me c.exchange-empty.new.seat.me c.args.value c.seat.invariant taken x.3 in
+    let stored = puts_in account c.seat.inside.number c.seat.inside.out c.seat.inside.seat.me c.exchange-empty.new.seat.me c.args.value c.seat.invariant taken
+    x.3 in
     let tally = tally_at c.seat.inside.number c.seat.inside.seat.me.0 in
-    let k = counted account c.seat.inside.seat.me.0.next (ticket_of c.seat.inside.seat.me.0.stage) c.args.grew tally c.exchange-empty.new.seat.me c.count.new.seat.me c.args.value stored grows c.count.ensures.counted in (
+    let k = counted account c.seat.inside.seat.me.0.next (ticket_of c.seat.inside.seat.me.0.stage) c.args.grew tally c.exchange-empty.new.seat.me
+    c.count.new.seat.me c.args.value stored grows c.count.ensures.counted in (
       c.count.ensures.own.0 ∙ (x.0 ∙ (ap (λ s. s.board) c.seat.view_is ∙ (c.requires.board ∙ sym (ap (λ b. b.board) c.self.view_is)))),
       search rules,
-      passes_from account _ _ _ c.seat.inside.seat.me.0.next (ticket_of c.seat.inside.seat.me.0.stage) 1 _ c.args.value _ (search rules) k refl (ap (λ s. s.opening) c.seat.view_is ∙ c.requires.opening),
+      passes_from account _ _ _ c.seat.inside.seat.me.0.next (ticket_of c.seat.inside.seat.me.0.stage) 1 _ c.args.value _ (search rules) k refl
+          (ap (λ s. s.opening) c.seat.view_is ∙ c.requires.opening),
     )
 
 pub invariant_of-seat : goal.invariant_of-seat
@@ -38,11 +43,15 @@ invariant_of-seat g c =
     let taken = ap (λ s. s.has_value) c.seat.view_is ∙ c.requires.taken in
     let grows = subst (λ s. GrewBy g.V.Counted.maker s c.args.grew (g.V.Counted.history c.args.value)) (sym c.seat.view_is) c.requires.history in
     let x = c.exchange-empty.ensures in
-    let stored = puts_in account c.seat.inside.number c.seat.inside.out c.seat.inside.seat.me c.exchange-empty.new.seat.me c.args.value c.seat.invariant taken x.3 in
+    let stored = puts_in account c.seat.inside.number c.seat.inside.out c.seat.inside.seat.me c.exchange-empty.new.seat.me c.args.value c.seat.invariant taken
+    x.3 in
     let tally = tally_at c.seat.inside.number c.seat.inside.seat.me.0 in
-    let k = counted account c.seat.inside.seat.me.0.next (ticket_of c.seat.inside.seat.me.0.stage) c.args.grew tally c.exchange-empty.new.seat.me c.count.new.seat.me c.args.value stored grows c.count.ensures.counted in
-    let b = gives_back account c.seat.inside.number c.seat.inside.seat.me.0.next (ticket_of c.seat.inside.seat.me.0.stage) c.args.grew c.seat.inside.seat.me.0 c.count.new.seat.me c.fetch_add.new.seat.me c.args.value k c.fetch_add.ensures.2 in
-    is_back account c.seat.inside.number c.args.grew c.seat.inside.out c.seat.inside.seat.me c.fetch_add.new.seat.me (g.V.Counted.history c.args.value) c.seat.invariant grows b
+    let k = counted account c.seat.inside.seat.me.0.next (ticket_of c.seat.inside.seat.me.0.stage) c.args.grew tally c.exchange-empty.new.seat.me
+    c.count.new.seat.me c.args.value stored grows c.count.ensures.counted in
+    let b = gives_back account c.seat.inside.number c.seat.inside.seat.me.0.next (ticket_of c.seat.inside.seat.me.0.stage) c.args.grew c.seat.inside.seat.me.0
+    c.count.new.seat.me c.fetch_add.new.seat.me c.args.value k c.fetch_add.ensures.2 in
+    is_back account c.seat.inside.number c.args.grew c.seat.inside.out c.seat.inside.seat.me c.fetch_add.new.seat.me (g.V.Counted.history c.args.value)
+    c.seat.invariant grows b
 
 pub returns : goal.returns
 returns g c =
@@ -50,10 +59,13 @@ returns g c =
     let taken = ap (λ s. s.has_value) c.seat.view_is ∙ c.requires.taken in
     let grows = subst (λ s. GrewBy g.V.Counted.maker s c.args.grew (g.V.Counted.history c.args.value)) (sym c.seat.view_is) c.requires.history in
     let x = c.exchange-empty.ensures in
-    let stored = puts_in account c.seat.inside.number c.seat.inside.out c.seat.inside.seat.me c.exchange-empty.new.seat.me c.args.value c.seat.invariant taken x.3 in
+    let stored = puts_in account c.seat.inside.number c.seat.inside.out c.seat.inside.seat.me c.exchange-empty.new.seat.me c.args.value c.seat.invariant taken
+    x.3 in
     let tally = tally_at c.seat.inside.number c.seat.inside.seat.me.0 in
-    let k = counted account c.seat.inside.seat.me.0.next (ticket_of c.seat.inside.seat.me.0.stage) c.args.grew tally c.exchange-empty.new.seat.me c.count.new.seat.me c.args.value stored grows c.count.ensures.counted in
-    let b = gives_back account c.seat.inside.number c.seat.inside.seat.me.0.next (ticket_of c.seat.inside.seat.me.0.stage) c.args.grew c.seat.inside.seat.me.0 c.count.new.seat.me c.fetch_add.new.seat.me c.args.value k c.fetch_add.ensures.2 in
+    let k = counted account c.seat.inside.seat.me.0.next (ticket_of c.seat.inside.seat.me.0.stage) c.args.grew tally c.exchange-empty.new.seat.me
+    c.count.new.seat.me c.args.value stored grows c.count.ensures.counted in
+    let b = gives_back account c.seat.inside.number c.seat.inside.seat.me.0.next (ticket_of c.seat.inside.seat.me.0.stage) c.args.grew c.seat.inside.seat.me.0
+    c.count.new.seat.me c.fetch_add.new.seat.me c.args.value k c.fetch_add.ensures.2 in
     ap (λ z. seat_view z c.seat.inside.number false c.fetch_add.new.seat.me.0) (c.fetch_add.ensures.0 ∙ (c.count.ensures.own.0 ∙ x.0))
     ∙ (ap (λ z. seat_view c.seat.inside.seat.table_id c.seat.inside.number false z.0) b
     ∙ ap (λ s. left s (g.V.Counted.history c.args.value) c.args.grew) c.seat.view_is)

@@ -40,7 +40,8 @@ fetch_add-requires g c =
     let p = opened_put account _ c.compare_exchange_with.new.seat.me c.exchange-empty.new.seat.me c.args.value m c.exchange-empty.ensures.3 in (
       c.exchange-empty.ensures.0 ∙ (c.compare_exchange_with.ensures.0 ∙ (c.requires.own ∙ sym (ap (λ b. b.board) c.self.view_is))),
       search rules,
-      passes_from account _ _ _ 2 0 c.self.inside.table.shared.key (first_of (Some (g.V.Counted.opening c.args.value))) c.args.value _ c.self.invariant.1 p c.requires.history refl,
+      passes_from account _ _ _ 2 0 c.self.inside.table.shared.key (first_of (Some (g.V.Counted.opening c.args.value))) c.args.value _ c.self.invariant.1 p
+          c.requires.history refl,
     )
 
 pub returns-clause-first : goal.returns-clause-first
