@@ -1,6 +1,5 @@
 pub mod Reach
 pub mod Divergence
 pub mod Converged
-pub mod Web
-pub mod Walk
+pub mod Strays
 pub mod Cases
