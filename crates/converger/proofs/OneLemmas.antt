@@ -1,15 +1,15 @@
 -- Lists in strict order that have the same elements are one list.
 use Rattle.std.proofs.Common.{◌≡◌, zero, suc, ◌⊎◌, inl, inr, List, [], ◌∷◌, AllPairs, Contains, refl, sym, ap₂, subst, arith}
 
-in_front : {X : Type 0} (x : X) (xs : List X) → Contains (x ∷ xs) x
+pub in_front : {X : Type 0} (x : X) (xs : List X) → Contains (x ∷ xs) x
 in_front x xs = (0, omega arith, refl)
 
-behind : {X : Type 0} (x : X) (xs : List X) (y : X) → Contains xs y → Contains (x ∷ xs) y
+pub behind : {X : Type 0} (x : X) (xs : List X) (y : X) → Contains xs y → Contains (x ∷ xs) y
 behind x xs y (k, within, is) = (suc k, omega (arith, within), is)
 
-cases : {X : Type 0} (x : X) (xs : List X) (y : X) → Contains (x ∷ xs) y → (x ≡ y) ⊎ Contains xs y
-cases x xs y (zero, within, is) = inl is
-cases x xs y (suc k, within, is) = inr (k, omega (arith, within), is)
+pub front_or_behind : {X : Type 0} (x : X) (xs : List X) (y : X) → Contains (x ∷ xs) y → (x ≡ y) ⊎ Contains xs y
+front_or_behind x xs y (zero, within, is) = inl is
+front_or_behind x xs y (suc k, within, is) = inr (k, omega (arith, within), is)
 
 module _ {X : Type 0} (R : X → X → Type 0) (one_way : (x y : X) → R x y → R y x → ⊥) where
   rest_in_order : (x : X) (xs : List X) → AllPairs R (x ∷ xs) → AllPairs R xs
@@ -20,9 +20,9 @@ module _ {X : Type 0} (R : X → X → Type 0) (one_way : (x y : X) → R x y �
 
   first_same : (x y : X) (xs ys : List X) → AllPairs R (x ∷ xs) → AllPairs R (y ∷ ys) → Contains (y ∷ ys) x → Contains (x ∷ xs) y → x ≡ y
   first_same x y xs ys ordered others has also =
-      elim (cases y ys x has) [
+      elim (front_or_behind y ys x has) [
         | inl same ↦ sym same
-        | inr after ↦ elim (cases x xs y also) [
+        | inr after ↦ elim (front_or_behind x xs y also) [
           | inl same ↦ same
           | inr later ↦ absurd (one_way x y (first_before x xs y ordered later) (first_before y ys x others after))
         ]
@@ -30,7 +30,7 @@ module _ {X : Type 0} (R : X → X → Type 0) (one_way : (x y : X) → R x y �
 
   in_rest : (x : X) (xs ys : List X) (y : X) → AllPairs R (x ∷ xs) → Contains xs y → Contains (x ∷ ys) y → Contains ys y
   in_rest x xs ys y ordered later has =
-      elim (cases x ys y has) [
+      elim (front_or_behind x ys y has) [
         | inl same ↦
             let itself : R x x = subst (R x) (sym same) (first_before x xs y ordered later) in
             absurd (one_way x x itself itself)

@@ -1,5 +1,5 @@
 -- A row beside the winner of its app.
-use Rattle.std.specs.Prelude.{◌≡◌, ◌≢◌, ◌↔◌, ℕ, ◌+◌, ◌*◌, ◌<◌, ◌⊎◌, Bool, List, length, Option, Some, IsTrue, IsFalse}
+use Rattle.std.specs.Prelude.{◌≡◌, ◌≢◌, ◌↔◌, ℕ, ◌+◌, ◌*◌, ◌<◌, ◌≤◌, ◌⊎◌, Bool, List, length, Option, Some, IsTrue, IsFalse}
 use Rattle.std.specs.List.{All, AllPairs, Contains}
 use Rattle.semver.specs.Identifiers.{parts_of}
 use Rattle.semver.specs.declared.Version.{Version}
@@ -9,10 +9,10 @@ use Rattle.dep_rows.specs.declared.row.Row.{Row}
 use Rattle.converger.specs.declared.divergence.Divergence.{Divergence}
 use Rattle.converger.specs.declared.divergence.Rule.{Rule}
 use Rattle.converger.specs.declared.divergence.Rule.TheVariants.{V1, V2, V3, V4}
-use Rattle.dep_rows.specs.Rows.{AreWinners}
-use Rattle.converger.specs.Divergence.{Diverges, HasVersion, IsUnder, is_ignored, is_path}
-use Rattle.converger.specs.Walk.{is_marked}
-use Rattle.converger.specs.Web.{AreSound, IsStray, winners_of}
+use Rattle.dep_rows.specs.Listed.{Listed}
+use Rattle.dep_rows.specs.Rows.{most_rows}
+use Rattle.converger.specs.Divergence.{Diverges, IsUnder, is_ignored, is_path}
+use Rattle.converger.specs.Strays.{is_marked, IsStraySomewhere}
 
 -- the row comes from elsewhere
 abbrev pub ComesFromElsewhere : Row → Row → Type 0
@@ -38,21 +38,18 @@ Meets V2 winner row same found stray = IsFalse same × IsCompiledOtherwise winne
 Meets V3 winner row same found stray = AsksOtherwise winner row found
 Meets V4 winner row same found stray = IsTrue stray
 
--- a row and the winner of its app, with what is known of their places
-pub record IsCase (rows : List Row) (winners : List ℕ) (versions : List (Option Version)) (place other : ℕ) (winner row : Row) (same : Bool) (found : Option Version) (stray : Bool) : Type 0 where
+-- the winner of the app of the row at a place stands there
+pub record IsUnderAt (rows : List Row) (place other : ℕ) : Type 0 where
+  pub winner : Row
+  pub row : Row
   pub under : IsUnder rows place winner other row
-  pub is_same : IsTrue same ↔ (other ≡ place)
-  pub version : (version : Version) → (found ≡ Some version) ↔ HasVersion winners versions place (Some version)
-  pub is_stray : IsTrue stray ↔ ((env : List ℕ) × IsStray rows env other)
 
--- sound rows, with what is known of all of them
-pub record IsScene (rows : List Row) (winners : List ℕ) (versions : List (Option Version)) (each : List (Option ℕ)) (strays : List Bool) : Type 0 where
-  pub sound : AreSound rows
-  pub winning : AreWinners rows winners
-  pub long_versions : length versions ≡ length winners
-  pub known : each ≡ winners_of rows
-  pub long : length strays ≡ length rows
-  pub are_strays : (other : ℕ) → IsTrue (is_marked strays other) ↔ ((env : List ℕ) × IsStray rows env other)
+-- rows, the versions of their winners, and the marks of the strays among them
+pub record IsScene (listed : Listed) (versions : List (Option Version)) (strays : List Bool) : Type 0 where
+  pub few : length listed.rows ≤ most_rows
+  pub long_versions : length versions ≡ length listed.winners
+  pub long : length strays ≡ length listed.rows
+  pub are_strays : (other : ℕ) → IsTrue (is_marked strays other) ↔ IsStraySomewhere listed.rows other
 
 -- the order of the rules, from 0
 abbrev pub index_of : Rule → ℕ
@@ -65,8 +62,12 @@ index_of V4 = 3
 abbrev pub turn_of : ℕ → Rule → ℕ
 turn_of other rule = 4 * other + index_of rule
 
+-- the row at a place can't live together with its winner by this rule
+abbrev pub DivergesIn : Listed → List (Option Version) → Divergence → Type 0
+DivergesIn listed versions d = Diverges listed.rows listed.winners versions d.rule d.winner d.other
+
 -- the divergences of all turns before this one
-pub record AreBefore (rows : List Row) (winners : List ℕ) (versions : List (Option Version)) (turn : ℕ) (list : List Divergence) : Type 0 where
+pub record AreBefore (listed : Listed) (versions : List (Option Version)) (turn : ℕ) (list : List Divergence) : Type 0 where
   pub in_order : AllPairs (λ earlier later. turn_of earlier.other earlier.rule < turn_of later.other later.rule) list
-  pub only : All (λ d. (turn_of d.other d.rule < turn) × Diverges rows winners versions d.rule d.winner d.other) list
-  pub all : (rule : Rule) (place other : ℕ) → turn_of other rule < turn → Diverges rows winners versions rule place other → Contains list (record { rule = rule; winner = place; other = other })
+  pub only : All (λ d. (turn_of d.other d.rule < turn) × DivergesIn listed versions d) list
+  pub all : (d : Divergence) → turn_of d.other d.rule < turn → DivergesIn listed versions d → Contains list d

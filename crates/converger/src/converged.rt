@@ -1,10 +1,10 @@
 // Rows that live together.
-ghost use Rattle.std.specs.Prelude.{◌≡◌, ◌≤◌, ◌<◌, ℕ, length, Some, None, IfOk, IfErr, IfSome, IfNone, IsSome, slice_get};
+ghost use Rattle.std.specs.Prelude.{◌≡◌, ◌<◌, ℕ, length, Some, None, IfOk, IfErr, IfSome, IfNone, IsSome, slice_get};
 ghost use Rattle.std.specs.List.{All};
+ghost use Rattle.dep_rows.specs.Rows.{most_rows};
 ghost use Rattle.converger.specs.Converged.{AreConverged, HasCause};
 ghost use Rattle.converger.specs.Reach.{AreReached};
 ghost use Rattle.converger.specs.Divergence.{AreDivergences, IsWithoutVersion};
-ghost use Rattle.converger.specs.Walk.{AreMarked};
 
 use crate::divergence::Divergences;
 use crate::reach::reach;
@@ -90,11 +90,10 @@ pub fn divergences(
     requires { length versions.now ≡ length rows.now.winners }
     ensures { IfOk result (λ list. AreDivergences rows.now.rows rows.now.winners versions.now list) }
 {
-    let web = web_of(alloc, rows.rows())?;
+    let web = web_of(alloc, rows)?;
     let strays = strays(alloc, &web)?;
     let scene = Scene {
-        web: &web,
-        winners: rows.winners(),
+        rows,
         versions,
         strays: &strays,
     };
@@ -143,21 +142,18 @@ fn first_none(versions: &[Option<Version>]) -> Option<usize>
 pub fn for_env(alloc: Global, converged: &Converged, env: &AppName) -> Result<Vec<u32>, AllocError>
     ensures { IfOk result (λ places. AreReached converged.now.rows.rows env.now places.items) }
 {
-    let web = web_of(alloc, converged.rows.rows())?;
-    let marks = reach(alloc, &web, env.as_str())?;
-    marked(alloc, &marks)
+    let web = web_of(alloc, &converged.rows)?;
+    let places = reach(alloc, &web, env.as_str())?;
+    narrowed(alloc, &places)
 }
 
-/// The places that are marked.
-fn marked(alloc: Global, marks: &[bool]) -> Result<Vec<u32>, AllocError>
-    requires { length marks.now ≤ 65536 }
-    ensures { IfOk result (λ places. AreMarked marks.now (length marks.now) places.items) }
+fn narrowed(alloc: Global, places: &[usize]) -> Result<Vec<u32>, AllocError>
+    requires { All (λ place. place < most_rows) places.now }
+    ensures { IfOk result (λ list. list.items ≡ places.now) }
 {
-    let mut places = Vec::new(alloc);
-    for (place, mark) in marks.iter().enumerate() {
-        if *mark {
-            places.push(place as u32)?;
-        }
+    let mut list = Vec::with_capacity(alloc, places.len())?;
+    for place in places {
+        list.push(*place as u32)?;
     }
-    Ok(places)
+    Ok(list)
 }

@@ -22,3 +22,14 @@ pub fn one_divergence_list()
 pub fn divergences_by_parts()
     ensures { (rows : List Row) (winners : List ℕ) (versions others : List (Option Version)) → map (option_map parts_of) versions ≡ map (option_map parts_of) others → (rule : Rule) (place other : ℕ) → Diverges rows winners versions rule place other → Diverges rows winners others rule place other }
 {}
+
+/// Each environment has a list of the winners that it reaches.
+pub fn some_reach()
+    ensures { (rows : List Row) (env : List ℕ) → (places : List ℕ) × AreReached rows env places }
+{}
+
+/// Rows and versions have a list of all divergences.
+pub fn some_divergence_list()
+    ensures { (rows : List Row) (winners : List ℕ) (versions : List (Option Version)) →
+        (list : List Divergence) × AreDivergences rows winners versions list }
+{}

@@ -1,7 +1,8 @@
 //! The rules by which declarations of one app live together, and what an environment reaches.
 //!
-//! It stands on the rows of `dep_rows`. A layer above may rely on this: `converge` refuses exactly where a rule
-//! meets, with all divergences, and `for_env` lists exactly the winners that an environment reaches.
+//! It stands on the rows of `dep_rows` and on the reach of `dep_order`. A layer above may rely on this: `converge`
+//! refuses exactly where a rule meets, with all divergences, and `for_env` lists exactly the winners that an
+//! environment reaches.
 #![tactic(auto)]
 
 mod cases;
@@ -11,10 +12,11 @@ mod laws;
 mod reach;
 mod scene;
 mod strays;
-mod walk;
 mod web;
 
 pub use converged::{ConvergeError, Converged, Versions, converge, divergences, for_env};
 pub use divergence::{Divergence, Divergences, Rule};
-pub use laws::{divergences_by_parts, one_divergence_list, one_reach};
+pub use laws::{
+    divergences_by_parts, one_divergence_list, one_reach, some_divergence_list, some_reach,
+};
 pub use reach::admits;

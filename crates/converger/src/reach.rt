@@ -1,50 +1,55 @@
 // What an environment reaches.
-ghost use Rattle.std.specs.Prelude.{◌≡◌, ℕ, ◌<◌, ◌↔◌, length, IsTrue, IfOk, bytes_eq};
-ghost use Rattle.std.specs.List.{list_any};
-ghost use Rattle.converger.specs.Reach.{admits};
-ghost use Rattle.converger.specs.Walk.{is_listed, is_marked};
-ghost use Rattle.converger.specs.Web.{IsWeb, IsReachedAt, Starts};
+ghost use Rattle.std.specs.Prelude.{◌≡◌, ◌++◌, [], bytes_eq, IfOk, OnOk};
+ghost use Rattle.std.specs.List.{cons_option, list_any};
+ghost use Rattle.dep_order.specs.Reach.{AreReachedFrom};
+ghost use Rattle.dep_rows.specs.Rows.{winner_of};
+ghost use Rattle.converger.specs.Reach.{admits, is_wanted, links_of, starts_of};
 
-use crate::walk::reached;
 use crate::web::Web;
+use dep_order::reached;
+use dep_rows::{Row, Rows};
 use mx_base::{AppName, Names};
 use std::alloc::{AllocError, Global};
 
-/// Marks the winners that are reached in the environment.
-pub(crate) fn reach(alloc: Global, web: &Web<'_>, env: &str) -> Result<Vec<bool>, AllocError>
-    requires { IsWeb web.now.rows.now web.now.winners.items web.now.links.items }
-    ensures long { IfOk result (λ marks. length marks.items ≡ length web.now.rows.now) }
-    ensures marks { IfOk result (λ marks. (place : ℕ) → IsTrue (is_marked marks.items place) ↔ IsReachedAt web.now.rows.now env.now place) }
+/// The places of the winners that are reached in the environment, in order.
+pub(crate) fn reach(alloc: Global, web: &Web<'_>, env: &str) -> Result<Vec<usize>, AllocError>
+    ensures { IfOk result (λ places.
+        AreReachedFrom (links_of web.now.rows.now.rows) (starts_of web.now.rows.now.rows env.now) places.items) }
 {
-    let starts = starts(alloc, web, env)?;
+    let starts = starts_of(alloc, web.rows, env)?;
     reached(alloc, &web.links, &starts)
 }
 
 /// The winners that the root brings in.
-fn starts(alloc: Global, web: &Web<'_>, env: &str) -> Result<Vec<u32>, AllocError>
-    requires { IsWeb web.now.rows.now web.now.winners.items web.now.links.items }
-    ensures { IfOk result (λ starts. (winner : ℕ) → IsTrue (is_listed starts.items winner) ↔ ((place : ℕ) × Starts web.now.rows.now env.now winner place)) }
+fn starts_of(alloc: Global, rows: &Rows, env: &str) -> Result<Vec<usize>, AllocError>
+    ensures { IfOk result (λ starts. starts.items ≡ starts_of rows.now.rows env.now) }
 {
     let mut starts = Vec::new(alloc);
-    for place in 0..web.rows.len() {
-        if let Some(winner) = start_at(web, env, place) {
-            starts.push(winner)?;
+    for row in rows.rows() {
+        if is_wanted(row, env) {
+            add_winner(&mut starts, rows, row)?;
         }
     }
     Ok(starts)
 }
 
-/// The winner that a row of the root brings in.
-fn start_at(web: &Web<'_>, env: &str, place: usize) -> Option<u32>
-    requires web { IsWeb web.now.rows.now web.now.winners.items web.now.links.items }
-    requires place { place < length web.now.rows.now }
-    ensures { (winner : ℕ) → (result ≡ Some winner) ↔ Starts web.now.rows.now env.now winner place }
+/// Whether a row stands in the root and is for the environment.
+fn is_wanted(row: &Row, env: &str) -> bool
+    ensures { result ≡ is_wanted env.now row.now }
 {
-    let row = &web.rows[place];
-    if row.by.is_some() || !admits(&row.decl.only, env) {
-        return None;
+    row.by.is_none() && admits(&row.decl.only, env)
+}
+
+/// Adds the winner of the row's app, where it has one.
+#[tactic(auto, using(crate::proofs::Links::nobody_added))]
+fn add_winner(winners: &mut Vec<usize>, rows: &Rows, row: &Row) -> Result<(), AllocError>
+    ensures { OnOk result (winners.new.items
+        ≡ winners.old.items ++ cons_option (winner_of rows.now.rows row.now.app) []) }
+{
+    if let Some(winner) = rows.winner_of(&row.app) {
+        winners.push(winner as usize)?;
     }
-    web.winners[place]
+    Ok(())
 }
 
 /// Whether a declaration is for the environment.

@@ -1,15 +1,16 @@
 // Rows that are reached in an environment that their winner isn't for.
 ghost use Rattle.std.specs.Prelude.{◌≡◌, ℕ, ◌<◌, ◌↔◌, ◌⊎◌, ◌||◌, List, [], length, IsTrue, IsFalse, IfOk, OnOk, bytes_eq, slice_set, true};
-ghost use Rattle.std.specs.List.{list_any};
+ghost use Rattle.std.specs.List.{AllPairs, Contains, list_any};
 ghost use Rattle.std.specs.Ordering.{is_eq};
 ghost use Rattle.std.specs.BTreeSet.{contains_by};
 ghost use Rattle.mx_base.specs.Order.{text_cmp};
-ghost use Rattle.converger.specs.Walk.{is_marked};
-ghost use Rattle.converger.specs.Web.{IsWeb, IsReachedAt, IsStray, AreNamed, is_named, is_stray_beside};
+ghost use Rattle.dep_order.specs.Reach.{AreReachedFrom};
+ghost use Rattle.converger.specs.Reach.{links_of, starts_of};
+ghost use Rattle.converger.specs.Strays.{is_marked, is_named, is_stray_beside, AreNamed, IsStray, IsStraySomewhere, IsUnnamed};
 
 use crate::reach::{admits, reach};
 use crate::web::Web;
-use dep_rows::Row;
+use dep_rows::{Row, Rows};
 use mx_base::{AppName, Names};
 use std::alloc::{AllocError, Global};
 use std::collections::BTreeSet;
@@ -17,12 +18,13 @@ use std::collections::BTreeSet;
 /// Marks the rows that are reached in some environment that their winner, in the root, isn't for.
 /// An environment that the root doesn't name is like any other of these; it goes by no name.
 pub(crate) fn strays(alloc: Global, web: &Web<'_>) -> Result<Vec<bool>, AllocError>
-    requires { IsWeb web.now.rows.now web.now.winners.items web.now.links.items }
-    ensures long { IfOk result (λ strays. length strays.items ≡ length web.now.rows.now) }
-    ensures marks { IfOk result (λ strays. (other : ℕ) → IsTrue (is_marked strays.items other) ↔ ((env : List ℕ) × IsStray web.now.rows.now env other)) }
+    ensures long { IfOk result (λ strays. length strays.items ≡ length web.now.rows.now.rows) }
+    ensures marks { IfOk result (λ strays. (other : ℕ) →
+        IsTrue (is_marked strays.items other) ↔ IsStraySomewhere web.now.rows.now.rows other) }
 {
-    let names = named(alloc, web.rows)?;
-    let mut strays = vec![in alloc; false; web.rows.len()]?;
+    let rows = web.rows.rows();
+    let names = named(alloc, rows)?;
+    let mut strays = vec![in alloc; false; rows.len()]?;
     add_strays(alloc, web, "", &mut strays)?;
     for env in &names {
         add_strays(alloc, web, env, &mut strays)?;
@@ -36,14 +38,14 @@ fn add_strays(
     env: &str,
     strays: &mut Vec<bool>,
 ) -> Result<(), AllocError>
-    requires web { IsWeb web.now.rows.now web.now.winners.items web.now.links.items }
-    requires long { length strays.old.items ≡ length web.now.rows.now }
+    requires { length strays.old.items ≡ length web.now.rows.now.rows }
     ensures long { length strays.new.items ≡ length strays.old.items }
-    ensures marks { OnOk result ((other : ℕ) → IsTrue (is_marked strays.new.items other) ↔ (IsTrue (is_marked strays.old.items other) ⊎ IsStray web.now.rows.now env.now other)) }
+    ensures marks { OnOk result ((other : ℕ) → IsTrue (is_marked strays.new.items other)
+        ↔ (IsTrue (is_marked strays.old.items other) ⊎ IsStray web.now.rows.now.rows env.now other)) }
 {
-    let marks = reach(alloc, web, env)?;
-    for other in 0..web.rows.len() {
-        if is_stray(web, &marks, env, other) {
+    let reached = reach(alloc, web, env)?;
+    for other in 0..web.rows.rows().len() {
+        if is_stray(web.rows, &reached, env, other) {
             mark(strays, other);
         }
     }
@@ -57,21 +59,32 @@ fn mark(marks: &mut Vec<bool>, place: usize)
     marks[place] = true;
 }
 
-fn is_stray(web: &Web<'_>, marks: &[bool], env: &str, other: usize) -> bool
-    requires web { IsWeb web.now.rows.now web.now.winners.items web.now.links.items }
-    requires long { length marks.now ≡ length web.now.rows.now }
-    requires marks { (place : ℕ) → IsTrue (is_marked marks.now place) ↔ IsReachedAt web.now.rows.now env.now place }
-    requires other { other < length web.now.rows.now }
-    ensures { IsTrue result ↔ IsStray web.now.rows.now env.now other }
+fn is_stray(rows: &Rows, reached: &[usize], env: &str, other: usize) -> bool
+    requires reached { AreReachedFrom (links_of rows.now.rows) (starts_of rows.now.rows env.now) reached.now }
+    requires other { other < length rows.now.rows }
+    ensures { IsTrue result ↔ IsStray rows.now.rows env.now other }
 {
-    let row = &web.rows[other];
-    let Some(place) = web.winners[other] else {
+    let list = rows.rows();
+    let row = &list[other];
+    let Some(place) = rows.winner_of(&row.app) else {
         return false;
     };
     let Some(by) = row.by else {
         return false;
     };
-    is_stray_beside(&web.rows[place as usize], row, marks[by as usize], env)
+    let is_reached = has_place(reached, by as usize);
+    is_stray_beside(&list[place as usize], row, is_reached, env)
+}
+
+/// Whether a place is among these.
+fn has_place(places: &[usize], place: usize) -> bool
+    requires { AllPairs (λ earlier later. earlier < later) places.now }
+    ensures { IsTrue result ↔ Contains places.now place }
+{
+    match places.binary_search(&place) {
+        Ok(_) => true,
+        Err(_) => false,
+    }
 }
 
 fn is_stray_beside(winner: &Row, row: &Row, is_reached: bool, env: &str) -> bool
@@ -82,7 +95,8 @@ fn is_stray_beside(winner: &Row, row: &Row, is_reached: bool, env: &str) -> bool
 
 /// The environments that the root names, each once.
 fn named<'a>(alloc: Global, rows: &'a [Row]) -> Result<Vec<&'a str>, AllocError>
-    ensures { IfOk result (λ names. AreNamed rows.now (λ env. list_any (λ name. is_eq (text_cmp env name.now)) names.items)) }
+    ensures named { IfOk result (λ names. AreNamed rows.now (λ env. list_any (λ name. is_eq (text_cmp env name.now)) names.items)) }
+    ensures unnamed { IfOk result (λ _. IsUnnamed rows.now []) }
 {
     let mut names = BTreeSet::new(alloc);
     for row in rows {

@@ -1,77 +1,39 @@
-// Who wins, and whom each winner brings in.
-ghost use Rattle.std.specs.Prelude.{◌≡◌, ℕ, ◌<◌, ◌≤◌, ◌||◌, ◌&&◌, ◌==◌, ◌↔◌, List, [], length, map, replicate, IsTrue, IfOk, OnOk};
-ghost use Rattle.std.specs.BTreeMap.{get_by};
-ghost use Rattle.mx_base.specs.Order.{text_cmp};
-ghost use Rattle.converger.specs.Walk.{is_listed, links_at};
-ghost use Rattle.converger.specs.Web.{winner_of, winners_of, AreSound, Brings, IsWeb};
+// Rows, and whom each winner brings in.
+ghost use Rattle.std.specs.Prelude.{◌≡◌, ◌==◌, ◌++◌, ◌<◌, ◌≤◌, [], ◌∷◌, ℕ, length, replicate, if◌then◌else◌, IfOk, OnOk, IfNone, IfSome, Some};
+ghost use Rattle.dep_order.specs.Graph.{needs_of};
+ghost use Rattle.dep_rows.specs.Rows.{most_rows};
+ghost use Rattle.converger.specs.Reach.{is_asked_by, links_of, winners_among};
 
-use dep_rows::{Places, Row};
+use dep_order::{Graph, Places};
+use dep_rows::{Row, Rows};
 use std::alloc::{AllocError, Global};
-use std::collections::BTreeMap;
 
-/// Rows, for each the place of the winner of its app, and for each the winners that its children bring in.
+/// Rows, and for each the winners that it brings in.
 #[derive(Drop)]
 pub(crate) struct Web<'a> {
-    pub rows: &'a [Row],
-    pub winners: Vec<Option<u32>>,
-    pub links: Vec<Places>,
+    pub(crate) rows: &'a Rows,
+    pub(crate) links: Graph,
+    ghost linked: { links ≡ links_of rows.now.rows },
 }
 
-pub(crate) fn web_of<'a>(alloc: Global, rows: &'a [Row]) -> Result<Web<'a>, AllocError>
-    requires { AreSound rows.now }
+pub(crate) fn web_of<'a>(alloc: Global, rows: &'a Rows) -> Result<Web<'a>, AllocError>
     ensures rows { IfOk result (λ web. web.rows.now ≡ rows.now) }
-    ensures web { IfOk result (λ web. IsWeb rows.now web.winners.items web.links.items) }
+    ensures few { IfOk result (λ _. length rows.now.rows ≤ most_rows) }
 {
-    let winners = winners_of(alloc, rows)?;
-    let links = links_of(alloc, rows, &winners)?;
-    Ok(Web {
-        rows,
-        winners,
-        links,
-    })
+    let links = links_of(alloc, rows)?;
+    Ok(Web { rows, links })
 }
 
-/// For each row the place of the winner of its app.
-fn winners_of(alloc: Global, rows: &[Row]) -> Result<Vec<Option<u32>>, AllocError>
-    requires { length rows.now ≤ 65536 }
-    ensures { IfOk result (λ winners. winners.items ≡ winners_of rows.now) }
+fn links_of(alloc: Global, rows: &Rows) -> Result<Graph, AllocError>
+    ensures links { IfOk result (λ links. links ≡ links_of rows.now.rows) }
+    ensures few { IfOk result (λ _. length rows.now.rows ≤ most_rows) }
 {
-    let apps = winners_by_app(alloc, rows)?;
-    let mut winners = Vec::with_capacity(alloc, rows.len())?;
-    for row in rows {
-        winners.push(apps.get(row.app.as_str()).copied())?;
+    let list = rows.rows();
+    let mut links = without_links(alloc, list.len())?;
+    for row in list {
+        add_link(&mut links, rows, row)?;
     }
-    Ok(winners)
-}
-
-/// The place of the first required row of each app.
-fn winners_by_app<'a>(alloc: Global, rows: &'a [Row]) -> Result<BTreeMap<&'a str, u32>, AllocError>
-    requires { length rows.now ≤ 65536 }
-    ensures { IfOk result (λ apps. (app : List ℕ) → get_by (λ key. text_cmp app key.now) apps ≡ winner_of rows.now app) }
-{
-    let mut apps = BTreeMap::new(alloc);
-    for (place, row) in rows.iter().enumerate() {
-        if row.required && !apps.contains_key(row.app.as_str()) {
-            apps.insert(row.app.as_str(), place as u32)?;
-        }
-    }
-    Ok(apps)
-}
-
-/// For each place the winners that its children bring in.
-fn links_of(alloc: Global, rows: &[Row], winners: &[Option<u32>]) -> Result<Vec<Places>, AllocError>
-    requires sound { AreSound rows.now }
-    requires winners { winners.now ≡ winners_of rows.now }
-    ensures long { IfOk result (λ links. length links.items ≡ length rows.now) }
-    ensures each { IfOk result (λ links. (by winner : ℕ) → IsTrue (is_listed (links_at links.items by) winner) ↔ ((place : ℕ) × Brings rows.now by winner place)) }
-{
-    let mut links = without_links(alloc, rows.len())?;
-    for place in 0..rows.len() {
-        if let Some((by, winner)) = link_at(rows, winners, place) {
-            add_link(&mut links, by as usize, winner)?;
-        }
-    }
-    Ok(links)
+    Ok(Graph::of(links))
 }
 
 fn without_links(alloc: Global, count: usize) -> Result<Vec<Places>, AllocError>
@@ -84,28 +46,43 @@ fn without_links(alloc: Global, count: usize) -> Result<Vec<Places>, AllocError>
     Ok(links)
 }
 
-/// The winner that a row brings in, after the one that declares it.
-#[tactic(auto, using(crate::proofs::WebLemmas::winner_at))]
-fn link_at(rows: &[Row], winners: &[Option<u32>], place: usize) -> Option<(u32, u32)>
-    requires place { place < length rows.now }
-    requires winners { winners.now ≡ winners_of rows.now }
-    ensures { (by winner : ℕ) → (result ≡ Some (by, winner)) ↔ Brings rows.now by winner place }
+/// Adds the winner that a row brings in for the one that declares it.
+#[tactic(auto, using(crate::proofs::Links::nothing_added))]
+fn add_link(links: &mut Vec<Places>, rows: &Rows, row: &Row) -> Result<(), AllocError>
+    requires { IfSome row.now.by (λ by. by < length links.old.items) }
+    ensures long { length links.new.items ≡ length links.old.items }
+    ensures each { OnOk result ((place : ℕ) → needs_of links.new.items place
+        ≡ needs_of links.old.items place ++ winners_among rows.now.rows (is_asked_by place) (row.now ∷ [])) }
 {
-    let row = &rows[place];
-    if !row.required {
-        return None;
-    }
-    match (row.by, winners[place]) {
-        (Some(by), Some(winner)) => Some((by, winner)),
-        _ => None,
+    match link_of(rows, row) {
+        Some((by, winner)) => push_link(links, by, winner),
+        None => Ok(()),
     }
 }
 
-fn add_link(links: &mut Vec<Places>, by: usize, winner: u32) -> Result<(), AllocError>
+/// The row that declares this one, and the winner that it brings in.
+#[tactic(auto, using(crate::proofs::Links::not_required, crate::proofs::Links::not_declared, crate::proofs::Links::no_winner, crate::proofs::Links::one_link))]
+fn link_of(rows: &Rows, row: &Row) -> Option<(usize, usize)>
+    ensures none { IfNone result ((place : ℕ) →
+        winners_among rows.now.rows (is_asked_by place) (row.now ∷ []) ≡ []) }
+    ensures by { IfSome result (λ link. row.now.by ≡ Some link.0) }
+    ensures some { IfSome result (λ link. (place : ℕ) →
+        winners_among rows.now.rows (is_asked_by place) (row.now ∷ [])
+        ≡ (if place == link.0 then link.1 ∷ [] else [])) }
+{
+    if !row.required {
+        return None;
+    }
+    let by = row.by?;
+    let winner = rows.winner_of(&row.app)?;
+    Some((by as usize, winner as usize))
+}
+
+fn push_link(links: &mut Vec<Places>, by: usize, winner: usize) -> Result<(), AllocError>
     requires { by < length links.old.items }
     ensures long { length links.new.items ≡ length links.old.items }
-    ensures each { OnOk result ((q other : ℕ) → is_listed (links_at links.new.items q) other
-        ≡ (is_listed (links_at links.old.items q) other || ((q == by) && (other == winner)))) }
+    ensures each { OnOk result ((place : ℕ) → needs_of links.new.items place
+        ≡ needs_of links.old.items place ++ (if place == by then winner ∷ [] else [])) }
 {
     links[by].push(winner)?;
     Ok(())

@@ -1,11 +1,11 @@
--- The set that is reached from a place, as a list of places.
-use Rattle.std.proofs.Common.{◌≡◌, ℕ, ◌<◌, ◌≤◌, Bool, true, false, not, eqb, List, [], ◌∷◌, ◌++◌, zero, suc, flat_map, sym, ◌∙◌, refl, inl, inr, arith, eq-eqb, eqb-true, Option, Some, None, find, count_by, IsTrue}
+-- The set that is reached from some places, as a list of them.
+use Rattle.std.proofs.Common.{◌≡◌, ℕ, ◌<◌, ◌≤◌, Bool, true, false, not, eqb, List, [], ◌∷◌, ◌++◌, zero, suc, flat_map, sym, ◌∙◌, refl, inl, inr, arith, eq-eqb, eqb-true, Option, Some, None, find, count_by, IsTrue, All}
 use Rattle.std.proofs.lemmas.List.{get_or_default}
 use Rattle.std.proofs.lemmas.List.Folds.{list_any-append}
 use Rattle.std.proofs.lemmas.Bool.{both_ways, or_cases, or_left, or_right, not-true, not-false}
 use Rattle.dep_order.specs.Graph.{needs_of}
 use Rattle.dep_order.specs.Listing.{is_listed}
-use Rattle.dep_order.specs.Reach.{Reaches, Direct, Further, IsClosedFrom}
+use Rattle.dep_order.specs.Reach.{IsReachedFrom, Reaches, Direct, Further, IsClosedFrom}
 use Rattle.dep_order.proofs.Listed.{stands_at, listed_push_kept, listed_push_cases, listed_at, Contains-from_listed}
 use Rattle.dep_order.proofs.Counts.{count_less, times_from_listed}
 use Rattle.dep_order.proofs.Finds.{Found, found, none_found}
@@ -54,14 +54,16 @@ none_fails p xs none x listed =
     let s = stands_at xs x listed in
     rw s.is at (none_found p xs none s.at s.before)
 
-module _ (graph : List (List ℕ)) (from : ℕ) where
+module _ (graph : List (List ℕ)) (starts : List ℕ) where
+  -- a list that is closed, and has nothing that isn't reached
   pub record IsReach (set : List ℕ) : Type 0 where
-    pub sound : (q : ℕ) → is_listed set q ≡ true → Reaches graph from q
-    pub closed : IsClosedFrom graph from (is_listed set)
+    pub sound : (q : ℕ) → is_listed set q ≡ true → IsReachedFrom graph starts q
+    pub direct : (q : ℕ) → is_listed starts q ≡ true → is_listed set q ≡ true
+    pub further : (through : ℕ) → is_listed set through ≡ true → All (λ need. IsTrue (is_listed set need)) (needs_of graph through)
 
   record IsPart (set : List ℕ) : Type 0 where
-    sound : (q : ℕ) → is_listed set q ≡ true → Reaches graph from q
-    direct : (q : ℕ) → is_listed (needs_of graph from) q ≡ true → is_listed set q ≡ true
+    sound : (q : ℕ) → is_listed set q ≡ true → IsReachedFrom graph starts q
+    direct : (q : ℕ) → is_listed starts q ≡ true → is_listed set q ≡ true
 
   abbrev lacks : List ℕ → ℕ → Bool
   lacks set need = not (is_listed set need)
@@ -88,12 +90,10 @@ module _ (graph : List (List ℕ)) (from : ℕ) where
   is_all : (set : List ℕ) → IsPart set → find (lacks set) (flat_map (needs_of graph) set) ≡ None → IsReach set
   is_all set part none = record {
     sound = part.sound;
-    closed = record {
-      direct = λ i d within. rw (get_or_default (needs_of graph from) i d 0 within) (part.direct _ (listed_at (needs_of graph from) i within));
-      further = λ through listed i d within.
-          rw (get_or_default (needs_of graph through) i d 0 within)
-          (not-false _ (none_fails (lacks set) (flat_map (needs_of graph) set) none _ (is_needed graph set through _ listed (listed_at (needs_of graph through) i within))));
-    };
+    direct = part.direct;
+    further = λ through listed i d within.
+        rw (get_or_default (needs_of graph through) i d 0 within)
+        (not-false _ (none_fails (lacks set) (flat_map (needs_of graph) set) none _ (is_needed graph set through _ listed (listed_at (needs_of graph through) i within))));
   }
 
   grows : (fuel : ℕ) (set : List ℕ) → IsPart set → lack_count set ≤ fuel → (o : Option ℕ) → find (lacks set) (flat_map (needs_of graph) set) ≡ o → (all : List ℕ) × IsReach all
@@ -103,16 +103,20 @@ module _ (graph : List (List ℕ)) (from : ℕ) where
       let f = found (lacks set) (flat_map (needs_of graph) set) need is in
       grows fuel (set ++ need ∷ []) (one_more set part need f) (omega (arith, enough, one_lack_less set need f)) (find (lacks (set ++ need ∷ [])) (flat_map (needs_of graph) (set ++ need ∷ []))) refl
 
-  reach_as_list : (all : List ℕ) × IsReach all
+  pub reach_as_list : (all : List ℕ) × IsReach all
   reach_as_list =
-      let start : IsPart (needs_of graph from) = record {
-        sound = λ q listed. Direct q (Contains-from_listed (needs_of graph from) q listed);
+      let start : IsPart starts = record {
+        sound = λ q listed. Direct q (Contains-from_listed starts q listed);
         direct = λ q listed. listed;
       } in
-      grows (lack_count (needs_of graph from)) (needs_of graph from) start (omega arith) (find (lacks (needs_of graph from)) (flat_map (needs_of graph) (needs_of graph from))) refl
+      grows (lack_count starts) starts start (omega arith) (find (lacks starts) (flat_map (needs_of graph) starts)) refl
 
-  -- what is in every closed set is reached
-  pub reached_from_closed : (need : ℕ) → ((set : ℕ → Bool) → IsClosedFrom graph from set → IsTrue (set need)) → Reaches graph from need
-  reached_from_closed need every =
-      let all = reach_as_list in
-      all.1.sound need (every (is_listed all.0) all.1.closed)
+-- what is in every closed set is reached
+pub reached_from_closed : (graph : List (List ℕ)) (from need : ℕ) → ((set : ℕ → Bool) → IsClosedFrom graph from set → IsTrue (set need)) → Reaches graph from need
+reached_from_closed graph from need every =
+    let all = reach_as_list graph (needs_of graph from) in
+    let closed : IsClosedFrom graph from (is_listed all.0) = record {
+      direct = λ i d within. rw (get_or_default (needs_of graph from) i d 0 within) (all.1.direct _ (listed_at (needs_of graph from) i within));
+      further = all.1.further;
+    } in
+    all.1.sound need (every (is_listed all.0) closed)

@@ -11,3 +11,4 @@ pub mod Searching
 pub mod Ranking
 pub mod Ends
 pub mod Closing
+pub mod ReachedLists

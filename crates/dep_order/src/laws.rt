@@ -4,7 +4,7 @@ ghost use Rattle.std.specs.List.{All, AllPairs, Contains};
 ghost use Rattle.dep_order.specs.Graph.{needs_of};
 ghost use Rattle.dep_order.specs.Listing.{IsLeft, IsOrderOf, IsStuck};
 ghost use Rattle.dep_order.specs.Cycle.{IsCycle, IsCycleAfter, IsCycleOf};
-ghost use Rattle.dep_order.specs.Reach.{Reaches, IsClosedFrom};
+ghost use Rattle.dep_order.specs.Reach.{Reaches, AreReachedFrom, IsClosedFrom};
 
 use crate::graph::Graph;
 
@@ -73,3 +73,11 @@ pub fn reach_is_the_least_closed_set(graph: &Graph)
     ensures every { (from need : ℕ) → ((set : ℕ → Bool) → IsClosedFrom graph.now from set → IsTrue (set need)) →
         Reaches graph.now from need }
 {}
+
+/// What is reached from some places of the graph is a list.
+pub fn each_reach_is_a_list(graph: &Graph)
+    ensures { (starts : List ℕ) → All (λ start. start < length graph.now) starts →
+        (places : List ℕ) × AreReachedFrom graph.now starts places }
+{
+    let _needs = graph.needs();
+}

@@ -51,7 +51,7 @@ pub overflows : {Known Fault : Type 0} (children_of : Known → ChildrenOf Fault
 overflows children_of blame None winner row rows decls stands declared many = tt
 overflows children_of blame (Some known) winner row rows decls stands declared many = (row, decls, stands, declared, many)
 
-root_stands : {Known Fault : Type 0} (children_of : Known → ChildrenOf Fault) (meaning : Option Known) (root : List Decl) → length root ≤ most_rows → Stands children_of meaning root (rows_from None 0 root) (next_winners [] (rows_from None 0 root)) 0
+pub root_stands : {Known Fault : Type 0} (children_of : Known → ChildrenOf Fault) (meaning : Option Known) (root : List Decl) → length root ≤ most_rows → Stands children_of meaning root (rows_from None 0 root) (next_winners [] (rows_from None 0 root)) 0
 root_stands children_of meaning root few =
     let long = length-rows_from None 0 root in
     record {

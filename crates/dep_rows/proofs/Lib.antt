@@ -9,3 +9,4 @@ pub mod OneList
 pub mod Outcomes
 pub mod Asking
 pub mod Growth
+pub mod Exists

@@ -45,6 +45,10 @@ ChildrenOf Fault = List ℕ → Decl → Result (List Decl) Fault → Type 0
 abbrev pub AnswersOnce : {Fault : Type 0} → ChildrenOf Fault → Type 0
 AnswersOnce {Fault = Fault} children = (app : List ℕ) (winner : Decl) (answer other : Result (List Decl) Fault) → children app winner answer → children app winner other → answer ≡ other
 
+-- each winner has an answer
+abbrev pub AnswersEach : {Fault : Type 0} → ChildrenOf Fault → Type 0
+AnswersEach {Fault = Fault} children = (app : List ℕ) (winner : Decl) → (answer : Result (List Decl) Fault) × children app winner answer
+
 -- the children of these winners as rows, from a place on. Each winner stands before its children
 pub data Blocks {Fault : Type 0} (children : ChildrenOf Fault) (rows : List Row) : ℕ → List ℕ → List Row → Type 0 where
   none : {start : ℕ} → Blocks children rows start [] []

@@ -16,7 +16,7 @@ mod row;
 
 pub use children::Children;
 pub use error::RowsError;
-pub use laws::{one_list, one_outcome};
+pub use laws::{one_list, one_outcome, some_outcome};
 pub use list::Rows;
 pub use list_children::{ListAnswer, ListAnswers, ListChildren, ListFault};
 pub use queue::rows;

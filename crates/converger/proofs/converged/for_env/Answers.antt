@@ -1,18 +1,25 @@
-use Rattle.std.proofs.Common.{◌↔◌, ℕ, IsTrue}
+use Rattle.std.proofs.Common.{sym, ◌∙◌, subst, arith}
+use Rattle.std.proofs.lemmas.Option.{slice_get_within}
 use Rattle.std.proofs.lemmas.Result.{IfOk-weaker}
-use Rattle.converger.specs.Walk.{is_marked}
-use Rattle.converger.specs.Web.{IsReachedAt}
-use Rattle.converger.proofs.MarkedLemmas.{reached_places}
-use Rattle.converger.proofs.SoundLemmas.{sound}
+use Rattle.dep_order.specs.Reach.{AreReachedFrom}
+use Rattle.converger.specs.Reach.{AreReached, links_of, starts_of}
+use Rattle.converger.proofs.Reached.{are_reached}
 use Rattle.converger.proofs.converged.for_env.Goals as goal
 
-pub web_of-requires : goal.web_of-requires
-web_of-requires c = rw c.rows.ensures.rows (sound c.args.converged.now.rows.rows c.args.converged.now.rows.winners c.rows.ensures.within.well_formed c.rows.ensures.within.few)
+pub narrowed-requires : goal.narrowed-requires
+narrowed-requires c =
+    let rows = c.args.converged.now.rows.rows in
+    let env = c.args.env.now in
+    let places = c.in_ok-places.places.items in
+    let reached : AreReachedFrom (links_of rows) (starts_of rows env) places = rw (c.in_ok-web.ensures.rows, c.as_str.ensures.value) at c.in_ok-places.ensures in
+    rw c.deref.ensures.value (λ k d within.
+    let at = (are_reached rows env places reached).only k d within in
+    omega (arith, slice_get_within rows _ at.0 at.1.stands, c.in_ok-web.ensures.few))
 
 pub returns : goal.returns
 returns c =
     let rows = c.args.converged.now.rows.rows in
     let env = c.args.env.now in
-    let marks = c.in_ok-marks.marks.items in
-    let tell : (place : ℕ) → IsTrue (is_marked marks place) ↔ IsReachedAt rows env place = rw (c.in_ok-web.ensures.rows, c.rows.ensures.rows, c.as_str.ensures.value) at c.in_ok-marks.ensures.marks in
-    IfOk-weaker c.marked.result _ _ (λ places are. reached_places rows env marks places.items (rw c.deref.ensures.value at are) tell) c.marked.ensures
+    let places = c.in_ok-places.places.items in
+    let reached : AreReachedFrom (links_of rows) (starts_of rows env) places = rw (c.in_ok-web.ensures.rows, c.as_str.ensures.value) at c.in_ok-places.ensures in
+    IfOk-weaker c.narrowed.result _ _ (λ list is. subst (AreReached rows env) (sym (is ∙ c.deref.ensures.value)) (are_reached rows env places reached)) c.narrowed.ensures

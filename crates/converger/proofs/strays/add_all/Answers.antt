@@ -1,5 +1,5 @@
 use Rattle.std.proofs.Common.{◌<◌, length, arith}
-use Rattle.converger.proofs.StrayLemmas.{names_more, not_empty_more}
+use Rattle.converger.proofs.EnvLemmas.{names_more, not_empty_more}
 use Rattle.converger.proofs.strays.add_all.Goals as goal
 
 pub loop-name-preserved : goal.loop-name-preserved

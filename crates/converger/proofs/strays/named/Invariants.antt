@@ -1,8 +1,11 @@
-use Rattle.std.proofs.Common.{take}
+use Rattle.std.proofs.Common.{take, []}
 use Rattle.std.specs.BTreeSet.{contains_by}
 use Rattle.mx_base.specs.Order.{text_cmp}
-use Rattle.converger.specs.Web.{AreNamed}
+use Rattle.converger.specs.Strays.{AreNamed, IsUnnamed}
 use Rattle.converger.proofs.strays.named.Given as goal
 
 abbrev pub invariant-loop-row : goal.invariant-loop-row
-invariant-loop-row l = AreNamed (take l.row-index l.rows) (λ env. contains_by (λ name. text_cmp env name.now) l.names)
+invariant-loop-row l = record {
+  named : AreNamed (take l.row-index l.rows) (λ env. contains_by (λ name. text_cmp env name.now) l.names);
+  unnamed : IsUnnamed (take l.row-index l.rows) [];
+}

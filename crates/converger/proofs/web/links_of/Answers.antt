@@ -1,27 +1,27 @@
-use Rattle.std.proofs.Common.{◌∙◌, refl, arith}
-use Rattle.converger.proofs.ReachLemmas.{link_more, link_none, all_links, declared_within}
+use Rattle.std.proofs.Common.{◌<◌, ◌≤◌, length, sym, ◌∙◌, ap, subst, arith}
+use Rattle.dep_order.specs.Graph.{NeedsAreWithin}
+use Rattle.converger.proofs.Links.{link_more, links_done, links_within}
 use Rattle.converger.proofs.web.links_of.Goals as goal
-use Rattle.converger.proofs.web.links_of.Goals.{in-Some+in_ok-add_link, in_default}
 
-pub add_link-requires : goal.add_link-requires
-add_link-requires c =
-    let brings = (c.in-Some.ensures c.in-Some.by c.in-Some.winner).0 refl in
-    omega (arith, c.loop-place.invariant.long, declared_within c.args.rows.now c.requires.sound c.in-Some.by c.in-Some.winner c.loop-place.place brings)
+pub loop-row-preserved : goal.loop-row-preserved
+loop-row-preserved c =
+    let rows = c.args.rows.now.rows in
+    let within : c.loop-row.row-index < length rows = omega (arith, ap length c.rows-list.ensures.rows) in
+    let is = rw c.rows-list.ensures.rows at c.row-item.is in
+    record {
+      long = c.in_ok-add_link.ensures.long ∙ c.loop-row.invariant.long;
+      each = λ place inside. link_more rows c.loop-row.row-index c.row-item.result place c.loop-row.links.items c.add_link.new.links.items within is (c.loop-row.invariant.each place inside) (c.in_ok-add_link.ensures.each place);
+    }
 
-pub loop-place-preserved : goal.loop-place-preserved
-loop-place-preserved c =
-    let rows = c.args.rows.now in
-    let old = c.loop-place.links.items in
-    elim c.match-link_at.branch [
-      | in-Some+in_ok-add_link w ↦ rw w.links-is (record {
-        long = w.in_ok-add_link.ensures.long ∙ c.loop-place.invariant.long;
-        each = link_more rows c.loop-place.place old _ c.loop-place.invariant.each w.in-Some.by w.in-Some.winner w.in-Some.ensures w.in_ok-add_link.ensures.each;
-      })
-      | in_default w ↦ rw w.links-is (record {
-        long = c.loop-place.invariant.long;
-        each = link_none rows c.loop-place.place old c.loop-place.invariant.each (λ b v s. let h = (c.link_at.ensures b v).1 s in cc);
-      })
-    ]
+pub of-requires : goal.of-requires
+of-requires c =
+    let rows = c.args.rows.now.rows in
+    let past : length rows ≤ c.loop-row.row-index = omega (arith, ap length c.rows-list.ensures.rows) in
+    let whole = links_done rows c.loop-row.row-index c.loop-row.links.items past c.loop-row.invariant.long c.loop-row.invariant.each in
+    subst NeedsAreWithin (sym whole) (links_within rows)
 
-pub returns-clause-each : goal.returns-clause-each
-returns-clause-each c = all_links c.args.rows.now c.loop-place.place (omega arith) c.loop-place.links.items c.loop-place.invariant.each
+pub returns-clause-links : goal.returns-clause-links
+returns-clause-links c =
+    let rows = c.args.rows.now.rows in
+    let past : length rows ≤ c.loop-row.row-index = omega (arith, ap length c.rows-list.ensures.rows) in
+    c.of.ensures ∙ links_done rows c.loop-row.row-index c.loop-row.links.items past c.loop-row.invariant.long c.loop-row.invariant.each

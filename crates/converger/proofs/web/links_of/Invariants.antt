@@ -1,10 +1,10 @@
-use Rattle.std.proofs.Common.{◌≡◌, ◌↔◌, ℕ, ◌<◌, length, IsTrue}
-use Rattle.converger.specs.Walk.{is_listed, links_at}
-use Rattle.converger.specs.Web.{Brings}
+use Rattle.std.proofs.Common.{◌≡◌, ℕ, ◌<◌, length, take}
+use Rattle.dep_order.specs.Graph.{needs_of}
+use Rattle.converger.specs.Reach.{is_asked_by, winners_among}
 use Rattle.converger.proofs.web.links_of.Given as goal
 
-abbrev pub invariant-loop-place : goal.invariant-loop-place
-invariant-loop-place l = record {
-  long : length l.links.items ≡ length l.rows;
-  each : (by winner : ℕ) → IsTrue (is_listed (links_at l.links.items by) winner) ↔ ((k : ℕ) × (k < l.place) × Brings l.rows by winner k);
+abbrev pub invariant-loop-row : goal.invariant-loop-row
+invariant-loop-row l = record {
+  long : length l.links.items ≡ length l.rows.rows;
+  each : (place : ℕ) → place < length l.rows.rows → needs_of l.links.items place ≡ winners_among l.rows.rows (is_asked_by place) (take l.row-index l.rows.rows);
 }

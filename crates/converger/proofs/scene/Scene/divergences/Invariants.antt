@@ -3,4 +3,4 @@ use Rattle.converger.specs.declared.divergence.Rule.TheVariants.{V1}
 use Rattle.converger.proofs.scene.Scene.divergences.Given as goal
 
 abbrev pub invariant-loop-other : goal.invariant-loop-other
-invariant-loop-other l = AreBefore l.self.web.now.rows.now l.self.winners.now l.self.versions.now (turn_of l.other V1) l.list
+invariant-loop-other l = AreBefore l.self.rows.now l.self.versions.now (turn_of l.other V1) l.list
