@@ -71,3 +71,31 @@ refusal_one text at place why other (utf8 a v) (first b u h k) = absurd (not_bot
 refusal_one text at place why other (first a u h k) (long b) = absurd (omega arith)
 refusal_one text at place why other (first a u h k) (utf8 b v) = absurd (not_both text place u v)
 refusal_one text at place why other (first a u h k) (first b v i l) = meet at place why other (k place other i) (l at why h)
+
+-- want of memory is no refusal
+holds_not_memory : {text : List ℕ} {at : ℕ} {why : TermCause} → Holds text at why → IsFalse (is_memory why)
+holds_not_memory (far.charlist a b) = refl
+holds_not_memory (far.sigil a b c d e) = refl
+holds_not_memory (far.heredoc a b) = refl
+holds_not_memory (far.bits a b) = refl
+holds_not_memory (far.interpolation a b c d e f) = refl
+holds_not_memory (far.interpolated_words a b c d e f) = refl
+holds_not_memory (far.float a b c d e f g) = refl
+holds_not_memory (far.alias_alone a b c d) = refl
+holds_not_memory (far.alias a b c d e f g h i j) = refl
+holds_not_memory (far.escape a b c d e f g) = refl
+holds_not_memory (far.escape_in_words a b c d e f) = refl
+holds_not_memory (far.atom_utf8 a b c d e f) = refl
+holds_not_memory (far.key_utf8 a b c d e f g h) = refl
+holds_not_memory (far.number a b c d) = refl
+holds_not_memory (far.deep a b c) = refl
+holds_not_memory (far.repeated a b c d e f g) = refl
+holds_not_memory (far.trailing a b c) = refl
+holds_not_memory (far.trailing_colon a b c d e f g) = refl
+holds_not_memory (far.unclosed a b) = refl
+holds_not_memory (far.unexpected a b c) = refl
+
+pub not_memory : {text : List ℕ} {at : ℕ} {why : TermCause} → IsRefusal text at why → IsFalse (is_memory why)
+not_memory (long a) = refl
+not_memory (utf8 a v) = refl
+not_memory (first a u h k) = holds_not_memory h
