@@ -1,5 +1,6 @@
 -- A text has one refusal at most.
 use Rattle.std.proofs.Common.{◌≡◌, ℕ, ◌<◌, ◌≤◌, ◌⊎◌, cond, eqb, List, length, refl, sym, ap, ◌∙◌, subst, arith, ⊎_elim}
+use Rattle.std.specs.Prelude.{IsFalse}
 use Rattle.std.specs.Str.{IsUtf8, IsValidUpTo}
 use Rattle.std.proofs.lemmas.Str.{utf8_valid_len-IsValidUpTo}
 use Rattle.std.proofs.lemmas.List.{take_all}
@@ -7,7 +8,9 @@ use Rattle.term_tokens.specs.declared.cause.Feature.TheVariants.{Charlist, Sigil
 use Rattle.term_tokens.specs.declared.cause.TermCause.{TermCause}
 use Rattle.term_tokens.specs.declared.cause.TermCause.TheVariants as cause
 use Rattle.term_tokens.specs.Local.{rank}
-use Rattle.elixir_terms.specs.Refusals.{IsRefusal, long, utf8, first}
+use Rattle.term_tokens.specs.Refused.{is_memory}
+use Rattle.elixir_terms.specs.Refusals as far
+use Rattle.elixir_terms.specs.Refusals.{Holds, IsRefusal, long, utf8, first}
 
 -- the cause at a place in the order
 abbrev ranked : ℕ → TermCause

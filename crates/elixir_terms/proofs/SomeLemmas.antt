@@ -27,7 +27,7 @@ use Rattle.elixir_terms.specs.Reading.{noted, Stands, Moves, HasRoomAt, BeginsDe
 use Rattle.elixir_terms.specs.Refusals.{IsRefusal, long, utf8}
 use Rattle.elixir_terms.specs.Within.{deepest, longest, Within}
 use Rattle.term_tokens.specs.Tokens.{Begins, Blanks}
-use Rattle.term_tokens.proofs.SomeLemmas.{First, begun, faulty, some_first, some_rest}
+use Rattle.term_tokens.proofs.SomeLemmas.{First, starts, faulty, some_first, some_rest}
 use Rattle.term_tokens.proofs.TokenLaws.{begins_shorter}
 use Rattle.elixir_terms.proofs.AgainLemmas.{start_good, trail_good}
 use Rattle.elixir_terms.proofs.CodeLemmas.{none_from, none_to}
@@ -115,11 +115,11 @@ words_or (a ∷ b ∷ []) = inr (λ o. let e = o.1 in absurd (cc))
 words_or (a ∷ b ∷ c ∷ more) = words_by a b c more (eqb a 126) (eqb b 119) (eqb c 40) refl refl refl
 
 room_or : (s : State) (text : List ℕ) → StateFits s → HasRoomAt s text ⊎ BeginsDeepWords s text
-room_or s text fit = ⊎_elim (λ h. inl (λ more e t. h)) (λ no. ⊎_elim (λ o. taken no o (expected s).term refl) (λ other. inl (λ more e t. absurd (other (more, e)))) (words_or text)) (levels_or s (Words Strings []) fit)
+room_or s text fit = ⊎_elim (λ h. inl (λ more e t. h)) (λ lacks. ⊎_elim (λ o. taken lacks o (expected s).term refl) (λ other. inl (λ more e t. absurd (other (more, e)))) (words_or text)) (levels_or s (Words Strings []) fit)
   where
     taken : (HasLevels s (Words Strings []) → ⊥) → OpensWords text → (term : Bool) → (expected s).term ≡ term → HasRoomAt s text ⊎ BeginsDeepWords s text
-    taken no o true e = inr (o.0, o.1, e, no)
-    taken no o false e = inl (λ more same t. absurd (true≢false (sym t ∙ e)))
+    taken lacks o true e = inr (o.0, o.1, e, lacks)
+    taken lacks o false e = inl (λ more same t. absurd (true≢false (sym t ∙ e)))
 
 -- one token: it leads on, or the text is refused
 
@@ -152,11 +152,11 @@ by_token {s = s} g tok after stands levels new =
 
 by_first : {text : List ℕ} {s : State} {rest : List ℕ} → Given text s rest → StateFits s → NotDone s → HasRoomAt s rest → First (expected s) rest → Goes text s rest
 by_first g fit open_ room (faulty k left why sum first) = stopped g k left why sum (lexed open_ room first)
-by_first {s = s} {rest = rest} g fit open_ room (begun tok after begins taken narrow free whole) =
+by_first {s = s} {rest = rest} g fit open_ room (starts tok after begins taken narrow free whole) =
     let stands : Stands s rest tok after = record { begins = begins; taken = taken; narrow = narrow; free = free; whole = whole } in
     ⊎_elim
     (λ levels. ⊎_elim (λ new. by_token g tok after stands levels new) (λ old. at_once g cause.DuplicateKey (again tok stands levels old)) (keyword_or s tok))
-    (λ no. at_once g cause.TooDeep (deep tok stands no))
+    (λ lacks. at_once g cause.TooDeep (deep tok stands lacks))
     (levels_or s tok fit)
 
 goes : {text : List ℕ} {s : State} {rest : List ℕ} → Given text s rest → Goes text s rest
@@ -237,10 +237,10 @@ front text (suc n) most = by (is_utf8 (take (suc n) text)) refl (front text n)
     by false e ih = let f = ih (below e) in let few = f.few in record { at = f.at; few = omega arith; valid = f.valid; most = f.most }
 
 broken : (text : List ℕ) → (IsUtf8 text → ⊥) → (at : ℕ) × IsValidUpTo text at
-broken text no =
-    let f = front text (length text) (λ m l u. no (subst IsUtf8 (take_all m text (omega arith)) u)) in
+broken text wrong =
+    let f = front text (length text) (λ m l u. wrong (subst IsUtf8 (take_all m text (omega arith)) u)) in
     let few = f.few in
-    (f.at, record { short = ⊎_elim (λ l. l) (λ l. absurd (no (subst IsUtf8 (take_all f.at text l) f.valid))) (cases_lt f.at (length text)); front = f.valid; longest = f.most })
+    (f.at, record { short = ⊎_elim (λ l. l) (λ l. absurd (wrong (subst IsUtf8 (take_all f.at text l) f.valid))) (cases_lt f.at (length text)); front = f.valid; longest = f.most })
 
 by_utf8 : (text : List ℕ) → length text ≤ longest → (valid : Bool) → is_utf8 text ≡ valid → Answer text
 by_utf8 text short true e = some_tokens text short (IsUtf8-from_is_utf8 text e)

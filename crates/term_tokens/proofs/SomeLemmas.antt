@@ -16,11 +16,11 @@ use Rattle.term_tokens.proofs.TokenFaults.{lexed_right}
 
 -- a token that may stand there begins the text and nothing holds of it, or something holds first
 pub data First (e : Expected) (text : List ℕ) : Type 0 where
-  begun : (tok : Token) (after : List ℕ) → Begins text tok after → IsTrue (takes e tok) → IsNarrow tok → IsFree text tok after → ((place : ℕ) (why : TermCause) → Locally e text place why → ⊥) → First e text
+  starts : (tok : Token) (after : List ℕ) → Begins text tok after → IsTrue (takes e tok) → IsNarrow tok → IsFree text tok after → ((place : ℕ) (why : TermCause) → Locally e text place why → ⊥) → First e text
   faulty : (k left : ℕ) (why : TermCause) → left + k ≡ length text → IsFirst e text k why → First e text
 
 first_by : (e : Expected) (text : List ℕ) (answer : Lexed) → Right e text answer → First e text
-first_by e text (Ok found) r = begun found.0 found.1 r.0 r.1 r.2 r.3 (no_fault e text found.0 found.1 r.0 r.1 r.3 r.4)
+first_by e text (Ok found) r = starts found.0 found.1 r.0 r.1 r.2 r.3 (no_fault e text found.0 found.1 r.0 r.1 r.3 r.4)
 first_by e text (Err stop) r = faulty (length r.0) (length stop.0) stop.1 (omega (arith, ap length r.1, length-append r.0 stop.0)) r.2
 
 pub some_first : (e : Expected) (text : List ℕ) → (IsTrue e.outermost → IsFalse e.key) → First e text
