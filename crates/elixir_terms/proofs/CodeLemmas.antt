@@ -27,11 +27,11 @@ unequal t u differs same =
     let own : bytes_eq (term_code u) (term_code t) ≡ true = ap (λ (x : Term). bytes_eq (term_code x) (term_code t)) same ∙ nat_list_eq_equiv.refl (term_code t) in
     true≢false (sym own ∙ differs)
 
-none_from : (u : Term) (ts : List Term) → has_code ts (term_code u) ≡ false → IsNone u ts
+pub none_from : (u : Term) (ts : List Term) → has_code ts (term_code u) ≡ false → IsNone u ts
 none_from u [] h = tt
 none_from u (t ∷ ts) h = let p = or_parts (bytes_eq (term_code u) (term_code t)) (has_code ts (term_code u)) h in (unequal t u p.0, none_from u ts p.1)
 
-none_to : (u : Term) (ts : List Term) → IsNone u ts → has_code ts (term_code u) ≡ false
+pub none_to : (u : Term) (ts : List Term) → IsNone u ts → has_code ts (term_code u) ≡ false
 none_to u [] n = refl
 none_to u (t ∷ ts) n = by (none_to u ts n.1) (bytes_eq (term_code u) (term_code t)) refl
   where

@@ -31,3 +31,4 @@ pub mod MoveLemmas
 pub mod ReaderLemmas
 pub mod SpellLemmas
 pub mod SpelledLemmas
+pub mod SomeLemmas

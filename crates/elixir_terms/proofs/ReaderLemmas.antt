@@ -101,7 +101,7 @@ element_fits frame holes (Open kind) left f h n = part_allow frame holes (Open k
 element_fits frame holes Comma left f h n = part_allow frame holes Comma left f h n
 element_fits frame holes Arrow left f h n = part_allow frame holes Arrow left f h n
 
-need_levels : (s : State) (tok : Token) → StateFits s → need s tok ≤ deepest → HasLevels s tok
+pub need_levels : (s : State) (tok : Token) → StateFits s → need s tok ≤ deepest → HasLevels s tok
 need_levels (state.Value holes) tok f n = begins_allow tok holes n
 need_levels (state.Element frame holes) tok f n = element_fits frame holes tok f.0 f.1 f.2 n
 need_levels (state.Separator frame holes) tok f n = tt

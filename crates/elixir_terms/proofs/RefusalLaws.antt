@@ -1,5 +1,6 @@
 -- A text has one refusal at most.
 use Rattle.std.proofs.Common.{◌≡◌, ℕ, ◌<◌, ◌≤◌, ◌⊎◌, cond, eqb, List, length, refl, sym, ap, ◌∙◌, subst, arith, ⊎_elim}
+use Rattle.std.specs.Prelude.{IsFalse}
 use Rattle.std.specs.Str.{IsUtf8, IsValidUpTo}
 use Rattle.std.proofs.lemmas.Str.{utf8_valid_len-IsValidUpTo}
 use Rattle.std.proofs.lemmas.List.{take_all}
@@ -7,7 +8,9 @@ use Rattle.term_tokens.specs.declared.cause.Feature.TheVariants.{Charlist, Sigil
 use Rattle.term_tokens.specs.declared.cause.TermCause.{TermCause}
 use Rattle.term_tokens.specs.declared.cause.TermCause.TheVariants as cause
 use Rattle.term_tokens.specs.Local.{rank}
-use Rattle.elixir_terms.specs.Refusals.{IsRefusal, long, utf8, first}
+use Rattle.term_tokens.specs.Refused.{is_memory}
+use Rattle.elixir_terms.specs.Refusals as far
+use Rattle.elixir_terms.specs.Refusals.{Holds, IsRefusal, long, utf8, first}
 
 -- the cause at a place in the order
 abbrev ranked : ℕ → TermCause
@@ -71,3 +74,31 @@ refusal_one text at place why other (utf8 a v) (first b u h k) = absurd (not_bot
 refusal_one text at place why other (first a u h k) (long b) = absurd (omega arith)
 refusal_one text at place why other (first a u h k) (utf8 b v) = absurd (not_both text place u v)
 refusal_one text at place why other (first a u h k) (first b v i l) = meet at place why other (k place other i) (l at why h)
+
+-- want of memory is no refusal
+holds_not_memory : {text : List ℕ} {at : ℕ} {why : TermCause} → Holds text at why → IsFalse (is_memory why)
+holds_not_memory (far.charlist a b) = refl
+holds_not_memory (far.sigil a b c d e) = refl
+holds_not_memory (far.heredoc a b) = refl
+holds_not_memory (far.bits a b) = refl
+holds_not_memory (far.interpolation a b c d e f) = refl
+holds_not_memory (far.interpolated_words a b c d e f) = refl
+holds_not_memory (far.float a b c d e f g) = refl
+holds_not_memory (far.alias_alone a b c d) = refl
+holds_not_memory (far.alias a b c d e f g h i j) = refl
+holds_not_memory (far.escape a b c d e f g) = refl
+holds_not_memory (far.escape_in_words a b c d e f) = refl
+holds_not_memory (far.atom_utf8 a b c d e f) = refl
+holds_not_memory (far.key_utf8 a b c d e f g h) = refl
+holds_not_memory (far.number a b c d) = refl
+holds_not_memory (far.deep a b c) = refl
+holds_not_memory (far.repeated a b c d e f g) = refl
+holds_not_memory (far.trailing a b c) = refl
+holds_not_memory (far.trailing_colon a b c d e f g) = refl
+holds_not_memory (far.unclosed a b) = refl
+holds_not_memory (far.unexpected a b c) = refl
+
+pub not_memory : {text : List ℕ} {at : ℕ} {why : TermCause} → IsRefusal text at why → IsFalse (is_memory why)
+not_memory (long a) = refl
+not_memory (utf8 a v) = refl
+not_memory (first a u h k) = holds_not_memory h

@@ -1,7 +1,9 @@
 // What holds of every text.
-ghost use Rattle.std.specs.Prelude.{◌≡◌, ℕ, List};
+ghost use Rattle.std.specs.Prelude.{◌≡◌, ◌⊎◌, ℕ, List, IsFalse};
 ghost use Rattle.term_tokens.specs.declared.cause.TermCause.{TermCause};
 ghost use Rattle.term_values.specs.declared.term.Term.{Term};
+ghost use Rattle.term_tokens.specs.Refused.{is_memory};
+ghost use Rattle.elixir_terms.specs.declared.error.TermError.{TermError};
 ghost use Rattle.elixir_terms.specs.Refusals.{IsRefusal};
 ghost use Rattle.term_print.specs.Spells.{Spells};
 ghost use Rattle.elixir_terms.specs.Within.{Within};
@@ -14,4 +16,12 @@ pub fn one_refusal()
 /// No text that spells a term within the limits is refused.
 pub fn no_refusal()
     ensures { (text : List ℕ) (term : Term) (at : ℕ) (why : TermCause) → Spells text term → Within text term → IsRefusal text at why → ⊥ }
+{}
+
+/// Each text spells a term within the limits, or is refused, and not for want of memory.
+pub fn some_answer()
+    ensures { (text : List ℕ)
+        → ((term : Term) × Spells text term × Within text term)
+        ⊎ ((error : TermError) × IsFalse (is_memory error.cause)
+        × IsRefusal text error.at error.cause) }
 {}

@@ -4,7 +4,7 @@
 //! `specs/` says both without the reader: `Tokens.antt` the tokens, `Grammar.antt` the terms, `Spells.antt`
 //! joins them, and `Within.antt` has the limits. `Refusals.antt` says where and why a text is refused. `read`
 //! answers the term that the whole text spells within the limits, or the text's refusal. `one_reading` and
-//! `one_refusal` say that there is one at most.
+//! `one_refusal` say that there is one at most, and `some_answer` that there is one.
 //!
 //! The reader goes once from left to right and keeps the open brackets on a stack of its own: `blanks` and
 //! `lexer` find the next token, `state` takes it in, `holes` counts the levels, `enclosed` makes the term of a
@@ -23,7 +23,7 @@ mod stack;
 mod state;
 
 pub use error::TermError;
-pub use laws::{no_refusal, one_refusal};
+pub use laws::{no_refusal, one_refusal, some_answer};
 pub use reading::{one_reading, read};
 pub use term_print::print;
 pub use term_tokens::{Feature, TermCause};

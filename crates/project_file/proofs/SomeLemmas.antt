@@ -1,9 +1,14 @@
 -- The files of a project say something, where each text has a reading or a refusal.
-use Rattle.std.proofs.Common.{◌≡◌, ◌⊎◌, ℕ, List, [], Option, Some, None, Result, Ok, Err, refl, ⊎_elim}
+use Rattle.std.specs.Prelude.{IsFalse}
+use Rattle.std.proofs.Common.{◌≡◌, ◌⊎◌, inl, inr, ℕ, List, [], Option, Some, None, Result, Ok, Err, refl, ⊎_elim}
 use Rattle.mx_base.specs.declared.file.File.{File}
 use Rattle.mx_base.specs.Order.{bytes_at}
 use Rattle.elixir_terms.specs.declared.error.TermError.{TermError}
 use Rattle.term_values.specs.declared.term.Term.{Term}
+use Rattle.term_tokens.specs.Refused.{is_memory}
+use Rattle.term_print.specs.Spells.{Spells}
+use Rattle.elixir_terms.specs.Refusals.{IsRefusal}
+use Rattle.elixir_terms.specs.Within.{Within}
 use Rattle.dep_options.specs.declared.decl.Decl.{Decl}
 use Rattle.dep_options.specs.declared.error.OptionError.{OptionError}
 use Rattle.dep_options.specs.Decls.{AreDecls}
@@ -26,6 +31,10 @@ use Rattle.project_file.proofs.VersionLemmas.{versioned_of}
 -- each text is read as a term within the limits, or refused
 abbrev pub EachReading : Type 0
 EachReading = (text : List ℕ) → ((t : Term) × IsReadAs text t) ⊎ ((error : TermError) × IsRefusedText text error)
+
+-- as the law of terms has it
+pub each_reading : ((text : List ℕ) → ((t : Term) × Spells text t × Within text t) ⊎ ((error : TermError) × IsFalse (is_memory error.cause) × IsRefusal text error.at error.cause)) → EachReading
+each_reading each text = ⊎_elim (λ spelled. inl (spelled.0, (spelled.1, spelled.2))) (λ why. inr (why.0, (why.1, why.2))) (each text)
 
 abbrev Said : List ℕ → Term → Type 0
 Said dir t = (answer : Result Project ProjectError) × IsProject dir t answer

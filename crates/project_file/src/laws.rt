@@ -8,7 +8,7 @@ ghost use Rattle.project_file.specs.declared.settings.Settings.{Settings};
 ghost use Rattle.project_file.specs.Files.{IsLoaded, AreSettings};
 
 use dep_options::one_answer;
-use elixir_terms::{no_refusal, one_reading, one_refusal};
+use elixir_terms::{no_refusal, one_reading, one_refusal, some_answer};
 
 /// The manifest in a folder says one thing, or is refused in one way.
 pub fn one_project()
@@ -27,4 +27,20 @@ pub fn one_settings()
     one_reading();
     one_refusal();
     no_refusal();
+}
+
+/// The manifest in a folder says something, or is refused.
+pub fn some_project()
+    ensures { (files : List File) (dir : List ℕ)
+        → (answer : Result (Option Project) ProjectError) × IsLoaded files dir answer }
+{
+    some_answer();
+}
+
+/// The files of a project have a meaning as settings, or are refused.
+pub fn some_settings()
+    ensures { (files : List File)
+        → (answer : Result Settings SettingsError) × AreSettings files answer }
+{
+    some_answer();
 }

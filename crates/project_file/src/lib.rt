@@ -16,7 +16,7 @@ mod project;
 mod settings;
 
 pub use error::{ProjectError, SettingsError};
-pub use laws::{one_project, one_settings};
+pub use laws::{one_project, one_settings, some_project, some_settings};
 pub use loading::{load_project, load_settings, project_of_text};
 pub use manager::manager_by_files;
 pub use project::{Decls, Project};

@@ -20,3 +20,4 @@ pub mod ScanLemmas
 pub mod IntegerFaults
 pub mod NameFaults
 pub mod TokenFaults
+pub mod SomeLemmas
