@@ -10,4 +10,4 @@ pub returns-clause-each : goal.returns-clause-each
 returns-clause-each c =
     let board = c.in-Ok.board.board in
     subst (All (λ s. (s.board ≡ board) × (s.has_value ≡ false))) (sym c.in-Ok.ensures.dealt)
-        (all_numbered board _ (λ s. (s.board ≡ board) × (s.has_value ≡ false)) (λ k. (refl, refl)) c.in-Ok.board.seats)
+    (all_numbered board _ (λ s. (s.board ≡ board) × (s.has_value ≡ false)) (λ k. (refl, refl)) c.in-Ok.board.seats)
