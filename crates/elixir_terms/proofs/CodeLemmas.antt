@@ -69,18 +69,16 @@ entry_names entries keywords key t = ap (map (λ (p : Pair). p.0)) (append_assoc
 keyword_names : (entries keywords : List Pair) (key t : Term) → map (λ (p : Pair). p.0) (entries ++ (keywords ++ (key, t) ∷ [])) ≡ map (λ (p : Pair). p.0) (entries ++ keywords) ++ key ∷ []
 keyword_names entries keywords key t = ap (map (λ (p : Pair). p.0)) (sym (append_assoc entries keywords ((key, t) ∷ []))) ∙ map-append (λ (p : Pair). p.0) (entries ++ keywords) ((key, t) ∷ [])
 
-pub holds_entry : (frame : Frame) (old new : BTreeSet (List ℕ)) (key t : Term) (code : List ℕ) → HoldsCodes frame old → code ≡ term_code key → UpdatesBy text_cmp (text_cmp code) old new true → HoldsCodes (with_entry frame key t) new
-holds_entry frame old new key t code h e u q =
+pub holds_entry : (frame : Frame) (old new : BTreeSet (List ℕ)) (key t : Term) → HoldsCodes frame old → UpdatesBy text_cmp (text_cmp (term_code key)) old new true → HoldsCodes (with_entry frame key t) new
+holds_entry frame old new key t h u q =
     let names = map (λ (p : Pair). p.0) in
-    insert_one code old new u q
-    ∙ ap (λ c. bytes_eq q c || contains text_cmp old q) e
+    insert_one (term_code key) old new u q
     ∙ ap (λ b. bytes_eq q (term_code key) || b) (h q ∙ ap (λ ts. has_code ts q) (map-append (λ (p : Pair). p.0) frame.entries frame.keywords))
     ∙ sym (ap (λ ts. has_code ts q) (entry_names frame.entries frame.keywords key t) ∙ code_between (names frame.entries) (names frame.keywords) key q)
 
-pub holds_keyword : (frame : Frame) (old new : BTreeSet (List ℕ)) (name : List ℕ) (t : Term) (code : List ℕ) → HoldsCodes frame old → code ≡ term_code (term.Atom name) → UpdatesBy text_cmp (text_cmp code) old new true → HoldsCodes (with_keyword frame name t) new
-holds_keyword frame old new name t code h e u q =
-    insert_one code old new u q
-    ∙ ap (λ c. bytes_eq q c || contains text_cmp old q) e
+pub holds_keyword : (frame : Frame) (old new : BTreeSet (List ℕ)) (name : List ℕ) (t : Term) → HoldsCodes frame old → UpdatesBy text_cmp (text_cmp (term_code (term.Atom name))) old new true → HoldsCodes (with_keyword frame name t) new
+holds_keyword frame old new name t h u q =
+    insert_one (term_code (term.Atom name)) old new u q
     ∙ ap (λ b. bytes_eq q (term_code (term.Atom name)) || b) (h q ∙ ap (λ ts. has_code ts q) (sym (append-nil (keys_in frame))))
     ∙ sym (ap (λ ts. has_code ts q) (keyword_names frame.entries frame.keywords (term.Atom name) t) ∙ code_between (keys_in frame) [] (term.Atom name) q)
 

@@ -14,59 +14,15 @@ use Rattle.term_print.specs.Grammar.{IsTerm, atom, integer, string, words, brack
 use Rattle.term_values.specs.Views.{Pair}
 use Rattle.elixir_terms.specs.Levels.{keyword_cost, levels}
 use Rattle.elixir_terms.specs.Machine.{part_slot}
-use Rattle.elixir_terms.specs.Refusals.{IsShallow}
+use Rattle.elixir_terms.specs.Refusals.{shallow, IsShallow}
 use Rattle.elixir_terms.proofs.Meaning.{FilledIn, Filled, Wants}
 use Rattle.elixir_terms.proofs.StepForth.{Head, closes, by_part, by_key, head_of}
-use Rattle.elixir_terms.proofs.ShallowLemmas.{list_parts, element_below, keyword_below, entry_below, enclosed_deep}
+use Rattle.elixir_terms.proofs.BoundedLemmas.{list_parts}
+use Rattle.elixir_terms.proofs.BelowLemmas.{enclosed_deep}
+use Rattle.elixir_terms.proofs.FittingLemmas.{Fitting, fitting_in, fitting}
 use Rattle.elixir_terms.proofs.SoundLemmas.{begin_need, element_need, need}
 
--- levels are left for the term in the innermost hole, and it fits in them
-pub record Fitting (whole : ℕ) (holes : List Hole) (t : Term) : Type 0 where
-  pub left : ℕ
-  pub all : left + levels holes ≡ whole
-  pub fits : IsShallow left t
-
-fitting_in : (whole : ℕ) (u : Term) (place : Slot) (frame : Frame) (holes : List Hole) (t : Term) (tokens : List Token) → ((t : Term) (tokens : List Token) → Filled u holes t tokens → Fitting whole holes t) → FilledIn place frame (Filled u holes) t tokens → Fitting whole (record { frame = frame; slot = place } ∷ holes) t
-fitting_in whole u slot.Element frame holes t tokens outer k =
-    let o = outer k.t k.rest k.outside in
-    let encloses : enclosed frame.bracket (frame.items ++ t ∷ k.items) (frame.entries ++ k.entries) (frame.keywords ++ k.keywords) ≡ Some k.t = rw (append_assoc frame.items (t ∷ []) k.items) at k.encloses in
-    let b = element_below frame.bracket frame.items t k.items (frame.entries ++ k.entries) (frame.keywords ++ k.keywords) k.t o.left encloses o.fits in
-    let same = b.1 in
-    let all = o.all in
-    record { left = b.0; all = omega arith; fits = b.2 }
-fitting_in whole u (slot.Keyword key) frame holes t tokens outer k =
-    let o = outer k.t k.rest k.outside in
-    let p : Pair = (term.Atom key, t) in
-    let encloses : enclosed frame.bracket (frame.items ++ k.items) (frame.entries ++ k.entries) (frame.keywords ++ p ∷ k.keywords) ≡ Some k.t = rw (append_assoc frame.keywords (p ∷ []) k.keywords) at k.encloses in
-    let b = keyword_below frame.bracket (frame.items ++ k.items) (frame.entries ++ k.entries) frame.keywords p k.keywords k.t o.left encloses o.fits in
-    let same = b.1 in
-    let all = o.all in
-    record { left = b.0; all = omega arith; fits = b.2 }
-fitting_in whole u slot.EntryKey frame holes t tokens outer a =
-    let v = a.value in
-    let k = v.outside in
-    let o = outer k.t k.rest k.outside in
-    let p : Pair = (t, v.t) in
-    let encloses : enclosed frame.bracket (frame.items ++ k.items) (frame.entries ++ p ∷ k.entries) (frame.keywords ++ k.keywords) ≡ Some k.t = rw (append_assoc frame.entries (p ∷ []) k.entries) at k.encloses in
-    let b = entry_below frame.bracket (frame.items ++ k.items) frame.entries p k.entries (frame.keywords ++ k.keywords) k.t o.left encloses o.fits in
-    let same = b.1 in
-    let all = o.all in
-    record { left = b.0; all = omega arith; fits = b.2 }
-fitting_in whole u (slot.EntryValue key) frame holes t tokens outer k =
-    let o = outer k.t k.rest k.outside in
-    let p : Pair = (key, t) in
-    let encloses : enclosed frame.bracket (frame.items ++ k.items) (frame.entries ++ p ∷ k.entries) (frame.keywords ++ k.keywords) ≡ Some k.t = rw (append_assoc frame.entries (p ∷ []) k.entries) at k.encloses in
-    let b = entry_below frame.bracket (frame.items ++ k.items) frame.entries p k.entries (frame.keywords ++ k.keywords) k.t o.left encloses o.fits in
-    let same = b.1 in
-    let all = o.all in
-    record { left = b.0; all = omega arith; fits = b.3 }
-
--- where the whole term is shallow, a term in the innermost hole fits in what is left there
-pub fitting : (whole : ℕ) (u : Term) → IsShallow whole u → (holes : List Hole) (t : Term) (tokens : List Token) → Filled u holes t tokens → Fitting whole holes t
-fitting whole u h [] t tokens f = record { left = whole; all = omega arith; fits = subst (λ x. IsShallow whole x) (sym f.1) h }
-fitting whole u h (hole ∷ holes) t tokens f = fitting_in whole u hole.slot hole.frame holes t tokens (fitting whole u h holes) f
-
-begins_need : (whole : ℕ) (tok : Token) (tokens : List Token) {word : List Token} (rest : List Token) {t : Term} (holes : List Hole) → IsTerm word t → tok ∷ tokens ≡ word ++ rest → Fitting whole holes t → begin_need tok holes ≤ whole
+begins_need : (whole : ℕ) (tok : Token) (tokens : List Token) {word : List Token} (rest : List Token) {t : Term} (holes : List Hole) → IsTerm word t → tok ∷ tokens ≡ word ++ rest → Fitting shallow whole holes t → begin_need tok holes ≤ whole
 begins_need whole tok tokens rest holes (atom {name = name}) e f = let e1 : tok ≡ Atom name = cc in rw e1 (omega arith)
 begins_need whole tok tokens rest holes (integer {n = n}) e f = let e1 : tok ≡ Int n = cc in rw e1 (omega arith)
 begins_need whole tok tokens rest holes (string {bytes = bytes}) e f = let e1 : tok ≡ Str bytes = cc in rw e1 (omega arith)

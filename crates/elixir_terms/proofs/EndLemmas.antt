@@ -19,9 +19,10 @@ use Rattle.elixir_terms.specs.Levels.{keyword_cost, cost_in, levels}
 use Rattle.elixir_terms.specs.Machine.{with_item, with_entry, with_keyword}
 use Rattle.term_tokens.specs.Numbers.{last, decimal, plain}
 use Rattle.term_tokens.specs.Tokens.{closing, ends_integer, integer, closes, arrow, none, blank, AreTokens}
-use Rattle.elixir_terms.specs.Refusals.{IsShallow, integer as shallow_integer}
+use Rattle.elixir_terms.specs.Bounded.{integer as bounded_integer}
+use Rattle.elixir_terms.specs.Refusals.{IsShallow}
 use Rattle.elixir_terms.proofs.Meaning.{FilledIn, Filled, Wants}
-use Rattle.elixir_terms.proofs.SoundLemmas.{Sound, SlotSound, HolesSound, StateSound}
+use Rattle.elixir_terms.proofs.EnclosedLemmas.{Sound, SlotSound, HolesSound, StateSound}
 use Rattle.elixir_terms.proofs.StepForth.{closes_in, placed_forth}
 use Rattle.elixir_terms.proofs.StepBack.{step_back}
 
@@ -78,7 +79,7 @@ separator_ends all frame holes left outer s h e =
 
 value_ends : (all : ℕ) (key : Term) (frame : Frame) (holes : List Hole) (left : ℕ) → InHoles all holes → SlotSound left (slot.EntryValue key) frame → HolesSound (1 + left) holes → 1 + left + levels holes ≡ all → Ending all (λ u tokens. Wants u (state.Value (record { frame = frame; slot = slot.EntryValue key } ∷ holes)) tokens)
 value_ends all key frame holes left outer s h e =
-    let k = separator_ends all (with_entry frame key (term.Int (pos 0))) holes (1 + left) outer (s (term.Int (pos 0)) shallow_integer) h e in
+    let k = separator_ends all (with_entry frame key (term.Int (pos 0))) holes (1 + left) outer (s (term.Int (pos 0)) (bounded_integer tt)) h e in
     record {
       tokens = Int (pos 0) ∷ k.tokens;
       text = 10 ∷ 48 ∷ k.text;
@@ -129,7 +130,7 @@ element_ends all frame holes left outer s h e =
 -- each sound state can be ended
 pub state_ends : (all : ℕ) (s : State) → StateSound all s → Ending all (λ u tokens. Wants u s tokens)
 state_ends all (state.Value holes) h =
-    let k = holes_end all holes (term.Int (pos 0)) h.0 h.2 shallow_integer h.1 in
+    let k = holes_end all holes (term.Int (pos 0)) h.0 h.2 (bounded_integer tt) h.1 in
     record {
       tokens = Int (pos 0) ∷ k.tokens;
       text = 10 ∷ 48 ∷ k.text;

@@ -21,7 +21,7 @@ use Rattle.elixir_terms.specs.Machine.{placed, part_slot, takes_part, step, expe
 use Rattle.elixir_terms.specs.Prefixes.{Leads, none as no_token, token as one_token}
 use Rattle.elixir_terms.specs.Refusals.{IsEnded}
 use Rattle.term_tokens.specs.Tokens.{Begins, none}
-use Rattle.elixir_terms.proofs.AgainLemmas.{part_hole, first_step}
+use Rattle.elixir_terms.proofs.KeyTokens.{part_hole, first_step}
 use Rattle.term_tokens.proofs.BlankLemmas.{blanks_meet}
 use Rattle.term_tokens.proofs.CalmLemmas.{decimal_begins}
 use Rattle.elixir_terms.proofs.LiftLemmas.{lifted, runs_lifted}
@@ -29,7 +29,7 @@ use Rattle.elixir_terms.proofs.OpenLemmas.{runs, start, runs_append, after_some,
 use Rattle.term_tokens.proofs.OptionLemmas.{some_same}
 use Rattle.elixir_terms.proofs.PlaceLemmas.{blanks_shorter, leads_shorter, Meets, within, there, behind, meets}
 use Rattle.elixir_terms.proofs.PrefixLemmas.{start_sound}
-use Rattle.elixir_terms.proofs.RefuseLemmas.{Read}
+use Rattle.elixir_terms.proofs.DeepRefusals.{Read}
 use Rattle.elixir_terms.proofs.StopLemmas.{whole_last}
 use Rattle.term_tokens.proofs.TokenLaws.{begins_one, begins_solid, begins_shorter}
 use Rattle.elixir_terms.proofs.TrailLemmas.{Trail, trail_leads, blanks_from}

@@ -21,54 +21,23 @@ use Rattle.term_values.specs.Views.{Pair}
 use Rattle.elixir_terms.specs.Levels.{keyword_cost, cost_in, cost, levels, HasRoom, Enters}
 use Rattle.term_tokens.specs.Lexing.{IsNarrow}
 use Rattle.elixir_terms.specs.Machine.{is_closed_by, takes_key, takes_part, part_slot, placed_in, placed, begun, closed, at_part, at_element, at_separator, at_arrow, step, KeysDiffer, BeginsWell, PartWell, ElementWell, SeparatorWell, Allows}
-use Rattle.term_tokens.specs.Tokens.{Begins, bare_atom, atom as begins_atom, quoted_atom, integer as begins_integer, string as begins_string, words as begins_words, key as begins_key, quoted_key, opens, closes, comma as begins_comma, arrow as begins_arrow}
-use Rattle.elixir_terms.specs.Within.{deepest, Fits, atom, integer, string, list, tuple, mapping, AllFit, none, more, PairsFit, no_pairs, more_pairs}
-use Rattle.elixir_terms.proofs.FitLemmas.{list_parts, all_join, pairs_join, tuples_push, pair_fits}
-
--- what a token stands for is within the limits
-abbrev pub TokenFits : Token → Type 0
-TokenFits (Words kind ws) = Unit {0}
-TokenFits token = IsNarrow token
-
-strings_fit : (words : List (List ℕ)) (n : ℕ) → AllFit n (map term.Str words)
-strings_fit [] n = none
-strings_fit (w ∷ words) n = more string (strings_fit words n)
-
-atoms_fit : (words : List (List ℕ)) (n : ℕ) → AllFit n (map term.Atom words)
-atoms_fit [] n = none
-atoms_fit (w ∷ words) n = more atom (atoms_fit words n)
-
-words_fit : (kind : WordKind) (words : List (List ℕ)) (n : ℕ) → AllFit n (map (word_term kind) words)
-words_fit Strings words = strings_fit words
-words_fit Atoms words = atoms_fit words
-
-pub token_fits : {text : List ℕ} {tok : Token} {rest : List ℕ} → Begins text tok rest → IsNarrow tok → TokenFits tok
-token_fits (bare_atom a b c d) small = small
-token_fits (begins_atom a b c) small = small
-token_fits (quoted_atom a b c) small = small
-token_fits (begins_integer a b c) small = small
-token_fits (begins_string a b c) small = small
-token_fits (begins_words a b modified c d) small = tt
-token_fits (begins_key blank a b c) small = small
-token_fits (quoted_key blank a b c d) small = small
-token_fits (opens a) small = small
-token_fits (closes a) small = small
-token_fits (begins_comma a) small = small
-token_fits (begins_arrow a) small = small
+use Rattle.elixir_terms.specs.Bounded.{AllBounded, PairsBounded, atom, integer, string, list, tuple, mapping, none, more, no_pairs, more_pairs}
+use Rattle.elixir_terms.specs.Within.{deepest, limits, Fits}
+use Rattle.elixir_terms.proofs.BoundedLemmas.{list_parts, all_join, pairs_join, tuples_push, pair_fits, words_bounded}
 
 -- the keywords of a bracket fit, where so many levels are left for its parts
 abbrev pub KeywordsFit : Bracket → ℕ → List Pair → Type 0
-KeywordsFit bracket.List below keywords = AllFit below (map pair_tuple keywords)
+KeywordsFit bracket.List below keywords = AllBounded limits below (map pair_tuple keywords)
 KeywordsFit bracket.Tuple below [] = Unit {0}
 KeywordsFit bracket.Tuple below (k ∷ keywords) = Fits below (term.List (map pair_tuple (k ∷ keywords)))
-KeywordsFit bracket.Map below keywords = PairsFit below keywords
+KeywordsFit bracket.Map below keywords = PairsBounded limits below keywords
 
 -- what was read in a bracket fits, where so many levels are left for its term
 pub record FrameFits (left : ℕ) (frame : Frame) : Type 0 where
   pub below : ℕ
   pub level : left ≡ suc below
-  pub items : AllFit below frame.items
-  pub entries : PairsFit below frame.entries
+  pub items : AllBounded limits below frame.items
+  pub entries : PairsBounded limits below frame.entries
   pub keywords : KeywordsFit frame.bracket below frame.keywords
 
 abbrev SlotFits : Slot → ℕ → Type 0
@@ -139,13 +108,13 @@ no_keywords bracket.Map below = no_pairs
 room_left : (holes : List Hole) (left : ℕ) → HolesFit holes left → HasRoom holes → (below : ℕ) × (left ≡ suc below)
 room_left holes left h room = let all = holes_all holes left h in (left - 1, omega arith)
 
-begun_fits : (tok : Token) (holes : List Hole) (left : ℕ) → HolesFit holes left → TokenFits tok → BeginsWell tok holes → NextFits (begun tok holes)
+begun_fits : (tok : Token) (holes : List Hole) (left : ℕ) → HolesFit holes left → IsNarrow tok → BeginsWell tok holes → NextFits (begun tok holes)
 begun_fits (Atom name) holes left h f w = placed_fits (term.Atom name) holes left h atom
-begun_fits (Int n) holes left h f w = placed_fits (term.Int n) holes left h (integer f.0 f.1)
+begun_fits (Int n) holes left h f w = placed_fits (term.Int n) holes left h (integer f)
 begun_fits (Str bytes) holes left h f w = placed_fits (term.Str bytes) holes left h string
 begun_fits (Words kind ws) holes left h f w =
     let room = room_left holes left h w in
-    placed_fits (word_list kind ws) holes left h (subst (λ n. Fits n (word_list kind ws)) (sym room.1) (list (words_fit kind ws room.0)))
+    placed_fits (word_list kind ws) holes left h (subst (λ n. Fits n (word_list kind ws)) (sym room.1) (list (words_bounded kind ws room.0)))
 begun_fits (Open kind) holes left h f w =
     let room = room_left holes left h w in
     (left, record { below = room.0; level = room.1; items = none; entries = no_pairs; keywords = no_keywords kind room.0 }, h)
@@ -154,7 +123,7 @@ begun_fits (Close closing) holes left h f w = tt
 begun_fits Comma holes left h f w = tt
 begun_fits Arrow holes left h f w = tt
 
-enclosed_fits : (kind : Bracket) (items : List Term) (entries keywords : List Pair) (t : Term) (below : ℕ) → AllFit below items → PairsFit below entries → KeywordsFit kind below keywords → KeysDiffer kind entries keywords → enclosed kind items entries keywords ≡ Some t → Fits (suc below) t
+enclosed_fits : (kind : Bracket) (items : List Term) (entries keywords : List Pair) (t : Term) (below : ℕ) → AllBounded limits below items → PairsBounded limits below entries → KeywordsFit kind below keywords → KeysDiffer kind entries keywords → enclosed kind items entries keywords ≡ Some t → Fits (suc below) t
 enclosed_fits bracket.List items [] keywords t below i p k d e =
     let same : term.List (items ++ map pair_tuple keywords) ≡ t = cc in
     subst (λ x. Fits (suc below) x) same (list (all_join below items (map pair_tuple keywords) i k))
@@ -200,12 +169,12 @@ cond_fits : (test : Bool) (o : Option State) → NextFits o → NextFits (cond t
 cond_fits true o h = h
 cond_fits false o h = tt
 
-part_fits : (frame : Frame) (holes : List Hole) (tok : Token) (left : ℕ) → FrameFits left frame → HolesFit holes left → TokenFits tok → PartWell frame holes tok → NextFits (at_part frame holes tok)
+part_fits : (frame : Frame) (holes : List Hole) (tok : Token) (left : ℕ) → FrameFits left frame → HolesFit holes left → IsNarrow tok → PartWell frame holes tok → NextFits (at_part frame holes tok)
 part_fits frame holes tok left f h k w =
     let e = entered_fits (record { frame = frame; slot = part_slot frame.bracket }) holes left f h w.0 (λ inner same. part_slot_fits frame.bracket inner) in
     cond_fits (takes_part frame) (begun tok (record { frame = frame; slot = part_slot frame.bracket } ∷ holes)) (begun_fits tok (record { frame = frame; slot = part_slot frame.bracket } ∷ holes) e.0 e.1 k w.1)
 
-element_fits : (frame : Frame) (holes : List Hole) (tok : Token) (left : ℕ) → FrameFits left frame → HolesFit holes left → TokenFits tok → ElementWell frame holes tok → NextFits (at_element frame holes tok)
+element_fits : (frame : Frame) (holes : List Hole) (tok : Token) (left : ℕ) → FrameFits left frame → HolesFit holes left → IsNarrow tok → ElementWell frame holes tok → NextFits (at_element frame holes tok)
 element_fits frame holes (Close closing) left f h k w = closed_fits frame closing holes left f h w
 element_fits frame holes (Key name) left f h k w = cond_fits (takes_key frame) (Some (state.Value (record { frame = frame; slot = slot.Keyword name } ∷ holes))) (entered_fits (record { frame = frame; slot = slot.Keyword name }) holes left f h w (λ inner same. tt))
 element_fits frame holes (Atom name) left f h k w = part_fits frame holes (Atom name) left f h k w
@@ -239,7 +208,7 @@ arrow_fits entry frame holes (Key name) left f p h = tt
 arrow_fits entry frame holes (Open kind) left f p h = tt
 
 -- what the next state has read is within the limits
-pub step_fits : (s : State) (tok : Token) → StateFits s → TokenFits tok → Allows s tok → NextFits (step s tok)
+pub step_fits : (s : State) (tok : Token) → StateFits s → IsNarrow tok → Allows s tok → NextFits (step s tok)
 step_fits (state.Value holes) tok h k w = begun_fits tok holes h.0 h.1 k w
 step_fits (state.Element frame holes) tok h k w = element_fits frame holes tok h.0 h.1 h.2 k w
 step_fits (state.Separator frame holes) tok h k w = separator_fits frame holes tok h.0 h.1 h.2 w

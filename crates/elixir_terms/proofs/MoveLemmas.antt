@@ -1,19 +1,18 @@
 -- What the reader answers of one token.
 use Rattle.std.specs.Prelude.{IsTrue, IsFalse, ◌↔◌}
-use Rattle.std.proofs.Common.{◌≡◌, ℕ, ◌+◌, Bool, true, List, [], None, eqb, length, sym, ap, ◌∙◌, subst, arith}
+use Rattle.std.proofs.Common.{◌≡◌, ℕ, ◌+◌, Bool, true, List, [], None, eqb, length, refl, sym, ap, ◌∙◌, subst, arith, ⊎_elim}
 use Rattle.std.proofs.lemmas.Bool.{true≢false, eqb-true, eqb-false}
-use Rattle.std.proofs.lemmas.List.{nil_from_length}
+use Rattle.std.proofs.lemmas.List.{nil_from_length, length-set}
 use Rattle.term_tokens.specs.declared.cause.TermCause.{TermCause}
-use Rattle.term_tokens.specs.declared.cause.TermCause.TheVariants.{TooDeep}
 use Rattle.term_tokens.specs.declared.expected.Expected.{Expected}
 use Rattle.elixir_terms.specs.declared.state.State.{State}
-use Rattle.elixir_terms.specs.declared.state.State.TheVariants.{Done}
+use Rattle.elixir_terms.specs.declared.state.State.TheVariants.{Value, Element, Separator, Arrow, Done}
 use Rattle.term_values.specs.declared.term.Term.{Term}
 use Rattle.term_tokens.specs.declared.token.Token.{Token}
 use Rattle.term_tokens.specs.Lexing.{IsNarrow}
 use Rattle.term_tokens.specs.Local.{IsFree, IsFirst, Locally, takes}
-use Rattle.elixir_terms.specs.Machine.{step, expected, HasLevels}
-use Rattle.elixir_terms.specs.Reading.{HasRoomAt, Stands, Stops, lexed, deep}
+use Rattle.elixir_terms.specs.Machine.{expected}
+use Rattle.elixir_terms.specs.Reading.{HasRoomAt, IsStuck, Stands, Stops, lexed, deep, again, noted}
 use Rattle.term_tokens.specs.Tokens.{Begins}
 
 pub empty_is : (rest : List ℕ) (empty : Bool) → empty ≡ eqb (length rest) 0 → empty ≡ true → rest ≡ []
@@ -40,8 +39,15 @@ stood_by s e text tok after same begins taken narrow free whole = record {
 pub stops_lexed : (s : State) (e : Expected) (text : List ℕ) (k : ℕ) (why : TermCause) → e ≡ expected s → ((t : Term) → s ≡ Done t → ⊥) → HasRoomAt s text → IsFirst e text k why → Stops s text k why
 stops_lexed s e text k why same open_ room first = lexed open_ room (subst (λ x. IsFirst x text k why) same first)
 
--- a step that only the limit on levels forbids
-pub stops_deep : (s : State) (text : List ℕ) (tok : Token) (after : List ℕ) (left : ℕ) (why : TermCause) → Stands s text tok after → (step s tok ≡ None → ⊥) → (left ≡ length text) × (HasLevels s tok → step s tok ≡ None) × ((step s tok ≡ None → ⊥) → why ≡ TooDeep) → (k : ℕ) × (left + k ≡ length text) × Stops s text k why
-stops_deep s text tok after left why stands steps fault =
-    let place = fault.0 in
-    (0, omega arith, subst (λ w. Stops s text 0 w) (sym (fault.2 steps)) (deep tok stands (λ h. steps (fault.1 h))))
+-- a token that may stand there, but leads to no state within the limits
+pub stops_stuck : (s : State) (text : List ℕ) (tok : Token) (after : List ℕ) (left : ℕ) (why : TermCause) → Stands s text tok after → left ≡ length text → IsStuck s tok why → (k : ℕ) × (left + k ≡ length text) × Stops s text k why
+stops_stuck s text tok after left why stands place stuck =
+    (0, omega (arith, place), ⊎_elim (λ d. subst (Stops s text 0) (sym d.0) (deep tok stands d.1)) (λ a. subst (Stops s text 0) (sym a.0) (again tok stands a.1 a.2)) stuck)
+
+-- the places of keys stay as many
+pub noted_length : (s : State) (left : ℕ) (begun : List ℕ) → length (noted s left begun) ≡ length begun
+noted_length (Element frame holes) left begun = length-set begun (length holes) left
+noted_length (Value holes) left begun = refl
+noted_length (Separator frame holes) left begun = refl
+noted_length (Arrow key frame holes) left begun = refl
+noted_length (Done t) left begun = refl

@@ -10,7 +10,7 @@ use Rattle.term_tokens.specs.Tokens.{Begins, Blanks, none, blank, comment, line_
 use Rattle.elixir_terms.specs.Within.{deepest}
 use Rattle.term_tokens.proofs.BlankLemmas.{blanks_meet}
 use Rattle.elixir_terms.proofs.OpenLemmas.{runs}
-use Rattle.elixir_terms.proofs.PrefixLemmas.{AllSound, next_sound, token_shallow}
+use Rattle.elixir_terms.proofs.PrefixLemmas.{AllSound, next_sound}
 use Rattle.term_tokens.proofs.TokenLaws.{begins_one, begins_solid, begins_shorter}
 use Rattle.elixir_terms.proofs.TrailLemmas.{Stood, Trail, rests, steps}
 
@@ -77,6 +77,6 @@ meets others place (steps {tok = tok} {tokens = tokens} {s = s} {next = next} {l
     let same : start ≡ begin = blanks_meet begin (begins_solid begins) (begins_solid stood.begins) b blanks in
     let one = begins_one (subst (λ l. Begins l other end) same begins) stood.begins in
     let well = stood.well in
-    let on : AllSound next = λ extra. next_sound (deepest + extra) s next tok (sound extra) (token_shallow stood.begins) (omega arith) stood.stepped in
+    let on : AllSound next = λ extra. next_sound (deepest + extra) s next tok (sound extra) (omega arith) stood.stepped in
     let m = meets more place trail on (subst (λ l. Leads more l place) one.1 leads) here in
     subst (λ t. Meets (tok ∷ tokens) s last rest (t ∷ more) place) (sym one.0) (one_more tok stood.stepped m)

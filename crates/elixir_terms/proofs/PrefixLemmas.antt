@@ -23,7 +23,6 @@ use Rattle.elixir_terms.specs.Levels.{keyword_cost, cost_in, levels}
 use Rattle.term_tokens.specs.Local.{is_plain, IsFree, is_closing, takes, IsPart}
 use Rattle.elixir_terms.specs.Machine.{is_closed_by, takes_part, part_slot, placed, closed, step, expected}
 use Rattle.elixir_terms.specs.Prefixes.{AreOpen, IsOpenText}
-use Rattle.elixir_terms.specs.Refusals.{atom as shallow_atom, string as shallow_string, AreShallow, none as none_shallow, more as more_shallow}
 use Rattle.term_tokens.specs.Tokens.{Begins, bare_atom, atom, quoted_atom, integer, string, words, key, quoted_key, opens, closes, comma, arrow, none, AreTokens}
 use Rattle.elixir_terms.specs.Within.{deepest}
 use Rattle.term_tokens.specs.Words.{Modified, none as plain_words, strings, atoms}
@@ -34,46 +33,21 @@ use Rattle.elixir_terms.proofs.StepBack.{step_back}
 use Rattle.elixir_terms.proofs.OpenLemmas.{runs, start, runs_push, runs_open}
 use Rattle.elixir_terms.proofs.Runs.{first_wants}
 use Rattle.elixir_terms.proofs.OpenLemmas.{passed_back}
-use Rattle.elixir_terms.proofs.SoundLemmas.{Sound, StateSound, NextSound, TokenShallow, need, step_sound, first_sound}
+use Rattle.elixir_terms.proofs.EnclosedLemmas.{Sound, StateSound, NextSound}
+use Rattle.elixir_terms.proofs.SoundLemmas.{need, step_sound, first_sound}
 use Rattle.elixir_terms.proofs.TrailLemmas.{Trail, rests, steps, Fronts, leads_join}
 
 -- the state can be ended within the limit on levels, and within any greater one
 abbrev pub AllSound : State → Type 0
 AllSound s = (extra : ℕ) → StateSound (deepest + extra) s
 
-strings_shallow : (ws : List (List ℕ)) (n : ℕ) → AreShallow n (map term.Str ws)
-strings_shallow [] n = none_shallow
-strings_shallow (w ∷ ws) n = more_shallow shallow_string (strings_shallow ws n)
-
-atoms_shallow : (ws : List (List ℕ)) (n : ℕ) → AreShallow n (map term.Atom ws)
-atoms_shallow [] n = none_shallow
-atoms_shallow (w ∷ ws) n = more_shallow shallow_atom (atoms_shallow ws n)
-
-words_shallow : (kind : WordKind) (ws : List (List ℕ)) (n : ℕ) → AreShallow n (map (word_term kind) ws)
-words_shallow Strings ws = strings_shallow ws
-words_shallow Atoms ws = atoms_shallow ws
-
-pub token_shallow : {text : List ℕ} {tok : Token} {rest : List ℕ} → Begins text tok rest → TokenShallow tok
-token_shallow (bare_atom a b c d) = tt
-token_shallow (atom a b c) = tt
-token_shallow (quoted_atom a b c) = tt
-token_shallow (integer a b c) = tt
-token_shallow (string a b c) = tt
-token_shallow (words {words = ws} {kind = kind} a b modified c d) = words_shallow kind ws
-token_shallow (key white a b c) = tt
-token_shallow (quoted_key white a b c d) = tt
-token_shallow (opens a) = tt
-token_shallow (closes a) = tt
-token_shallow (comma a) = tt
-token_shallow (arrow a) = tt
-
-pub next_sound : (all : ℕ) (s next : State) (tok : Token) → StateSound all s → TokenShallow tok → need s tok ≤ all → step s tok ≡ Some next → StateSound all next
-next_sound all s next tok h k n e = subst (λ o. NextSound all o) e (step_sound all s tok h k n)
+pub next_sound : (all : ℕ) (s next : State) (tok : Token) → StateSound all s → need s tok ≤ all → step s tok ≡ Some next → StateSound all next
+next_sound all s next tok h n e = subst (λ o. NextSound all o) e (step_sound all s tok h n)
 
 pub trail_sound : {tokens : List Token} {s last : State} {text rest : List ℕ} → Trail tokens s last text rest → AllSound s → AllSound last
 trail_sound (rests blanks solid) h = h
 trail_sound (steps {tok = tok} {s = s} {next = next} blanks stood trail) h =
-    trail_sound trail (λ extra. let well = stood.well in next_sound (deepest + extra) s next tok (h extra) (token_shallow stood.begins) (omega arith) stood.stepped)
+    trail_sound trail (λ extra. let well = stood.well in next_sound (deepest + extra) s next tok (h extra) (omega arith) stood.stepped)
 
 pub start_sound : AllSound start
 start_sound extra = first_sound (deepest + extra)
@@ -186,19 +160,19 @@ few all (state.Arrow entry frame holes) tok h = omega arith
 few all (state.Done t) tok h = omega arith
 
 -- the state after a token that is expected, with three levels more
-pub step_on : (s : State) (tok : Token) → AllSound s → TokenShallow tok → takes (expected s) tok ≡ true → (next : State) × (step s tok ≡ Some next) × StateSound (deepest + 3) next
-step_on s tok h k e =
+pub step_on : (s : State) (tok : Token) → AllSound s → takes (expected s) tok ≡ true → (next : State) × (step s tok ≡ Some next) × StateSound (deepest + 3) next
+step_on s tok h e =
     let n = takes_steps (deepest + 3) s tok (h 3) e in
     let less = few (deepest + 0) s tok (h 0) in
-    (n.0, n.1, next_sound (deepest + 3) s n.0 tok (h 3) k (omega arith) n.1)
+    (n.0, n.1, next_sound (deepest + 3) s n.0 tok (h 3) (omega arith) n.1)
 
 -- the tokens of a state that can be ended are open
 pub sound_open : (all : ℕ) (tokens : List Token) (s : State) → runs tokens start ≡ Some s → StateSound all s → AreOpen tokens
 sound_open all tokens s ran h = let k = state_ends all s h in runs_open k.u tokens k.tokens s ran k.wanted
 
 -- with one more that is expected
-pub step_open : (tokens : List Token) (s : State) (tok : Token) → runs tokens start ≡ Some s → AllSound s → TokenShallow tok → takes (expected s) tok ≡ true → AreOpen (tokens ++ tok ∷ [])
-step_open tokens s tok ran h k e = let n = step_on s tok h k e in sound_open (deepest + 3) (tokens ++ tok ∷ []) n.0 (runs_push tokens tok start s n.0 ran n.1) n.2
+pub step_open : (tokens : List Token) (s : State) (tok : Token) → runs tokens start ≡ Some s → AllSound s → takes (expected s) tok ≡ true → AreOpen (tokens ++ tok ∷ [])
+step_open tokens s tok ran h e = let n = step_on s tok h e in sound_open (deepest + 3) (tokens ++ tok ∷ []) n.0 (runs_push tokens tok start s n.0 ran n.1) n.2
 
 apart_like : (rest text : List ℕ) → IsTrue (is_apart text) → Like rest text
 apart_like rest [] h = ended
@@ -229,7 +203,7 @@ part_open {tokens = tokens} {text = text} {rest = rest} s f part ran h p like = 
     something q =
         let tok = q.0 in
         let more = q.1 in
-        let n = step_on s tok h (token_shallow q.2) q.3 in
+        let n = step_on s tok h q.3 in
         let k = state_ends (deepest + 3) n.0 n.2 in
         let m = moves q.2 (free_end (part ++ more) tok) in
         let whole : m.word ≡ part ++ more = sym (append-nil m.word) ∙ sym m.split in

@@ -17,9 +17,9 @@ use Rattle.elixir_terms.specs.Within.{deepest}
 use Rattle.elixir_terms.proofs.EndLemmas.{state_ends}
 use Rattle.elixir_terms.proofs.OpenLemmas.{runs, start, runs_push, passed_back}
 use Rattle.term_tokens.proofs.OptionLemmas.{none_some, some_same, cond_some}
-use Rattle.elixir_terms.proofs.PrefixLemmas.{AllSound, next_sound, token_shallow, takes_steps}
+use Rattle.elixir_terms.proofs.PrefixLemmas.{AllSound, next_sound, takes_steps}
 use Rattle.elixir_terms.proofs.Runs.{first_wants}
-use Rattle.elixir_terms.proofs.SoundLemmas.{TokenShallow, need}
+use Rattle.elixir_terms.proofs.SoundLemmas.{need}
 use Rattle.term_tokens.proofs.TokenLaws.{begins_one, begins_solid, begins_shorter}
 use Rattle.term_tokens.proofs.TokenLemmas.{begins_first}
 
@@ -39,10 +39,6 @@ words_only {tok = tok} {after = after} more e begins = by (take (inside_len more
 pub started_solid : {text : List ℕ} {tok : Token} → IsStarted text tok → past_blank text ≡ None
 started_solid (whole_token begins) = begins_solid begins
 started_solid (open_words more e) = subst (λ l. past_blank l ≡ None) (sym e) refl
-
-pub started_shallow : {text : List ℕ} {tok : Token} → IsStarted text tok → TokenShallow tok
-started_shallow (whole_token begins) = token_shallow begins
-started_shallow (open_words more e) = λ n. far.none
 
 pub started_some : {text : List ℕ} {tok : Token} → IsStarted text tok → 0 < length text
 started_some (whole_token begins) = let short = begins_shorter begins in omega arith
@@ -66,8 +62,8 @@ started_like s begins t n (open_words more e) =
     (subst (λ x. takes (expected s) x ≡ true) w.2 t, subst (λ m. m ≤ deepest) (need_words s w.0 w.1) (subst (λ x. need s x ≤ deepest) w.2 n))
 
 -- a token that leaves levels is not too deep
-pub small_not_deep : (tokens : List Token) (s : State) (tok : Token) → runs tokens start ≡ Some s → AllSound s → TokenShallow tok → takes (expected s) tok ≡ true → need s tok ≤ deepest → AreTooDeep (tokens ++ tok ∷ []) → ⊥
-small_not_deep tokens s tok ran sound shallow t n too =
+pub small_not_deep : (tokens : List Token) (s : State) (tok : Token) → runs tokens start ≡ Some s → AllSound s → takes (expected s) tok ≡ true → need s tok ≤ deepest → AreTooDeep (tokens ++ tok ∷ []) → ⊥
+small_not_deep tokens s tok ran sound t n too =
     let next = takes_steps (deepest + 0) s tok (sound 0) t in
-    let e = state_ends (deepest + 0) next.0 (next_sound (deepest + 0) s next.0 tok (sound 0) shallow n next.1) in
+    let e = state_ends (deepest + 0) next.0 (next_sound (deepest + 0) s next.0 tok (sound 0) n next.1) in
     too.deep e.tokens e.u (first_wants e.u ((tokens ++ tok ∷ []) ++ e.tokens) (passed_back e.u (tokens ++ tok ∷ []) e.tokens start next.0 e.wanted (runs_push tokens tok start s next.0 ran next.1))) e.shallow

@@ -1,3 +1,4 @@
+pub mod Bounded
 pub mod Within
 pub mod KeyCode
 pub mod Levels

@@ -64,8 +64,11 @@ with_item frame t = record frame { items = frame.items ++ t ∷ [] }
 abbrev pub with_entry : Frame → Term → Term → Frame
 with_entry frame key t = record frame { entries = frame.entries ++ (key, t) ∷ [] }
 
+abbrev pub with_pair : Frame → Term → Term → Frame
+with_pair frame key t = record frame { keywords = frame.keywords ++ (key, t) ∷ [] }
+
 abbrev pub with_keyword : Frame → List ℕ → Term → Frame
-with_keyword frame key t = record frame { keywords = frame.keywords ++ (term.Atom key, t) ∷ [] }
+with_keyword frame key t = with_pair frame (term.Atom key) t
 
 -- a whole term goes into a slot of a bracket
 abbrev pub placed_in : Slot → Frame → Term → List Hole → State

@@ -12,6 +12,7 @@ use Rattle.term_tokens.specs.declared.token.Token.{Token}
 use Rattle.term_tokens.specs.declared.token.WordKind.TheVariants.{Strings}
 use Rattle.term_tokens.specs.declared.token.Token.TheVariants.{Int, Words, Key, Open, Comma, Arrow}
 use Rattle.term_print.specs.Grammar.{IsTerm}
+use Rattle.elixir_terms.specs.Bounded.{Rules, Bounded}
 use Rattle.term_values.specs.Views.{Pair}
 use Rattle.term_tokens.specs.Lexing.{past_blank, IsWide}
 use Rattle.term_tokens.specs.Local.{IsOpening, IsCapital, IsDecimal, IsNoEscape, IsFloat, IsFree, is_plain, rank}
@@ -22,23 +23,13 @@ use Rattle.term_tokens.specs.Tokens.{AreTokens, Begins, ends_name, is_colon}
 use Rattle.elixir_terms.specs.Within.{longest, deepest}
 use Rattle.term_tokens.specs.Words.{is_inside}
 
-mutual
-  -- the term has at most so many levels
-  pub data IsShallow : ℕ → Term → Type 0 where
-    atom : {levels : ℕ} {name : List ℕ} → IsShallow levels (term.Atom name)
-    integer : {levels : ℕ} {n : ℤ} → IsShallow levels (term.Int n)
-    string : {levels : ℕ} {bytes : List ℕ} → IsShallow levels (term.Str bytes)
-    list : {levels : ℕ} {parts : List Term} → AreShallow levels parts → IsShallow (suc levels) (term.List parts)
-    tuple : {levels : ℕ} {parts : List Term} → AreShallow levels parts → IsShallow (suc levels) (term.Tuple parts)
-    mapping : {levels : ℕ} {pairs : List Pair} → PairsShallow levels pairs → IsShallow (suc levels) (term.Map pairs)
+-- nothing but the levels counts
+abbrev pub shallow : Rules
+shallow = record { integers = λ n. Unit {0}; keys = λ keys. Unit {0} }
 
-  pub data AreShallow : ℕ → List Term → Type 0 where
-    none : {levels : ℕ} → AreShallow levels []
-    more : {levels : ℕ} {t : Term} {ts : List Term} → IsShallow levels t → AreShallow levels ts → AreShallow levels (t ∷ ts)
-
-  pub data PairsShallow : ℕ → List Pair → Type 0 where
-    no_pairs : {levels : ℕ} → PairsShallow levels []
-    more_pairs : {levels : ℕ} {key value : Term} {pairs : List Pair} → IsShallow levels key → IsShallow levels value → PairsShallow levels pairs → PairsShallow levels ((key, value) ∷ pairs)
+-- the term has at most so many levels
+abbrev pub IsShallow : ℕ → Term → Type 0
+IsShallow = Bounded shallow
 
 -- the tokens begin terms, all of which are too deep
 pub record AreTooDeep (tokens : List Token) : Type 0 where

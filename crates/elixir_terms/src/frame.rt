@@ -2,7 +2,7 @@
 ghost use Rattle.std.specs.Prelude.{◌≡◌, ◌≤◌, [], IfOk};
 ghost use Rattle.term_print.specs.Grammar.{closing_of, enclosed};
 ghost use Rattle.elixir_terms.specs.Levels.{cost, keyword_cost};
-ghost use Rattle.elixir_terms.specs.Machine.{empty, is_closed_by, part_slot, takes_key, takes_part};
+ghost use Rattle.elixir_terms.specs.Machine.{empty, is_closed_by, part_slot, takes_key, takes_part, with_entry, with_pair};
 
 use crate::enclosed::{list, mapping, tuple};
 use crate::opened::Opened;
@@ -112,6 +112,22 @@ impl Frame {
         ensures { result ≡ takes_part self.now }
     {
         self.keywords.as_slice().is_empty()
+    }
+
+    /// With one more entry.
+    pub fn with_entry(mut self, key: Term, value: Term) -> Result<Frame, AllocError>
+        ensures { IfOk result (λ frame. frame ≡ with_entry self key value) }
+    {
+        self.entries.push((key, value))?;
+        Ok(self)
+    }
+
+    /// With one more keyword, whose key is given as the atom.
+    pub fn with_pair(mut self, key: Term, value: Term) -> Result<Frame, AllocError>
+        ensures { IfOk result (λ frame. frame ≡ with_pair self key value) }
+    {
+        self.keywords.push((key, value))?;
+        Ok(self)
     }
 
     /// The term that the bracket encloses, closed here, where there is one.

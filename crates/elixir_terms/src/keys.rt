@@ -44,38 +44,21 @@ fn push_term(code: &mut Vec<u8>, term: &Term) -> Result<(), AllocError>
     ensures { OnOk result (code.new.items ≡ code.old.items ++ term_code term.now) }
 {
     match term {
-        Term::Atom(name) => {
-            code.push(ATOM)?;
-            push_bytes(code, name.as_slice())
-        }
-        Term::Int(n) => {
-            code.push(INT)?;
-            push_integer(code, *n)
-        }
-        Term::Str(bytes) => {
-            code.push(STR)?;
-            push_bytes(code, bytes.as_slice())
-        }
-        Term::List(parts) => {
-            code.push(LIST)?;
-            push_parts(code, parts.as_slice())
-        }
-        Term::Tuple(parts) => {
-            code.push(TUPLE)?;
-            push_parts(code, parts.as_slice())
-        }
-        Term::Map(pairs) => {
-            code.push(MAP)?;
-            push_pairs(code, pairs.as_slice())
-        }
+        Term::Atom(name) => push_bytes(code, ATOM, name.as_slice()),
+        Term::Int(n) => push_integer(code, *n),
+        Term::Str(bytes) => push_bytes(code, STR, bytes.as_slice()),
+        Term::List(parts) => push_parts(code, LIST, parts.as_slice()),
+        Term::Tuple(parts) => push_parts(code, TUPLE, parts.as_slice()),
+        Term::Map(pairs) => push_pairs(code, pairs.as_slice()),
     }
 }
 
-// Adds the codes of terms.
+// Adds the kind, and the codes of terms.
 #[cycle(push_term)]
-fn push_parts(code: &mut Vec<u8>, parts: &[Term]) -> Result<(), AllocError>
-    ensures { OnOk result (code.new.items ≡ code.old.items ++ parts_code (map term_code parts.now)) }
+fn push_parts(code: &mut Vec<u8>, kind: u8, parts: &[Term]) -> Result<(), AllocError>
+    ensures { OnOk result (code.new.items ≡ code.old.items ++ kind ∷ parts_code (map term_code parts.now)) }
 {
+    code.push(kind)?;
     for part in parts {
         code.push(MORE)?;
         push_term(code, part)?;
@@ -84,11 +67,12 @@ fn push_parts(code: &mut Vec<u8>, parts: &[Term]) -> Result<(), AllocError>
     Ok(())
 }
 
-// Adds the codes of keys and their values.
+// Adds the kind of a map, and the codes of keys and their values.
 #[cycle(push_term)]
 fn push_pairs(code: &mut Vec<u8>, pairs: &[(Term, Term)]) -> Result<(), AllocError>
-    ensures { OnOk result (code.new.items ≡ code.old.items ++ pairs_code (map pair_codes pairs.now)) }
+    ensures { OnOk result (code.new.items ≡ code.old.items ++ 5 ∷ pairs_code (map pair_codes pairs.now)) }
 {
+    code.push(MAP)?;
     for (key, value) in pairs {
         code.push(MORE)?;
         push_term(code, key)?;
@@ -98,10 +82,11 @@ fn push_pairs(code: &mut Vec<u8>, pairs: &[(Term, Term)]) -> Result<(), AllocErr
     Ok(())
 }
 
-// Adds the code of an integer.
+// Adds the kind and the code of an integer.
 fn push_integer(code: &mut Vec<u8>, n: i128) -> Result<(), AllocError>
-    ensures { OnOk result (code.new.items ≡ code.old.items ++ integer_code n) }
+    ensures { OnOk result (code.new.items ≡ code.old.items ++ 1 ∷ integer_code n) }
 {
+    code.push(INT)?;
     code.push(u8::from(n < 0))?;
     push_digits(code, n.unsigned_abs())?;
     code.push(END)?;
@@ -120,10 +105,11 @@ fn push_digits(code: &mut Vec<u8>, n: u128) -> Result<(), AllocError>
     Ok(())
 }
 
-// Adds the code of bytes.
-fn push_bytes(code: &mut Vec<u8>, bytes: &[u8]) -> Result<(), AllocError>
-    ensures { OnOk result (code.new.items ≡ code.old.items ++ bytes_code bytes.now) }
+// Adds the kind and the code of bytes.
+fn push_bytes(code: &mut Vec<u8>, kind: u8, bytes: &[u8]) -> Result<(), AllocError>
+    ensures { OnOk result (code.new.items ≡ code.old.items ++ kind ∷ bytes_code bytes.now) }
 {
+    code.push(kind)?;
     for byte in bytes {
         code.push(MORE)?;
         code.push(*byte)?;

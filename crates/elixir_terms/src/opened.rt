@@ -1,8 +1,11 @@
 // Open brackets, with the codes of their keys.
-ghost use Rattle.std.specs.Prelude.{◌≡◌, IfOk, IsFalse, ◌↔◌};
+ghost use Rattle.std.specs.Prelude.{◌≡◌, IfOk, IsFalse, ◌↔◌, true};
 ghost use Rattle.term_print.specs.Grammar.{enclosed};
 ghost use Rattle.elixir_terms.specs.Machine.{empty, takes_key, takes_part, with_item, with_entry, with_keyword, NewIn};
+ghost use Rattle.std.specs.BTreeSet.{UpdatesBy};
+ghost use Rattle.mx_base.specs.Order.{text_cmp};
 ghost use Rattle.elixir_terms.specs.Codes.{keys_in};
+ghost use Rattle.elixir_terms.specs.KeyCode.{term_code};
 
 use crate::frame::Frame;
 use crate::keys::code_of;
@@ -80,12 +83,9 @@ impl Opened {
     pub fn with_entry(self, alloc: Global, key: Term, value: Term) -> Result<Opened, AllocError>
         ensures { IfOk result (λ opened. opened ≡ with_entry self key value) }
     {
-        let Opened {
-            mut frame,
-            mut known,
-        } = self;
-        known.insert(code_of(alloc, &key)?)?;
-        frame.entries.push((key, value))?;
+        let Opened { frame, known } = self;
+        let known = with_code(alloc, known, &key)?;
+        let frame = frame.with_entry(key, value)?;
         Ok(Opened { frame, known })
     }
 
@@ -94,13 +94,10 @@ impl Opened {
     pub fn with_keyword(self, alloc: Global, key: Text, value: Term) -> Result<Opened, AllocError>
         ensures { IfOk result (λ opened. opened ≡ with_keyword self key value) }
     {
-        let Opened {
-            mut frame,
-            mut known,
-        } = self;
+        let Opened { frame, known } = self;
         let key = Term::Atom(key);
-        known.insert(code_of(alloc, &key)?)?;
-        frame.keywords.push((key, value))?;
+        let known = with_code(alloc, known, &key)?;
+        let frame = frame.with_pair(key, value)?;
         Ok(Opened { frame, known })
     }
 
@@ -121,4 +118,16 @@ impl Opened {
     {
         self.frame.enclosed(alloc)
     }
+}
+
+/// The codes with that of one more key.
+fn with_code(
+    alloc: Global,
+    mut known: BTreeSet<Bytes>,
+    key: &Term,
+) -> Result<BTreeSet<Bytes>, AllocError>
+    ensures { IfOk result (λ codes. UpdatesBy text_cmp (text_cmp (term_code key.now)) known codes true) }
+{
+    known.insert(code_of(alloc, key)?)?;
+    Ok(known)
 }

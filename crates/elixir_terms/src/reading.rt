@@ -1,14 +1,14 @@
 // The reader of a whole text.
-ghost use Rattle.std.specs.Prelude.{MatchOption, ◌≡◌, ℕ, ◌+◌, ◌≤◌, ◌<◌, [], List, None, length, IsTrue, IsFalse, IfOk, IfErr};
+ghost use Rattle.std.specs.Prelude.{MatchOption, get_or, ◌≡◌, ℕ, ◌+◌, ◌≤◌, ◌<◌, [], List, Some, None, length, ◌↔◌, IsTrue, IsFalse, IfOk, IfErr};
 ghost use Rattle.std.specs.Str.{IsUtf8};
-ghost use Rattle.term_tokens.specs.declared.cause.TermCause.TheVariants.{Unclosed};
+ghost use Rattle.term_tokens.specs.declared.cause.TermCause.TheVariants.{DuplicateKey, Unclosed};
 ghost use Rattle.elixir_terms.specs.declared.state.State.TheVariants.{Done};
 ghost use Rattle.term_values.specs.declared.term.Term.{Term};
 ghost use Rattle.term_tokens.specs.declared.token.Token.{Token};
 ghost use Rattle.term_tokens.specs.Lexing.{past_blank};
 ghost use Rattle.term_tokens.specs.Local.{takes};
-ghost use Rattle.elixir_terms.specs.Machine.{expected, step};
-ghost use Rattle.elixir_terms.specs.Reading.{BeginsDeepWords, HasRoomAt, IsOpenAt, Moves, Stops, noted};
+ghost use Rattle.elixir_terms.specs.Machine.{depth, expected, step, HasLevels, NewKeyword};
+ghost use Rattle.elixir_terms.specs.Reading.{Advances, BeginsDeepWords, Halts, HasRoomAt, IsOpenAt, IsStuck, Moves, Stands, Stops, noted};
 ghost use Rattle.elixir_terms.specs.Refusals.{IsRefusal};
 ghost use Rattle.term_tokens.specs.Refused.{is_memory};
 ghost use Rattle.term_print.specs.Spells.{Spells};
@@ -18,7 +18,7 @@ use crate::error::TermError;
 use crate::holes::Holes;
 use crate::state::State;
 use std::alloc::Global;
-use term_tokens::{Fault, TermCause, first_token, skip_blanks};
+use term_tokens::{Fault, TermCause, Token, first_token, skip_blanks};
 use term_values::Term;
 
 /// The longest text that is read, in bytes.
@@ -82,18 +82,46 @@ fn read_tokens(alloc: Global, text: &[u8]) -> Result<Term, Fault>
     let mut begun: Vec<usize> = vec![in alloc; 0; 65]?;
     let mut rest = skip_blanks(text);
     while !rest.is_empty() {
-        note(&mut begun, &state, rest.len());
-        let (next, after) = read_token(alloc, state, rest)?;
-        if next.repeats_entry(alloc)? {
-            return Err(Fault {
-                left: begun[next.depth()],
-                cause: TermCause::DuplicateKey,
-            });
-        }
+        let (next, after) = advanced(alloc, state, rest, &mut begun)?;
         state = next;
-        rest = skip_blanks(after);
+        rest = after;
     }
     finished(state)
+}
+
+/// The state after the first token of a text, and the text from the next one on.
+fn advanced<'a>(
+    alloc: Global,
+    state: State,
+    text: &'a [u8],
+    begun: &mut Vec<usize>,
+) -> Result<(State, &'a [u8]), Fault>
+    requires steps { (token : Token) → IsTrue (takes (expected state) token) → step state token ≡ None → ⊥ }
+    requires places { length begun.old.items ≡ 65 }
+    ensures noted { begun.new.items ≡ noted state (length text.now) begun.old.items }
+    ensures advances { IfOk result (λ found. Advances state text.now found.0 found.1.now) }
+    ensures shorter { IfOk result (λ found. length found.1.now < length text.now) }
+    ensures halts { IfErr result (λ fault. IsFalse (is_memory fault.cause)
+        → Halts state text.now begun.new.items fault) }
+{
+    note(begun, &state, text.len());
+    let (next, after) = read_token(alloc, state, text)?;
+    if next.repeats_entry(alloc)? {
+        return Err(repeated(begun.as_slice(), &next));
+    }
+    Ok((next, skip_blanks(after)))
+}
+
+/// The fault of a map's key that was read last and equals an earlier one, at its first byte.
+fn repeated(begun: &[usize], state: &State) -> Fault
+    requires { length begun.now ≡ 65 }
+    ensures left { result.left ≡ get_or begun.now (depth state.now) 0 }
+    ensures cause { result.cause ≡ DuplicateKey }
+{
+    Fault {
+        left: begun[state.depth()],
+        cause: TermCause::DuplicateKey,
+    }
 }
 
 /// The term of the text that ends here, where it is whole.
@@ -126,18 +154,67 @@ fn read_token(alloc: Global, state: State, text: &[u8]) -> Result<(State, &[u8])
     requires steps { (token : Token) → IsTrue (takes (expected state) token) → step state token ≡ None → ⊥ }
     ensures moves { IfOk result (λ found. Moves state text.now found.0 found.1.now) }
     ensures shorter { IfOk result (λ found. length found.1.now < length text.now) }
-    ensures stops { IfErr result (λ fault. IsFalse (is_memory fault.cause) → (k : ℕ) × (fault.left + k ≡ length text.now) × Stops state text.now k fault.cause) }
+    ensures stops { IfErr result (λ fault. IsFalse (is_memory fault.cause)
+        → (k : ℕ) × (fault.left + k ≡ length text.now) × Stops state text.now k fault.cause) }
 {
-    if let Some(cause) = stop_before(&state, text) {
+    match next_token(alloc, &state, text) {
+        Ok((token, again, after)) => {
+            let next = stepped(alloc, state, token, again, text.len())?;
+            Ok((next, after))
+        }
+        Err(fault) => {
+            drop(state);
+            Err(fault)
+        }
+    }
+}
+
+/// The first token of the text, whether it is a keyword's key that comes again, and the text after it.
+fn next_token<'a>(
+    alloc: Global,
+    state: &State,
+    text: &'a [u8],
+) -> Result<(Token, bool, &'a [u8]), Fault>
+    ensures stands { IfOk result (λ found. Stands state.now text.now found.0 found.2.now) }
+    ensures again { IfOk result (λ found. IsFalse found.1 ↔ NewKeyword state.now found.0) }
+    ensures shorter { IfOk result (λ found. length found.2.now < length text.now) }
+    ensures stops { IfErr result (λ fault. IsFalse (is_memory fault.cause)
+        → (k : ℕ) × (fault.left + k ≡ length text.now) × Stops state.now text.now k fault.cause) }
+{
+    if let Some(cause) = stop_before(state, text) {
         return Err(Fault::before(text, cause));
     }
     let (token, after) = first_token(alloc, text, state.expected())?;
     let again = state.repeats_keyword(alloc, &token)?;
-    let next = state.step(alloc, token, text.len())?;
+    Ok((token, again, after))
+}
+
+/// The state after a token that may stand there, so far from the end of the text. It may be a keyword's key that comes
+/// again.
+fn stepped(
+    alloc: Global,
+    state: State,
+    token: Token,
+    again: bool,
+    left: usize,
+) -> Result<State, Fault>
+    requires again { IsFalse again ↔ NewKeyword state token }
+    requires steps { step state token ≡ None → ⊥ }
+    ensures levels { IfOk result (λ next. HasLevels state token) }
+    ensures new { IfOk result (λ next. NewKeyword state token) }
+    ensures next { IfOk result (λ next. step state token ≡ Some next) }
+    ensures stuck { IfErr result (λ fault. IsFalse (is_memory fault.cause)
+        → (fault.left ≡ left) × IsStuck state token fault.cause) }
+{
+    let next = state.step(alloc, token, left)?;
     if again {
-        return Err(Fault::before(text, TermCause::DuplicateKey));
+        drop(next);
+        return Err(Fault {
+            left,
+            cause: TermCause::DuplicateKey,
+        });
     }
-    Ok((next, after))
+    Ok(next)
 }
 
 /// Why nothing is read of the text, where that is plain before its first token is.

@@ -1,7 +1,8 @@
 // Lists of words, as `~w(dev test)a`.
-ghost use Rattle.std.specs.Prelude.{◌≡◌, ◌++◌, ◌≤◌, IfOk, OnOk, length, take, drop, []};
+ghost use Rattle.std.specs.Prelude.{◌≡◌, ◌++◌, ◌≤◌, ◌==◌, ◌||◌, IfOk, OnOk, length, take, drop, []};
 ghost use Rattle.term_tokens.specs.Lexed.{LexedBy, words_stop, after_tilde_lexed};
 ghost use Rattle.term_tokens.specs.Lexing.{inside_len, kind_of, words_from, flushed};
+ghost use Rattle.term_tokens.specs.Strings.{opens_interpolation};
 
 use crate::bytes::{is_blank, opens_interpolation};
 use crate::cause::{Feature, TermCause};
@@ -49,13 +50,20 @@ fn inside_len(text: &[u8]) -> usize
     let mut len = 0;
     let mut rest = text;
     while let [byte, after @ ..] = rest {
-        if *byte == b')' || *byte == b'\\' || opens_interpolation(*byte, after) {
+        if ends_inside(*byte, after) {
             break;
         }
         len += 1;
         rest = after;
     }
     len
+}
+
+/// Whether the byte before the rest may not stand between the parentheses.
+fn ends_inside(byte: u8, rest: &[u8]) -> bool
+    ensures { result ≡ (byte == 41 || byte == 92 || opens_interpolation byte rest.now) }
+{
+    byte == b')' || byte == b'\\' || opens_interpolation(byte, rest)
 }
 
 /// What the modifier at the front says of the words, and the text after it.

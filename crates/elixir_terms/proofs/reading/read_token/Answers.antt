@@ -1,40 +1,17 @@
-use Rattle.std.proofs.Common.{sym, subst, arith}
+use Rattle.std.proofs.Common.{sym, subst, arith, ⊎_elim}
 use Rattle.std.proofs.lemmas.Result.{err_from_is_err_and}
-use Rattle.elixir_terms.specs.Reading.{Stands, Stops, again}
-use Rattle.elixir_terms.proofs.MoveLemmas.{old_by, stood_by, stops_lexed, stops_deep}
+use Rattle.elixir_terms.proofs.MoveLemmas.{stops_stuck}
 use Rattle.elixir_terms.proofs.reading.read_token.Goals as goal
 
-pub returns-in-Some-clause-stops : goal.returns-in-Some-clause-stops
-returns-in-Some-clause-stops c = λ m.
-    (0, omega (arith, c.before-in-Some.ensures.place), subst (λ why. Stops c.args.state c.args.text.now 0 why) (sym c.before-in-Some.ensures.cause) c.in-Some.ensures)
+pub stepped-requires : goal.stepped-requires
+stepped-requires c = record { again = c.in-Ok.ensures.again; steps = c.requires.steps c.in-Ok.token c.in-Ok.ensures.stands.taken }
 
-pub returns-in_err-token : goal.returns-in_err-token
-returns-in_err-token c =
+pub returns-in_err-next-in-Ok-clause-stops : goal.returns-in_err-next-in-Ok-clause-stops
+returns-in_err-next-in-Ok-clause-stops c =
     let p = err_from_is_err_and c.from_residual.result c.from_residual.ensures.1 in
-    rw (p.1, p.2) (record {
-      moves = tt;
-      shorter = tt;
-      stops = λ m.
-          let r = c.in_err-token.ensures.refused m in
-          (r.0, r.1, stops_lexed c.args.state c.expected.result c.args.text.now r.0 c.in_err-token.field-0.0.cause c.expected.ensures c.in_default.ensures.0 c.in_default.ensures.1 r.2);
-    })
+    rw (p.1, p.2) (λ m.
+    let f = c.in_err-next-in-Ok.ensures.stuck m in
+    stops_stuck c.args.state c.args.text.now c.in-Ok.token c.in-Ok.after.now c.in_err-next-in-Ok.field-0.0.left c.in_err-next-in-Ok.field-0.0.cause c.in-Ok.ensures.stands f.0 f.1)
 
-pub returns-in_err-next : goal.returns-in_err-next
-returns-in_err-next c =
-    let p = err_from_is_err_and c.from_residual-in_err-next.result c.from_residual-in_err-next.ensures.1 in
-    let stands : Stands c.args.state c.args.text.now c.in_ok-token.token c.in_ok-token.after.now = stood_by c.args.state c.expected.result c.args.text.now c.in_ok-token.token c.in_ok-token.after.now c.expected.ensures c.in_ok-token.ensures.begins c.in_ok-token.ensures.taken c.in_ok-token.ensures.narrow c.in_ok-token.ensures.free c.in_ok-token.ensures.whole in
-    rw (p.1, p.2) (record {
-      moves = tt;
-      shorter = tt;
-      stops = λ m. stops_deep c.args.state c.args.text.now c.in_ok-token.token c.in_ok-token.after.now c.in_err-next.field-0.0.left c.in_err-next.field-0.0.cause stands (c.requires.steps c.in_ok-token.token stands.taken) (c.in_err-next.ensures m);
-    })
-
-pub returns-then-again : goal.returns-then-again
-returns-then-again c =
-    let stands : Stands c.args.state c.args.text.now c.in_ok-token.token c.in_ok-token.after.now = stood_by c.args.state c.expected.result c.args.text.now c.in_ok-token.token c.in_ok-token.after.now c.expected.ensures c.in_ok-token.ensures.begins c.in_ok-token.ensures.taken c.in_ok-token.ensures.narrow c.in_ok-token.ensures.free c.in_ok-token.ensures.whole in
-    record {
-      moves = tt;
-      shorter = tt;
-      stops = λ m.
-          (0, omega (arith, c.before-then-again.ensures.place), subst (λ why. Stops c.args.state c.args.text.now 0 why) (sym c.before-then-again.ensures.cause) (again c.in_ok-token.token stands c.in_ok-next.ensures.0 (old_by c.in_ok-again.again _ c.if-again.true c.in_ok-again.ensures)));
-    }
+pub returns-in_ok-next-in-Ok-clause-moves : goal.returns-in_ok-next-in-Ok-clause-moves
+returns-in_ok-next-in-Ok-clause-moves c = record { token = c.in-Ok.token; stands = c.in-Ok.ensures.stands; levels = c.in_ok-next-in-Ok.ensures.levels; stepped = c.in_ok-next-in-Ok.ensures.next; new = c.in_ok-next-in-Ok.ensures.new }
