@@ -45,15 +45,19 @@ pub trait Children {
         winner: &Decl,
     ) -> Result<Vec<Decl>, Self::Fault>
         requires { stands self.old }
-        ensures answer { IfSome (meaning self.old) (λ known. AnswersBy (λ decls. decls.items) blame result (children_of known app.now winner.now)) }
+        ensures answer { IfSome (meaning self.old) (λ known.
+            AnswersBy (λ decls. decls.items) blame result (children_of known app.now winner.now)) }
         ensures meaning { meaning self.new ≡ meaning self.old }
         ensures made_over { made_over self.new ≡ made_over self.old }
         ensures stands { stands self.new }
         ensures cause { Counted (faults self.old) (faults self.new) (fails blame result) };
 
     /// Each winner has one answer at most.
-    ghost one: { (object : Self) → IfSome (meaning object) (λ known. AnswersOnce (children_of known)) };
+    ghost one: { (object : Self) → IfSome (meaning object) (λ known.
+        AnswersOnce (children_of known)) };
 
     /// A fault that is told is a refusal.
-    ghost told: { (object : Self) (app : List ℕ) (winner : Decl) (fault : Self.Fault) → IfSome (meaning object) (λ known. children_of known app winner (Err fault) → blame fault ≡ Input) };
+    ghost told: { (object : Self) (app : List ℕ) (winner : Decl) (fault : Self.Fault) →
+        IfSome (meaning object) (λ known.
+            children_of known app winner (Err fault) → blame fault ≡ Input) };
 }

@@ -1,7 +1,9 @@
-//! The rows of a project: its own declarations and those of its dependencies, in one list, and which of them win.
+//! The rows of a project: its own declarations and those of its dependencies, in one list, and
+//! which of them win.
 //!
-//! It stands on the declarations of `dep_options`. A layer above may rely on this: `rows` answers the one list of
-//! rows that the root and the children of its winners make, and otherwise the first fault that is met or the limit.
+//! It stands on the declarations of `dep_options`. A layer above may rely on this: `rows` answers
+//! the one list of rows that the root and the children of its winners make, and otherwise the first
+//! fault that is met or the limit.
 #![tactic(auto)]
 
 mod children;

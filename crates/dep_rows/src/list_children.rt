@@ -96,7 +96,8 @@ impl<P: Faults + Drop> Children for ListChildren<P> {
 }
 
 fn answer_for(alloc: Global, answers: &[ListAnswer], app: &AppName) -> Result<Vec<Decl>, ListFault>
-    ensures answer { AnswersBy (λ decls. decls.items) list_blame result (λ answer. answer ≡ answer_for answers.now app.now) }
+    ensures answer { AnswersBy (λ decls. decls.items) list_blame result (λ answer.
+        answer ≡ answer_for answers.now app.now) }
     ensures alone { IsFalse (fails list_blame result) }
 {
     for answer in answers {
@@ -108,7 +109,8 @@ fn answer_for(alloc: Global, answers: &[ListAnswer], app: &AppName) -> Result<Ve
 }
 
 fn told_by(alloc: Global, answer: &ListAnswer) -> Result<Vec<Decl>, ListFault>
-    ensures answer { AnswersBy (λ decls. decls.items) list_blame result (λ told. told ≡ told_by answer.now.children) }
+    ensures answer { AnswersBy (λ decls. decls.items) list_blame result (λ told.
+        told ≡ told_by answer.now.children) }
     ensures alone { IsFalse (fails list_blame result) }
 {
     match &answer.children {

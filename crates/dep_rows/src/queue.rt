@@ -23,12 +23,14 @@ pub fn rows<C: Children>(
     children: &mut C,
 ) -> Result<Rows, RowsError<C::Fault>>
     requires { C.stands children.old }
-    ensures answer { IfSome (C.meaning children.old) (λ known. Answers (rows_blame C.blame) result (IsListing (C.children_of known) root.now)) }
+    ensures answer { IfSome (C.meaning children.old) (λ known.
+        Answers (rows_blame C.blame) result (IsListing (C.children_of known) root.now)) }
     ensures within { IfOk result (λ answer. IsWithinLimit answer) }
     ensures meaning { C.meaning children.new ≡ C.meaning children.old }
     ensures made_over { C.made_over children.new ≡ C.made_over children.old }
     ensures stands { C.stands children.new }
-    ensures cause { Counted (C.faults children.old) (C.faults children.new) (fails (rows_blame C.blame) result) }
+    ensures cause { Counted (C.faults children.old) (C.faults children.new)
+        (fails (rows_blame C.blame) result) }
 {
     if root.len() > MOST_ROWS {
         return Err(RowsError::TooManyRows);
@@ -54,12 +56,15 @@ fn bring_in<C: Children>(
     requires within { winner < vec_len listing.rows }
     requires few { vec_len listing.rows ≤ most_rows }
     requires stands { C.stands children.old }
-    ensures ok { IfOk result (λ longer. BringsIn C.children_of (C.meaning children.old) winner listing.rows.items longer.rows.items listing.winners.items longer.winners.items) }
-    ensures err { IfErr result (λ error. IfSome (C.meaning children.old) (λ known. Hinders C.blame (C.children_of known) listing.rows.items winner error)) }
+    ensures ok { IfOk result (λ longer. BringsIn C.children_of (C.meaning children.old) winner
+        listing.rows.items longer.rows.items listing.winners.items longer.winners.items) }
+    ensures err { IfErr result (λ error. IfSome (C.meaning children.old) (λ known.
+        Hinders C.blame (C.children_of known) listing.rows.items winner error)) }
     ensures meaning { C.meaning children.new ≡ C.meaning children.old }
     ensures made_over { C.made_over children.new ≡ C.made_over children.old }
     ensures stands { C.stands children.new }
-    ensures cause { Counted (C.faults children.old) (C.faults children.new) (fails (rows_blame C.blame) result) }
+    ensures cause { Counted (C.faults children.old) (C.faults children.new)
+        (fails (rows_blame C.blame) result) }
 {
     let row = &listing.rows[winner as usize];
     let decls = match children.children(alloc, &row.app, &row.decl) {
