@@ -15,7 +15,8 @@ use Rattle.converger.specs.Cases.{IsScene, IsUnderAt, Meets}
 use Rattle.converger.specs.Strays.{is_marked, IsStraySomewhere}
 use Rattle.converger.proofs.WebLemmas.{one_value}
 
-pub under_at : (rows : List Row) (place other : ℕ) (row : Row) → slice_get rows other ≡ Some row → winner_of rows row.app ≡ Some place → IsUnderAt rows place other
+pub under_at : (rows : List Row) (place other : ℕ) (row : Row) → slice_get rows other ≡ Some row → winner_of rows row.app ≡ Some place
+    → IsUnderAt rows place other
 under_at rows place other row stands wins =
     let w = winner_is rows row.app place wins in
     record { winner = w.row; row = row; under = record { wins = w.wins; stands = stands; app = w.named } }
@@ -25,34 +26,41 @@ module _ (rows : List Row) (winners : List ℕ) (versions : List (Option Version
   stands_under _ place other (source winner row under apart kept differs) = record { winner = winner; row = row; under = under }
   stands_under _ place other (compiled winner row under apart kept differs) = record { winner = winner; row = row; under = under }
   stands_under _ place other (version winner row v requirement under kept has asks fails) = record { winner = winner; row = row; under = under }
-  stands_under _ place other (environment by winner row parent env under root barred required declared stands reached) = record { winner = winner; row = row; under = under }
+  stands_under _ place other (environment by winner row parent env under root barred required declared stands reached) =
+      record { winner = winner; row = row; under = under }
 
-  pub diverges_at_winner : (rule : Rule) (place other : ℕ) (row : Row) → slice_get rows other ≡ Some row → Diverges rows winners versions rule place other → winner_of rows row.app ≡ Some place
+  pub diverges_at_winner : (rule : Rule) (place other : ℕ) (row : Row) → slice_get rows other ≡ Some row → Diverges rows winners versions rule place other
+      → winner_of rows row.app ≡ Some place
   diverges_at_winner rule place other row stands d =
       let s = stands_under rule place other d in
       is_winner rows row.app place s.winner s.under.wins (s.under.app ∙ ap (λ (r : Row). r.app) (one_value (sym s.under.stands ∙ stands)))
 
   -- one winner stands against a row
-  pub one_place : (rule other_rule : Rule) (place also other : ℕ) → Diverges rows winners versions rule place other → Diverges rows winners versions other_rule also other → place ≡ also
+  pub one_place : (rule other_rule : Rule) (place also other : ℕ) → Diverges rows winners versions rule place other
+      → Diverges rows winners versions other_rule also other → place ≡ also
   one_place rule other_rule place also other d e =
       let s = stands_under rule place other d in
       let t = stands_under other_rule also other e in
       one_value (sym (diverges_at_winner rule place other s.row s.under.stands d) ∙ diverges_at_winner other_rule also other s.row s.under.stands e)
 
-  pub none_diverges : (rule : Rule) (other : ℕ) (row : Row) → slice_get rows other ≡ Some row → winner_of rows row.app ≡ None → (p : ℕ) → (None ≡ Some p) ↔ Diverges rows winners versions rule p other
+  pub none_diverges : (rule : Rule) (other : ℕ) (row : Row) → slice_get rows other ≡ Some row → winner_of rows row.app ≡ None → (p : ℕ)
+      → (None ≡ Some p) ↔ Diverges rows winners versions rule p other
   none_diverges rule other row stands none p =
       (λ h. absurd (none-some p h), λ d. absurd (none-some p (sym none ∙ diverges_at_winner rule p other row stands d)))
 
-  pub one_diverges : (rule : Rule) (place other : ℕ) → Diverges rows winners versions rule place other → (p : ℕ) → (Some place ≡ Some p) ↔ Diverges rows winners versions rule p other
+  pub one_diverges : (rule : Rule) (place other : ℕ) → Diverges rows winners versions rule place other → (p : ℕ)
+      → (Some place ≡ Some p) ↔ Diverges rows winners versions rule p other
   one_diverges rule place other d p = (
     λ h. subst (λ (n : ℕ). Diverges rows winners versions rule n other) (one_value h) d,
     λ e. ap (λ (n : ℕ). Some n) (one_place rule rule place p other d e),
   )
 
-  pub not_diverging : (rule : Rule) (place other : ℕ) (row : Row) → slice_get rows other ≡ Some row → winner_of rows row.app ≡ Some place → (Diverges rows winners versions rule place other → ⊥) → (p : ℕ) → (None ≡ Some p) ↔ Diverges rows winners versions rule p other
+  pub not_diverging : (rule : Rule) (place other : ℕ) (row : Row) → slice_get rows other ≡ Some row → winner_of rows row.app ≡ Some place
+      → (Diverges rows winners versions rule place other → ⊥) → (p : ℕ) → (None ≡ Some p) ↔ Diverges rows winners versions rule p other
   not_diverging rule place other row stands wins not p = (
     λ h. absurd (none-some p h),
-    λ d. absurd (not (subst (λ (n : ℕ). Diverges rows winners versions rule n other) (one_value (sym (diverges_at_winner rule p other row stands d) ∙ wins)) d)),
+    λ d. absurd (not (subst (λ (n : ℕ). Diverges rows winners versions rule n other)
+        (one_value (sym (diverges_at_winner rule p other row stands d) ∙ wins)) d)),
   )
 
   -- a row and the winner of its app, with what is known of their places
@@ -90,7 +98,8 @@ module _ (rows : List Row) (winners : List ℕ) (versions : List (Option Version
         let at = case.is_stray.0 m in
         let s = at.1 in
         let here : s.row ≡ row = one_value (sym s.under.stands ∙ case.under.stands) in
-        let same_place : s.place ≡ place = one_value (sym (is_winner rows row.app s.place s.winner s.under.wins (s.under.app ∙ ap (λ (r : Row). r.app) here)) ∙ is_winner rows row.app place winner case.under.wins case.under.app) in
+        let same_place : s.place ≡ place = one_value (sym (is_winner rows row.app s.place s.winner s.under.wins (s.under.app ∙ ap (λ (r : Row). r.app) here))
+            ∙ is_winner rows row.app place winner case.under.wins case.under.app) in
         subst (λ (p : ℕ). Diverges rows winners versions V4 p other) same_place
         (environment s.by s.winner s.row s.parent at.0 s.under s.root s.barred s.required s.declared s.stands s.reached)
 
@@ -134,7 +143,10 @@ module _ (rows : List Row) (winners : List ℕ) (versions : List (Option Version
     pub case_iff : (rule : Rule) → Meets rule winner row case.same case.found case.stray ↔ Diverges rows winners versions rule place other
     case_iff rule = (meets_diverges rule, diverges_meets rule)
 
-pub case_in_scene : (listed : Listed) (versions : List (Option Version)) (strays : List Bool) → IsScene listed versions strays → (place other : ℕ) (winner row : Row) → IsUnder listed.rows place winner other row → (found : Option Version) → ((v : Version) → (found ≡ Some v) ↔ HasVersion listed.winners versions place (Some v)) → (rule : Rule) → Meets rule winner row (eqb place other) found (is_marked strays other) ↔ Diverges listed.rows listed.winners versions rule place other
+pub case_in_scene : (listed : Listed) (versions : List (Option Version)) (strays : List Bool) → IsScene listed versions strays
+    → (place other : ℕ) (winner row : Row) → IsUnder listed.rows place winner other row → (found : Option Version)
+    → ((v : Version) → (found ≡ Some v) ↔ HasVersion listed.winners versions place (Some v)) → (rule : Rule)
+    → Meets rule winner row (eqb place other) found (is_marked strays other) ↔ Diverges listed.rows listed.winners versions rule place other
 case_in_scene listed versions strays scene place other winner row under found known rule =
     case_iff listed.rows listed.winners versions place other winner row (record {
       same = eqb place other;

@@ -27,7 +27,12 @@ or_assoc : (a b c : Bool) → ((a || b) || c) ≡ (a || (b || c))
 or_assoc true b c = refl
 or_assoc false b c = refl
 
-pub names_more : (only : List (List ℕ)) (i : ℕ) (name : List ℕ) → i < length only → name ≡ get_or only i name → (first old new : BTreeSet (Bor (List ℕ))) (text : List ℕ) → text ≡ name → UpdatesBy (λ (x y : Bor (List ℕ)). text_cmp x.now y.now) (λ (k : Bor (List ℕ)). text_cmp text k.now) old new true → ((env : List ℕ) → contains_by (λ (k : Bor (List ℕ)). text_cmp env k.now) old ≡ (contains_by (λ (k : Bor (List ℕ)). text_cmp env k.now) first || list_any (bytes_eq env) (take i only))) → (env : List ℕ) → contains_by (λ (k : Bor (List ℕ)). text_cmp env k.now) new ≡ (contains_by (λ (k : Bor (List ℕ)). text_cmp env k.now) first || list_any (bytes_eq env) (take (i + 1) only))
+pub names_more : (only : List (List ℕ)) (i : ℕ) (name : List ℕ) → i < length only → name ≡ get_or only i name → (first old new : BTreeSet (Bor (List ℕ)))
+    (text : List ℕ) → text ≡ name → UpdatesBy (λ (x y : Bor (List ℕ)). text_cmp x.now y.now) (λ (k : Bor (List ℕ)). text_cmp text k.now) old new true →
+    ((env : List ℕ) → contains_by (λ (k : Bor (List ℕ)). text_cmp env k.now) old ≡
+    (contains_by (λ (k : Bor (List ℕ)). text_cmp env k.now) first || list_any (bytes_eq env) (take i only))) → (env : List ℕ) → contains_by
+    (λ (k : Bor (List ℕ)). text_cmp env k.now) new ≡ (contains_by (λ (k : Bor (List ℕ)). text_cmp env k.now) first || list_any (bytes_eq env)
+    (take (i + 1) only))
 names_more only i name within is first old new text same updates so_far env =
     updates.0 (record { ref_ptr = (0, 0); now = env })
     ∙ or_cond (is_eq (text_cmp text env)) _
@@ -36,10 +41,12 @@ names_more only i name within is first old new text same updates so_far env =
     ∙ ap (λ (b : Bool). contains_by (λ (k : Bor (List ℕ)). text_cmp env k.now) first || b)
     (ap (λ (n : List ℕ). list_any (bytes_eq env) (take i only) || bytes_eq env n) is ∙ sym (list_any_more (bytes_eq env) only i name within))
 
-pub not_empty_more : (only : List (List ℕ)) (i : ℕ) (name : List ℕ) → i < length only → name ≡ get_or only i name → IsAppName name → list_any (bytes_eq []) (take i only) ≡ false → list_any (bytes_eq []) (take (i + 1) only) ≡ false
+pub not_empty_more : (only : List (List ℕ)) (i : ℕ) (name : List ℕ) → i < length only → name ≡ get_or only i name → IsAppName name
+    → list_any (bytes_eq []) (take i only) ≡ false → list_any (bytes_eq []) (take (i + 1) only) ≡ false
 not_empty_more only i name within is named so_far =
     list_any_more (bytes_eq []) only i name within
-    ∙ ap₂ (λ (a b : Bool). a || b) so_far (ap (bytes_eq []) (sym is) ∙ not_same_bytes [] name (λ same. absurd (omega (arith, named.not_empty, ap (λ (t : List ℕ). length t) same))))
+    ∙ ap₂ (λ (a b : Bool). a || b) so_far (ap (bytes_eq []) (sym is) ∙ not_same_bytes [] name
+        (λ same. absurd (omega (arith, named.not_empty, ap (λ (t : List ℕ). length t) same))))
 
 push_cases : (xs : List Row) (x r : Row) (k : ℕ) → slice_get (xs ++ x ∷ []) k ≡ Some r → (slice_get xs k ≡ Some r) ⊎ (x ≡ r)
 push_cases [] x r zero h = inr (one_value h)
@@ -47,18 +54,23 @@ push_cases [] x r (suc k) h = absurd (cc)
 push_cases (y ∷ xs) x r zero h = inl h
 push_cases (y ∷ xs) x r (suc k) h = push_cases xs x r k h
 
-row_cases : (rows : List Row) (i : ℕ) (row : Row) → i < length rows → row ≡ get_or rows i row → (place : ℕ) (r : Row) → slice_get (take (i + 1) rows) place ≡ Some r → (slice_get (take i rows) place ≡ Some r) ⊎ (row ≡ r)
+row_cases : (rows : List Row) (i : ℕ) (row : Row) → i < length rows → row ≡ get_or rows i row → (place : ℕ) (r : Row)
+    → slice_get (take (i + 1) rows) place ≡ Some r → (slice_get (take i rows) place ≡ Some r) ⊎ (row ≡ r)
 row_cases rows i row within is place r stands =
-    push_cases (take i rows) row r place (sym (ap (λ (xs : List Row). slice_get xs place) (take_more rows i row within ∙ ap (λ (x : Row). take i rows ++ x ∷ []) (sym is))) ∙ stands)
+    push_cases (take i rows) row r place (sym (ap (λ (xs : List Row). slice_get xs place)
+        (take_more rows i row within ∙ ap (λ (x : Row). take i rows ++ x ∷ []) (sym is))) ∙ stands)
 
-pub named_more : (rows : List Row) (i : ℕ) (row : Row) → i < length rows → row ≡ get_or rows i row → (old new : List ℕ → Bool) → AreNamed (take i rows) old → ((env : List ℕ) → old env ≡ true → new env ≡ true) → (row.by ≡ None → (env : List ℕ) → is_named row.decl.only env ≡ true → new env ≡ true) → AreNamed (take (i + 1) rows) new
+pub named_more : (rows : List Row) (i : ℕ) (row : Row) → i < length rows → row ≡ get_or rows i row → (old new : List ℕ → Bool) → AreNamed (take i rows) old
+    → ((env : List ℕ) → old env ≡ true → new env ≡ true) → (row.by ≡ None → (env : List ℕ) → is_named row.decl.only env ≡ true → new env ≡ true)
+    → AreNamed (take (i + 1) rows) new
 named_more rows i row within is old new so_far kept own place r env stands root named =
     elim (row_cases rows i row within is place r stands) [
       | inl before ↦ kept env (so_far place r env before root named)
       | inr same ↦ own (rw (← same) at root) env (rw (← same) at named)
     ]
 
-pub unnamed_more : (rows : List Row) (i : ℕ) (row : Row) → i < length rows → row ≡ get_or rows i row → (env : List ℕ) → IsUnnamed (take i rows) env → (row.by ≡ None → is_named row.decl.only env ≡ false) → IsUnnamed (take (i + 1) rows) env
+pub unnamed_more : (rows : List Row) (i : ℕ) (row : Row) → i < length rows → row ≡ get_or rows i row → (env : List ℕ) → IsUnnamed (take i rows) env
+    → (row.by ≡ None → is_named row.decl.only env ≡ false) → IsUnnamed (take (i + 1) rows) env
 unnamed_more rows i row within is env so_far own place r stands root =
     elim (row_cases rows i row within is place r stands) [
       | inl before ↦ so_far place r before root
@@ -82,7 +94,8 @@ none_marked n place = elim (cases_lt place n) [
 pub IsTried : List Row → List (Bor (List ℕ)) → ℕ → ℕ → Type 0
 IsTried rows names i other = IsStray rows [] other ⊎ ((k : ℕ) × (name : Bor (List ℕ)) × (k < i) × (get_or names k name ≡ name) × IsStray rows name.now other)
 
-pub tried_first : (rows : List Row) (names : List (Bor (List ℕ))) (n : ℕ) (old new : List Bool) → old ≡ replicate n false → ((q : ℕ) → IsTrue (is_marked new q) ↔ (IsTrue (is_marked old q) ⊎ IsStray rows [] q)) → (q : ℕ) → IsTrue (is_marked new q) ↔ IsTried rows names 0 q
+pub tried_first : (rows : List Row) (names : List (Bor (List ℕ))) (n : ℕ) (old new : List Bool) → old ≡ replicate n false
+    → ((q : ℕ) → IsTrue (is_marked new q) ↔ (IsTrue (is_marked old q) ⊎ IsStray rows [] q)) → (q : ℕ) → IsTrue (is_marked new q) ↔ IsTried rows names 0 q
 unfolding IsTried
 tried_first rows names n old new none tell q = (there, back)
   where
@@ -96,7 +109,10 @@ tried_first rows names n old new none tell q = (there, back)
     back (inl s) = (tell q).1 (inr s)
     back (inr at) = absurd (omega (arith, at.2))
 
-pub tried_more : (rows : List Row) (names : List (Bor (List ℕ))) (i : ℕ) (name : Bor (List ℕ)) → name ≡ get_or names i name → i < length names → (old new : List Bool) → ((q : ℕ) → IsTrue (is_marked old q) ↔ IsTried rows names i q) → ((q : ℕ) → IsTrue (is_marked new q) ↔ (IsTrue (is_marked old q) ⊎ IsStray rows name.now q)) → (q : ℕ) → IsTrue (is_marked new q) ↔ IsTried rows names (i + 1) q
+pub tried_more : (rows : List Row) (names : List (Bor (List ℕ))) (i : ℕ) (name : Bor (List ℕ)) → name ≡ get_or names i name → i < length names
+    → (old new : List Bool) → ((q : ℕ) → IsTrue (is_marked old q) ↔ IsTried rows names i q)
+    → ((q : ℕ) → IsTrue (is_marked new q) ↔ (IsTrue (is_marked old q) ⊎ IsStray rows name.now q)) → (q : ℕ)
+    → IsTrue (is_marked new q) ↔ IsTried rows names (i + 1) q
 unfolding IsTried
 tried_more rows names i name is within old new so_far tell q = (there, back)
   where
@@ -117,7 +133,8 @@ tried_more rows names i name is within old new so_far tell q = (there, back)
 
 -- ---- an environment that the root doesn't name is like any other of these
 
-module _ (rows : List Row) (has : List ℕ → Bool) (named : AreNamed rows has) (env fresh : List ℕ) (none : has env ≡ false) (unnamed : IsUnnamed rows fresh) where
+module _ (rows : List Row) (has : List ℕ → Bool) (named : AreNamed rows has) (env fresh : List ℕ) (none : has env ≡ false)
+    (unnamed : IsUnnamed rows fresh) where
   also_admits : (only : Option (List (List ℕ))) → admits only env ≡ true → (is_named only env ≡ true → ⊥) → admits only fresh ≡ true
   also_admits None h not_named = refl
   also_admits (Some names) h not_named = absurd (not_named h)
@@ -164,14 +181,17 @@ module _ (rows : List Row) (has : List ℕ → Bool) (named : AreNamed rows has)
   unfolding also_stray
   also_place other s = refl
 
-pub tried_all : (rows : List Row) (names : List (Bor (List ℕ))) → AreNamed rows (λ env. list_any (λ name. is_eq (text_cmp env name.now)) names) → IsUnnamed rows [] → (i : ℕ) → length names ≤ i → (marks : List Bool) → ((q : ℕ) → IsTrue (is_marked marks q) ↔ IsTried rows names i q) → (q : ℕ) → IsTrue (is_marked marks q) ↔ IsStraySomewhere rows q
+pub tried_all : (rows : List Row) (names : List (Bor (List ℕ))) → AreNamed rows (λ env. list_any (λ name. is_eq (text_cmp env name.now)) names)
+    → IsUnnamed rows [] → (i : ℕ) → length names ≤ i → (marks : List Bool) → ((q : ℕ) → IsTrue (is_marked marks q) ↔ IsTried rows names i q) → (q : ℕ)
+    → IsTrue (is_marked marks q) ↔ IsStraySomewhere rows q
 unfolding IsTried
 tried_all rows names named unnamed i long marks tell q = (there, back)
   where
     there : is_marked marks q ≡ true → (env : List ℕ) × IsStray rows env q
     there marked = elim ((tell q).0 marked) [ inl s ↦ ([], s) | inr at ↦ (at.1.now, at.4) ]
 
-    tried : (env : List ℕ) → IsStray rows env q → (b : Bool) → list_any (λ (name : Bor (List ℕ)). is_eq (text_cmp env name.now)) names ≡ b → IsStray rows [] q ⊎ ((k : ℕ) × (name : Bor (List ℕ)) × (k < i) × (get_or names k name ≡ name) × IsStray rows name.now q)
+    tried : (env : List ℕ) → IsStray rows env q → (b : Bool) → list_any (λ (name : Bor (List ℕ)). is_eq (text_cmp env name.now)) names ≡ b
+        → IsStray rows [] q ⊎ ((k : ℕ) × (name : Bor (List ℕ)) × (k < i) × (get_or names k name ≡ name) × IsStray rows name.now q)
     tried env s true has =
         let any = Any-from_list_any (λ (name : Bor (List ℕ)). is_eq (text_cmp env name.now)) names has in
         let same : any.1.now ≡ env = same_bytes any.1.now env (sym (ties_bytes env any.1.now) ∙ any.4) in

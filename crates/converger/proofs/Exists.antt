@@ -76,16 +76,19 @@ module _ (rows : List Row) (winners : List ℕ) (versions : List (Option Version
         (dec_and (dec_not (dec_number other place)) (dec_and (dec_isnt (is_ignored winner row)) (dec_not (dec_source row.decl.source winner.decl.source))))
 
     abbrev CompiledDiffers : Row → Row → Type 0
-    CompiledDiffers w r = (other ≢ place) × (IsFalse (is_ignored w r) × ((r.decl.app_file ≢ w.decl.app_file) ⊎ ((r.decl.env ≢ w.decl.env) ⊎ (r.decl.compile ≢ w.decl.compile))))
+    CompiledDiffers w r = (other ≢ place) × (IsFalse (is_ignored w r) ×
+        ((r.decl.app_file ≢ w.decl.app_file) ⊎ ((r.decl.env ≢ w.decl.env) ⊎ (r.decl.compile ≢ w.decl.compile))))
 
     compiled_of : D V2 → CompiledDiffers winner row
     compiled_of (compiled w r also apart kept differs) =
-        subst (λ (x : Row). CompiledDiffers winner x) (one_row w r also) (subst (λ (x : Row). CompiledDiffers x r) (one_winner w r also) (apart, (kept, differs)))
+        subst (λ (x : Row). CompiledDiffers winner x) (one_row w r also)
+            (subst (λ (x : Row). CompiledDiffers x r) (one_winner w r also) (apart, (kept, differs)))
 
     dec_second : IsDecided (D V2)
     dec_second = dec_map (λ h. compiled winner row under h.0 h.1.0 h.1.1) compiled_of
         (dec_and (dec_not (dec_number other place)) (dec_and (dec_isnt (is_ignored winner row))
-        (dec_or (dec_not (dec_bool row.decl.app_file winner.decl.app_file)) (dec_or (dec_not (dec_text row.decl.env winner.decl.env)) (dec_not (dec_compiler row.decl.compile winner.decl.compile))))))
+        (dec_or (dec_not (dec_bool row.decl.app_file winner.decl.app_file))
+            (dec_or (dec_not (dec_text row.decl.env winner.decl.env)) (dec_not (dec_compiler row.decl.compile winner.decl.compile))))))
 
     record Asks (w r : Row) : Type 0 where
       kept : IsFalse (is_ignored w r)
@@ -96,7 +99,8 @@ module _ (rows : List Row) (winners : List ℕ) (versions : List (Option Version
 
     asks_of : D V3 → Asks winner row
     asks_of (version w r known requirement also kept (k, wins, has) asks fails) =
-        let a : Asks w r = record { kept = kept; requirement = requirement; asks = asks; k = k; missed = record { known = known; wins = wins; has = has; fails = fails } } in
+        let a : Asks w r = record { kept = kept; requirement = requirement; asks = asks; k = k; missed =
+            record { known = known; wins = wins; has = has; fails = fails } } in
         subst (λ (x : Row). Asks winner x) (one_row w r also) (subst (λ (x : Row). Asks x r) (one_winner w r also) a)
 
     dec_asks : (o : Option Alternatives) → row.decl.requirement ≡ o → IsDecided (Asks winner row)
@@ -110,7 +114,8 @@ module _ (rows : List Row) (winners : List ℕ) (versions : List (Option Version
         let within = slice_get_within versions a.k (Some missed.known) missed.has in
         let long = length-range_with_len 0 (length versions) in
         (a.kept, (a.k, (a.k, omega (arith, within, long), get_or-range_with_len 0 (length versions) a.k a.k within ∙ zero-add a.k), missed)))
-        (dec_and (dec_isnt (is_ignored winner row)) (dec_some (IsMissed requirement (is_path winner.decl.source) place) (dec_missed requirement (is_path winner.decl.source) place) (range_with_len 0 (length versions))))
+        (dec_and (dec_isnt (is_ignored winner row)) (dec_some (IsMissed requirement (is_path winner.decl.source) place)
+            (dec_missed requirement (is_path winner.decl.source) place) (range_with_len 0 (length versions))))
 
     dec_third : IsDecided (D V3)
     dec_third = dec_map

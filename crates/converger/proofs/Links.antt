@@ -32,53 +32,66 @@ not_declared rows row place h =
     let fails : is_asked_by place row ≡ false = ap (λ (o : Option ℕ). row.required && is_declarer place o) h ∙ and_false row.required in
     ap (λ (b : Bool). filter_map (λ (r : Row). winner_of rows r.app) (cond b (row ∷ []) [])) fails
 
-no_winner_at : (rows : List Row) (row : Row) (b : Bool) → winner_of rows row.app ≡ None → filter_map (λ (r : Row). winner_of rows r.app) (cond b (row ∷ []) []) ≡ []
+no_winner_at : (rows : List Row) (row : Row) (b : Bool) → winner_of rows row.app ≡ None
+    → filter_map (λ (r : Row). winner_of rows r.app) (cond b (row ∷ []) []) ≡ []
 no_winner_at rows row true h = ap (λ (o : Option ℕ). cons_option o []) h
 no_winner_at rows row false h = refl
 
 pub no_winner : (rows : List Row) (row : Row) (place : ℕ) → winner_of rows row.app ≡ None → winners_among rows (is_asked_by place) (row ∷ []) ≡ []
 no_winner rows row place h = no_winner_at rows row (is_asked_by place row) h
 
-winner_at : (rows : List Row) (row : Row) (winner : ℕ) (b : Bool) → winner_of rows row.app ≡ Some winner → filter_map (λ (r : Row). winner_of rows r.app) (cond b (row ∷ []) []) ≡ cond b (winner ∷ []) []
+winner_at : (rows : List Row) (row : Row) (winner : ℕ) (b : Bool) → winner_of rows row.app ≡ Some winner
+    → filter_map (λ (r : Row). winner_of rows r.app) (cond b (row ∷ []) []) ≡ cond b (winner ∷ []) []
 winner_at rows row winner true h = ap (λ (o : Option ℕ). cons_option o []) h
 winner_at rows row winner false h = refl
 
-pub one_link : (rows : List Row) (row : Row) (place by winner : ℕ) → row.required ≡ true → row.by ≡ Some by → winner_of rows row.app ≡ Some winner → winners_among rows (is_asked_by place) (row ∷ []) ≡ cond (eqb place by) (winner ∷ []) []
+pub one_link : (rows : List Row) (row : Row) (place by winner : ℕ) → row.required ≡ true → row.by ≡ Some by → winner_of rows row.app ≡ Some winner
+    → winners_among rows (is_asked_by place) (row ∷ []) ≡ cond (eqb place by) (winner ∷ []) []
 one_link rows row place by winner required declared wins =
     let test : is_asked_by place row ≡ eqb place by = rw (required, declared) refl in
     winner_at rows row winner (is_asked_by place row) wins ∙ ap (λ (b : Bool). cond b (winner ∷ []) []) test
 
 -- ---- a row more
 
-winners_more : (rows : List Row) (test : Row → Bool) (i : ℕ) (row : Row) → i < length rows → row ≡ get_or rows i row → winners_among rows test (take (i + 1) rows) ≡ winners_among rows test (take i rows) ++ winners_among rows test (row ∷ [])
+winners_more : (rows : List Row) (test : Row → Bool) (i : ℕ) (row : Row) → i < length rows → row ≡ get_or rows i row
+    → winners_among rows test (take (i + 1) rows) ≡ winners_among rows test (take i rows) ++ winners_among rows test (row ∷ [])
 winners_more rows test i row within is =
     let wins : Row → Option ℕ = λ r. winner_of rows r.app in
     ap (winners_among rows test) (take_more rows i row within ∙ ap (λ (r : Row). take i rows ++ r ∷ []) (sym is))
     ∙ ap (filter_map wins) (filter-append test (take i rows) (row ∷ []))
     ∙ filter_map-append wins (filter test (take i rows)) (filter test (row ∷ []))
 
-pub link_more : (rows : List Row) (i : ℕ) (row : Row) (place : ℕ) (old new : List (List ℕ)) → i < length rows → row ≡ get_or rows i row → needs_of old place ≡ winners_among rows (is_asked_by place) (take i rows) → needs_of new place ≡ needs_of old place ++ winners_among rows (is_asked_by place) (row ∷ []) → needs_of new place ≡ winners_among rows (is_asked_by place) (take (i + 1) rows)
+pub link_more : (rows : List Row) (i : ℕ) (row : Row) (place : ℕ) (old new : List (List ℕ)) → i < length rows → row ≡ get_or rows i row
+    → needs_of old place ≡ winners_among rows (is_asked_by place) (take i rows)
+    → needs_of new place ≡ needs_of old place ++ winners_among rows (is_asked_by place) (row ∷ [])
+    → needs_of new place ≡ winners_among rows (is_asked_by place) (take (i + 1) rows)
 link_more rows i row place old new within is so_far added =
     added
     ∙ ap (λ (l : List ℕ). l ++ winners_among rows (is_asked_by place) (row ∷ [])) so_far
     ∙ sym (winners_more rows (is_asked_by place) i row within is)
 
-pub start_more : (rows : List Row) (env : List ℕ) (i : ℕ) (row : Row) (old new : List ℕ) → i < length rows → row ≡ get_or rows i row → old ≡ winners_among rows (is_wanted env) (take i rows) → is_wanted env row ≡ true → new ≡ old ++ cons_option (winner_of rows row.app) [] → new ≡ winners_among rows (is_wanted env) (take (i + 1) rows)
+pub start_more : (rows : List Row) (env : List ℕ) (i : ℕ) (row : Row) (old new : List ℕ) → i < length rows → row ≡ get_or rows i row
+    → old ≡ winners_among rows (is_wanted env) (take i rows) → is_wanted env row ≡ true → new ≡ old ++ cons_option (winner_of rows row.app) []
+    → new ≡ winners_among rows (is_wanted env) (take (i + 1) rows)
 start_more rows env i row old new within is so_far wanted added =
-    let one : winners_among rows (is_wanted env) (row ∷ []) ≡ cons_option (winner_of rows row.app) [] = ap (λ (b : Bool). filter_map (λ (r : Row). winner_of rows r.app) (cond b (row ∷ []) [])) wanted in
+    let one : winners_among rows (is_wanted env) (row ∷ []) ≡ cons_option (winner_of rows row.app) [] = ap
+        (λ (b : Bool). filter_map (λ (r : Row). winner_of rows r.app) (cond b (row ∷ []) [])) wanted in
     added
     ∙ ap (λ (l : List ℕ). l ++ cons_option (winner_of rows row.app) []) so_far
     ∙ ap (λ (l : List ℕ). winners_among rows (is_wanted env) (take i rows) ++ l) (sym one)
     ∙ sym (winners_more rows (is_wanted env) i row within is)
 
-pub start_same : (rows : List Row) (env : List ℕ) (i : ℕ) (row : Row) (old : List ℕ) → i < length rows → row ≡ get_or rows i row → old ≡ winners_among rows (is_wanted env) (take i rows) → is_wanted env row ≡ false → old ≡ winners_among rows (is_wanted env) (take (i + 1) rows)
+pub start_same : (rows : List Row) (env : List ℕ) (i : ℕ) (row : Row) (old : List ℕ) → i < length rows → row ≡ get_or rows i row
+    → old ≡ winners_among rows (is_wanted env) (take i rows) → is_wanted env row ≡ false → old ≡ winners_among rows (is_wanted env) (take (i + 1) rows)
 start_same rows env i row old within is so_far unwanted =
-    let none : winners_among rows (is_wanted env) (row ∷ []) ≡ [] = ap (λ (b : Bool). filter_map (λ (r : Row). winner_of rows r.app) (cond b (row ∷ []) [])) unwanted in
+    let none : winners_among rows (is_wanted env) (row ∷ []) ≡ [] = ap (λ (b : Bool). filter_map (λ (r : Row). winner_of rows r.app) (cond b (row ∷ []) []))
+        unwanted in
     nothing_added old (winners_among rows (is_wanted env) (row ∷ [])) none
     ∙ ap (λ (l : List ℕ). l ++ winners_among rows (is_wanted env) (row ∷ [])) so_far
     ∙ sym (winners_more rows (is_wanted env) i row within is)
 
-pub starts_done : (rows : List Row) (env : List ℕ) (i : ℕ) (starts : List ℕ) → length rows ≤ i → starts ≡ winners_among rows (is_wanted env) (take i rows) → starts ≡ starts_of rows env
+pub starts_done : (rows : List Row) (env : List ℕ) (i : ℕ) (starts : List ℕ) → length rows ≤ i → starts ≡ winners_among rows (is_wanted env) (take i rows)
+    → starts ≡ starts_of rows env
 unfolding starts_of
 starts_done rows env i starts past so_far = so_far ∙ ap (winners_among rows (is_wanted env)) (take_all i rows past)
 
@@ -92,7 +105,8 @@ pub links_at : (rows : List Row) (place : ℕ) (d : List ℕ) → place < length
 unfolding links_of
 links_at rows place d within = get_or-map-range_with_len (λ (p : ℕ). winners_among rows (is_asked_by p) rows) 0 (length rows) place place d within (omega arith)
 
-pub links_done : (rows : List Row) (i : ℕ) (links : List (List ℕ)) → length rows ≤ i → length links ≡ length rows → ((place : ℕ) → place < length rows → needs_of links place ≡ winners_among rows (is_asked_by place) (take i rows)) → links ≡ links_of rows
+pub links_done : (rows : List Row) (i : ℕ) (links : List (List ℕ)) → length rows ≤ i → length links ≡ length rows
+    → ((place : ℕ) → place < length rows → needs_of links place ≡ winners_among rows (is_asked_by place) (take i rows)) → links ≡ links_of rows
 links_done rows i links past long each =
     same_lists links (links_of rows) (long ∙ sym (length-links_of rows))
     (λ k d within.
@@ -109,14 +123,17 @@ pub record Brings (rows : List Row) (test : Row → Bool) (part : List Row) (win
   pub passes : test row ≡ true
   pub wins : winner_of rows row.app ≡ Some winner
 
-later_brings : (rows : List Row) (test : Row → Bool) (first : Row) (part : List Row) (winner : ℕ) → Brings rows test part winner → Brings rows test (first ∷ part) winner
+later_brings : (rows : List Row) (test : Row → Bool) (first : Row) (part : List Row) (winner : ℕ) → Brings rows test part winner
+    → Brings rows test (first ∷ part) winner
 later_brings rows test first part winner b = record { place = suc b.place; row = b.row; stands = b.stands; passes = b.passes; wins = b.wins }
 
-pub who_brings : (rows : List Row) (test : Row → Bool) (part : List Row) (winner : ℕ) → Contains (winners_among rows test part) winner → Brings rows test part winner
+pub who_brings : (rows : List Row) (test : Row → Bool) (part : List Row) (winner : ℕ) → Contains (winners_among rows test part) winner
+    → Brings rows test part winner
 who_brings rows test [] winner has = absurd (omega (arith, has.1))
 who_brings rows test (first ∷ part) winner has = at (who_brings rows test part winner) (test first) refl has
   where
-    with_winner : (Contains (winners_among rows test part) winner → Brings rows test part winner) → test first ≡ true → (o : Option ℕ) → winner_of rows first.app ≡ o → Contains (cons_option o (winners_among rows test part)) winner → Brings rows test (first ∷ part) winner
+    with_winner : (Contains (winners_among rows test part) winner → Brings rows test part winner) → test first ≡ true → (o : Option ℕ)
+        → winner_of rows first.app ≡ o → Contains (cons_option o (winners_among rows test part)) winner → Brings rows test (first ∷ part) winner
     with_winner before passes None none among = later_brings rows test first part winner (before among)
     with_winner before passes (Some place) wins among =
         elim (front_or_behind place (winners_among rows test part) winner among) [
@@ -124,11 +141,14 @@ who_brings rows test (first ∷ part) winner has = at (who_brings rows test part
           | inr among_rest ↦ later_brings rows test first part winner (before among_rest)
         ]
 
-    at : (Contains (winners_among rows test part) winner → Brings rows test part winner) → (b : Bool) → test first ≡ b → Contains (filter_map (λ (r : Row). winner_of rows r.app) (cond b (first ∷ filter test part) (filter test part))) winner → Brings rows test (first ∷ part) winner
+    at : (Contains (winners_among rows test part) winner → Brings rows test part winner) → (b : Bool) → test first ≡ b
+        → Contains (filter_map (λ (r : Row). winner_of rows r.app) (cond b (first ∷ filter test part) (filter test part))) winner
+        → Brings rows test (first ∷ part) winner
     at before true passes among = with_winner before passes (winner_of rows first.app) refl among
     at before false fails among = later_brings rows test first part winner (before among)
 
-pub brought : (rows : List Row) (test : Row → Bool) (part : List Row) (winner place : ℕ) (row : Row) → slice_get part place ≡ Some row → test row ≡ true → winner_of rows row.app ≡ Some winner → Contains (winners_among rows test part) winner
+pub brought : (rows : List Row) (test : Row → Bool) (part : List Row) (winner place : ℕ) (row : Row) → slice_get part place ≡ Some row → test row ≡ true
+    → winner_of rows row.app ≡ Some winner → Contains (winners_among rows test part) winner
 brought rows test [] winner place row stands passes wins = absurd (none-some row stands)
 brought rows test (first ∷ part) winner zero row stands passes wins =
     let same : first ≡ row = same_Some first row stands in
@@ -136,13 +156,15 @@ brought rows test (first ∷ part) winner zero row stands passes wins =
     let found : winner_of rows first.app ≡ Some winner = ap (λ (r : Row). winner_of rows r.app) same ∙ wins in
     subst (λ (b : Bool). Contains (filter_map (λ (r : Row). winner_of rows r.app) (cond b (first ∷ filter test part) (filter test part))) winner) (sym here)
     (subst (λ (o : Option ℕ). Contains (cons_option o (winners_among rows test part)) winner) (sym found) (in_front winner (winners_among rows test part)))
-brought rows test (first ∷ part) winner (suc place) row stands passes wins = at (test first) (winner_of rows first.app) (brought rows test part winner place row stands passes wins)
+brought rows test (first ∷ part) winner (suc place) row stands passes wins = at (test first) (winner_of rows first.app)
+    (brought rows test part winner place row stands passes wins)
   where
     behind_option : (o : Option ℕ) (among : List ℕ) → Contains among winner → Contains (cons_option o among) winner
     behind_option None among has = has
     behind_option (Some other) among has = behind other among winner has
 
-    at : (b : Bool) (o : Option ℕ) → Contains (winners_among rows test part) winner → Contains (filter_map (λ (r : Row). winner_of rows r.app) (cond b (first ∷ filter test part) (filter test part))) winner
+    at : (b : Bool) (o : Option ℕ) → Contains (winners_among rows test part) winner
+        → Contains (filter_map (λ (r : Row). winner_of rows r.app) (cond b (first ∷ filter test part) (filter test part))) winner
     at true o has = behind_option (winner_of rows first.app) (winners_among rows test part) has
     at false o has = has
 
@@ -157,9 +179,11 @@ pub links_within : (rows : List Row) → NeedsAreWithin (links_of rows)
 links_within rows k d within =
     let long = length-links_of rows in
     let inside : k < length rows = omega (arith, within, long) in
-    let all : All (λ place. place < length rows) (get_or (links_of rows) k d) = subst (All (λ place. place < length rows)) (sym (links_at rows k d inside)) (winners_within rows (is_asked_by k) rows) in
+    let all : All (λ place. place < length rows) (get_or (links_of rows) k d) = subst (All (λ place. place < length rows)) (sym (links_at rows k d inside))
+        (winners_within rows (is_asked_by k) rows) in
     subst (λ (n : ℕ). All (λ place. place < n) (get_or (links_of rows) k d)) (sym long) all
 
 pub starts_within : (rows : List Row) (env : List ℕ) → All (λ start. start < length (links_of rows)) (starts_of rows env)
 unfolding starts_of
-starts_within rows env = subst (λ (n : ℕ). All (λ place. place < n) (winners_among rows (is_wanted env) rows)) (sym (length-links_of rows)) (winners_within rows (is_wanted env) rows)
+starts_within rows env = subst (λ (n : ℕ). All (λ place. place < n) (winners_among rows (is_wanted env) rows)) (sym (length-links_of rows))
+    (winners_within rows (is_wanted env) rows)

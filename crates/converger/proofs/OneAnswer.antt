@@ -16,7 +16,8 @@ use Rattle.converger.specs.Divergence.Diverges.{source, compiled, version, envir
 use Rattle.converger.specs.Reach.{AreReached, IsReached}
 use Rattle.converger.proofs.OneLemmas.{one_list}
 
-also_reached : (rows : List Row) (env : List ℕ) (places other : List ℕ) → AreReached rows env places → AreReached rows env other → (place : ℕ) → Contains places place → Contains other place
+also_reached : (rows : List Row) (env : List ℕ) (places other : List ℕ) → AreReached rows env places → AreReached rows env other → (place : ℕ)
+    → Contains places place → Contains other place
 also_reached rows env places other are others place has =
     let wins = All-contains (λ (p : ℕ). (row : Row) × IsWinner rows p row × IsReached rows env row.app) places place are.only has in
     others.all place wins.0 wins.1 wins.2
@@ -37,11 +38,13 @@ one_way x y (inl less) (inr (same, lower)) = omega (arith, less, same)
 one_way x y (inr (same, lower)) (inl more) = omega (arith, same, more)
 one_way x y (inr (same, lower)) (inr (also, higher)) = omega (arith, lower, higher)
 
-also_diverges : (rows : List Row) (winners : List ℕ) (versions : List (Option Version)) (list other : List Divergence) → AreDivergences rows winners versions list → AreDivergences rows winners versions other → (d : Divergence) → Contains list d → Contains other d
+also_diverges : (rows : List Row) (winners : List ℕ) (versions : List (Option Version)) (list other : List Divergence)
+    → AreDivergences rows winners versions list → AreDivergences rows winners versions other → (d : Divergence) → Contains list d → Contains other d
 also_diverges rows winners versions list other are others d has =
     others.all d.rule d.winner d.other (All-contains (λ (e : Divergence). Diverges rows winners versions e.rule e.winner e.other) list d are.only has)
 
-pub one_divergence_list : (rows : List Row) (winners : List ℕ) (versions : List (Option Version)) (list other : List Divergence) → AreDivergences rows winners versions list → AreDivergences rows winners versions other → list ≡ other
+pub one_divergence_list : (rows : List Row) (winners : List ℕ) (versions : List (Option Version)) (list other : List Divergence)
+    → AreDivergences rows winners versions list → AreDivergences rows winners versions other → list ≡ other
 unfolding IsBefore
 one_divergence_list rows winners versions list other are others =
     one_list IsBefore one_way list other are.in_order others.in_order
@@ -53,12 +56,14 @@ record StandsAlike (others : List (Option Version)) (k : ℕ) (known : Version) 
   stands : slice_get others k ≡ Some (Some other)
   same : parts_of known ≡ parts_of other
 
-alike : (others : List (Option Version)) (k : ℕ) (known : Version) (at : Option (Option Version)) → slice_get others k ≡ at → Some (Some (parts_of known)) ≡ option_map (option_map parts_of) at → StandsAlike others k known
+alike : (others : List (Option Version)) (k : ℕ) (known : Version) (at : Option (Option Version)) → slice_get others k ≡ at
+    → Some (Some (parts_of known)) ≡ option_map (option_map parts_of) at → StandsAlike others k known
 alike others k known None is same = cc
 alike others k known (Some None) is same = cc
 alike others k known (Some (Some other)) is same = record { other = other; stands = is; same = cc }
 
-stands_alike : (versions others : List (Option Version)) → map (option_map parts_of) versions ≡ map (option_map parts_of) others → (k : ℕ) (known : Version) → slice_get versions k ≡ Some (Some known) → StandsAlike others k known
+stands_alike : (versions others : List (Option Version)) → map (option_map parts_of) versions ≡ map (option_map parts_of) others → (k : ℕ) (known : Version)
+    → slice_get versions k ≡ Some (Some known) → StandsAlike others k known
 stands_alike versions others same k known stands =
     alike others k known (slice_get others k) refl (
     ap (option_map (option_map parts_of)) (sym stands)
@@ -66,11 +71,14 @@ stands_alike versions others same k known stands =
     ∙ ap (λ (ps : List (Option (ℕ × ℕ × ℕ × List ℕ × List ℕ))). slice_get ps k) same
     ∙ slice_get-map (option_map parts_of) others k)
 
-pub by_parts : (rows : List Row) (winners : List ℕ) (versions others : List (Option Version)) → map (option_map parts_of) versions ≡ map (option_map parts_of) others → (rule : Rule) (place other : ℕ) → Diverges rows winners versions rule place other → Diverges rows winners others rule place other
+pub by_parts : (rows : List Row) (winners : List ℕ) (versions others : List (Option Version))
+    → map (option_map parts_of) versions ≡ map (option_map parts_of) others → (rule : Rule) (place other : ℕ) → Diverges rows winners versions rule place other
+    → Diverges rows winners others rule place other
 by_parts rows winners versions others same _ place other (source winner row under apart kept differs) = source winner row under apart kept differs
 by_parts rows winners versions others same _ place other (compiled winner row under apart kept differs) = compiled winner row under apart kept differs
 by_parts rows winners versions others same _ place other (version winner row known requirement under kept (k, wins, stands) asks fails) =
     let found = stands_alike versions others same k known stands in
     version winner row found.other requirement under kept (k, wins, found.stands) asks
     (ap (λ (parts : ℕ × ℕ × ℕ × List ℕ × List ℕ). sat requirement parts (is_path winner.decl.source)) (sym found.same) ∙ fails)
-by_parts rows winners versions others same _ place other (environment by winner row parent env under root barred required declared stands reached) = environment by winner row parent env under root barred required declared stands reached
+by_parts rows winners versions others same _ place other (environment by winner row parent env under root barred required declared stands reached) =
+    environment by winner row parent env under root barred required declared stands reached

@@ -37,7 +37,8 @@ module _ {X : Type 0} (R : X → X → Type 0) (one_way : (x y : X) → R x y �
         | inr after ↦ after
       ]
 
-  pub one_list : (xs ys : List X) → AllPairs R xs → AllPairs R ys → ((x : X) → Contains xs x → Contains ys x) → ((y : X) → Contains ys y → Contains xs y) → xs ≡ ys
+  pub one_list : (xs ys : List X) → AllPairs R xs → AllPairs R ys → ((x : X) → Contains xs x → Contains ys x) → ((y : X) → Contains ys y → Contains xs y)
+      → xs ≡ ys
   one_list [] [] ordered others into back = refl
   one_list [] (y ∷ ys) ordered others into back = let h = back y (in_front y ys) in let within = h.1 in absurd (omega (arith, within))
   one_list (x ∷ xs) [] ordered others into back = let h = into x (in_front x xs) in let within = h.1 in absurd (omega (arith, within))

@@ -45,16 +45,20 @@ module _ (places : List ℕ) (sorted : AllPairs (λ earlier later. earlier < lat
   not_there place at result has = not_at place at result has.0 has.1 (sym (get_or_default places has.0 place 0 has.1) ∙ has.2)
 
   -- the version of a winner
-  pub version_found : (versions : List (Option Version)) (place at : ℕ) → IsBinarySearchResult (λ y. nat_cmp y place) places (Ok at) → (there : Option Version) → at < length versions → there ≡ get_or versions at there → (v : Version) → (there ≡ Some v) ↔ HasVersion places versions place (Some v)
+  pub version_found : (versions : List (Option Version)) (place at : ℕ) → IsBinarySearchResult (λ y. nat_cmp y place) places (Ok at) → (there : Option Version)
+      → at < length versions → there ≡ get_or versions at there → (v : Version) → (there ≡ Some v) ↔ HasVersion places versions place (Some v)
   version_found versions place at result there within read v =
       let found = found_at place at result in
       let stands : slice_get places at ≡ Some place = slice_get-get_or places at 0 found.0 ∙ ap (λ (n : ℕ). Some n) found.1 in
       let has : slice_get versions at ≡ Some there = slice_get_read versions (length versions) at there refl within read in (
         λ h. (at, stands, rw h at has),
         λ other.
-            let here : other.0 ≡ at = strictly other.0 at (slice_get_within places other.0 place other.1) found.0 (get_or_from_slice_get places other.0 place 0 other.1 ∙ sym found.1) in
+            let here : other.0 ≡ at = strictly other.0 at (slice_get_within places other.0 place other.1) found.0
+                (get_or_from_slice_get places other.0 place 0 other.1 ∙ sym found.1) in
             one_value (sym has ∙ rw here at other.2),
       )
 
-  pub version_missing : (versions : List (Option Version)) (place at : ℕ) → IsBinarySearchResult (λ y. nat_cmp y place) places (Err at) → (v : Option Version) → HasVersion places versions place v → ⊥
-  version_missing versions place at result v has = not_at place at result has.0 (slice_get_within places has.0 place has.1) (get_or_from_slice_get places has.0 place 0 has.1)
+  pub version_missing : (versions : List (Option Version)) (place at : ℕ) → IsBinarySearchResult (λ y. nat_cmp y place) places (Err at) → (v : Option Version)
+      → HasVersion places versions place v → ⊥
+  version_missing versions place at result v has = not_at place at result has.0 (slice_get_within places has.0 place has.1)
+      (get_or_from_slice_get places has.0 place 0 has.1)

@@ -36,7 +36,8 @@ unfolding names_at
 named_at None env = refl
 named_at (Some names) env = refl
 
-named_in : (rows : List Row) (place : ℕ) (row : Row) (env : List ℕ) → slice_get rows place ≡ Some row → is_named row.decl.only env ≡ true → list_any (bytes_eq env) (names_in rows) ≡ true
+named_in : (rows : List Row) (place : ℕ) (row : Row) (env : List ℕ) → slice_get rows place ≡ Some row → is_named row.decl.only env ≡ true
+    → list_any (bytes_eq env) (names_in rows) ≡ true
 unfolding names_in
 named_in [] place row env stands named = absurd (none-some row stands)
 named_in (first ∷ rows) zero row env stands named =
@@ -51,7 +52,8 @@ longer_than : (names : List (List ℕ)) (env : List ℕ) → sum_by length names
 longer_than [] env long = refl
 longer_than (name ∷ names) env long =
     let more = sum_by-cons length name names in
-    let here : bytes_eq env name ≡ false = not_same_bytes env name (λ same. let equal = ap (λ (t : List ℕ). length t) same in omega (arith, long, more, equal)) in
+    let here : bytes_eq env name ≡ false = not_same_bytes env name (λ same.
+        let equal = ap (λ (t : List ℕ). length t) same in omega (arith, long, more, equal)) in
     ap (λ (b : Bool). b || list_any (bytes_eq env) names) here ∙ longer_than names env (omega (arith, long, more))
 
 another : List (List ℕ) → List ℕ
@@ -59,7 +61,8 @@ another names = replicate (suc (sum_by length names)) 0
 
 another_isnt : (names : List (List ℕ)) → list_any (bytes_eq (another names)) names ≡ false
 unfolding another
-another_isnt names = longer_than names (replicate (suc (sum_by length names)) 0) (let long = length-replicate {A = ℕ} (suc (sum_by length names)) 0 in omega (arith, long))
+another_isnt names = longer_than names (replicate (suc (sum_by length names)) 0)
+    (let long = length-replicate {A = ℕ} (suc (sum_by length names)) 0 in omega (arith, long))
 
 module _ (rows : List Row) where
   abbrev has_name : List ℕ → Bool
@@ -101,7 +104,8 @@ module _ (rows : List Row) where
       declared : row.by ≡ Some by
       stands : slice_get rows by ≡ Some parent
 
-    abbrev stray_beside : (by : ℕ) (parent : Row) → Beside by parent → (env : List ℕ) → IsFalse (admits winner.decl.only env) × IsReached rows env parent.app → IsStray rows env other
+    abbrev stray_beside : (by : ℕ) (parent : Row) → Beside by parent → (env : List ℕ) → IsFalse (admits winner.decl.only env) × IsReached rows env parent.app
+        → IsStray rows env other
     stray_beside by parent b env h = record {
       place = place;
       by = by;
@@ -117,7 +121,8 @@ module _ (rows : List Row) where
       reached = h.1;
     }
 
-    beside_stray : (by : ℕ) (parent : Row) → Beside by parent → (env : List ℕ) → (s : IsStray rows env other) → s.place ≡ place → IsFalse (admits winner.decl.only env) × IsReached rows env parent.app
+    beside_stray : (by : ℕ) (parent : Row) → Beside by parent → (env : List ℕ) → (s : IsStray rows env other) → s.place ≡ place
+        → IsFalse (admits winner.decl.only env) × IsReached rows env parent.app
     beside_stray by parent b env s same =
         let same_row : s.row ≡ row = one_value (sym s.under.stands ∙ under.stands) in
         let there : slice_get rows place ≡ Some s.winner = rw same at s.under.wins.stands in
@@ -150,7 +155,10 @@ module _ (rows : List Row) where
     one_of_tried : (env : List ℕ) → At env → Some_of tried At
     one_of_tried env s = elim (cases_Bool (has_name env)) [
       | inl named ↦ (env, behind (another (names_in rows)) (names_in rows) env (listed_text (names_in rows) env named), s)
-      | inr not ↦ (another (names_in rows), in_front (another (names_in rows)) (names_in rows), (also_stray rows has_name are_named env (another (names_in rows)) not fresh_unnamed other s.0, also_place rows has_name are_named env (another (names_in rows)) not fresh_unnamed other s.0 ∙ s.1))
+      | inr not ↦
+          let fresh = another (names_in rows) in
+          let same = also_place rows has_name are_named env fresh not fresh_unnamed other s.0 in
+          (fresh, in_front fresh (names_in rows), (also_stray rows has_name are_named env fresh not fresh_unnamed other s.0, same ∙ s.1))
     ]
 
     module _ (winners : List ℕ) (versions : List (Option Version)) where
@@ -160,7 +168,20 @@ module _ (rows : List Row) where
       stray_of : D → (env : List ℕ) × At env
       stray_of (environment by w r parent env also root barred required declared stands reached) = (
         env,
-        (record { place = place; by = by; winner = w; row = r; parent = parent; under = also; root = root; barred = barred; required = required; declared = declared; stands = stands; reached = reached }, refl),
+        (record {
+          place = place;
+          by = by;
+          winner = w;
+          row = r;
+          parent = parent;
+          under = also;
+          root = root;
+          barred = barred;
+          required = required;
+          declared = declared;
+          stands = stands;
+          reached = reached;
+        }, refl),
       )
 
       of_stray : (env : List ℕ) → At env → D
@@ -193,5 +214,6 @@ module _ (rows : List Row) where
       pub dec_v4 : IsDecided D
       dec_v4 = decided (dec_beside row.by refl)
 
-pub dec_stray : (rows : List Row) (winners : List ℕ) (versions : List (Option Version)) (place other : ℕ) (winner row : Row) (under : IsUnder rows place winner other row) → IsDecided (Diverges rows winners versions V4 place other)
+pub dec_stray : (rows : List Row) (winners : List ℕ) (versions : List (Option Version)) (place other : ℕ) (winner row : Row)
+    (under : IsUnder rows place winner other row) → IsDecided (Diverges rows winners versions V4 place other)
 dec_stray rows winners versions place other winner row under = dec_v4 rows place other winner row under winners versions

@@ -18,12 +18,15 @@ use Rattle.converger.proofs.WebLemmas.{one_value}
 -- ---- the row that declares another one
 
 -- it stands before, and wins
-pub declared_by : (listed : Listed) → IsWithinLimit listed → (place by : ℕ) (row : Row) → slice_get listed.rows place ≡ Some row → row.by ≡ Some by → (by < place) × ((parent : Row) × IsWinner listed.rows by parent)
+pub declared_by : (listed : Listed) → IsWithinLimit listed → (place by : ℕ) (row : Row) → slice_get listed.rows place ≡ Some row → row.by ≡ Some by
+    → (by < place) × ((parent : Row) × IsWinner listed.rows by parent)
 declared_by listed within place by row stands declared =
-    let h : IsDeclaredBy listed.winners place (Some by) = subst (IsDeclaredBy listed.winners place) declared (within.well_formed.declared_by place row stands) in
+    let h : IsDeclaredBy listed.winners place (Some by) = subst (IsDeclaredBy listed.winners place) declared
+        (within.well_formed.declared_by place row stands) in
     (h.0, All-contains (λ (p : ℕ). (parent : Row) × IsWinner listed.rows p parent) listed.winners by within.well_formed.winning.only h.1)
 
-pub declared_within : (listed : Listed) → IsWithinLimit listed → (place by : ℕ) (row : Row) → slice_get listed.rows place ≡ Some row → row.by ≡ Some by → by < length listed.rows
+pub declared_within : (listed : Listed) → IsWithinLimit listed → (place by : ℕ) (row : Row) → slice_get listed.rows place ≡ Some row → row.by ≡ Some by
+    → by < length listed.rows
 declared_within listed within place by row stands declared =
     let before = declared_by listed within place by row stands declared in
     omega (arith, before.0, slice_get_within listed.rows place row stands)
@@ -33,11 +36,13 @@ declared_within listed within place by row stands declared =
 stray_row : (rows : List Row) (env : List ℕ) (other : ℕ) (row : Row) → slice_get rows other ≡ Some row → (s : IsStray rows env other) → s.row ≡ row
 stray_row rows env other row stands s = one_value (sym s.under.stands ∙ stands)
 
-stray_winner : (rows : List Row) (env : List ℕ) (other : ℕ) (row : Row) → slice_get rows other ≡ Some row → (s : IsStray rows env other) → winner_of rows row.app ≡ Some s.place
+stray_winner : (rows : List Row) (env : List ℕ) (other : ℕ) (row : Row) → slice_get rows other ≡ Some row → (s : IsStray rows env other)
+    → winner_of rows row.app ≡ Some s.place
 stray_winner rows env other row stands s =
     is_winner rows row.app s.place s.winner s.under.wins (s.under.app ∙ ap (λ (r : Row). r.app) (stray_row rows env other row stands s))
 
-pub no_stray_winner : (rows : List Row) (env : List ℕ) (other : ℕ) (row : Row) → slice_get rows other ≡ Some row → winner_of rows row.app ≡ None → IsStray rows env other → ⊥
+pub no_stray_winner : (rows : List Row) (env : List ℕ) (other : ℕ) (row : Row) → slice_get rows other ≡ Some row → winner_of rows row.app ≡ None
+    → IsStray rows env other → ⊥
 no_stray_winner rows env other row stands none s = let has = stray_winner rows env other row stands s in cc
 
 pub no_stray_by : (rows : List Row) (env : List ℕ) (other : ℕ) (row : Row) → slice_get rows other ≡ Some row → row.by ≡ None → IsStray rows env other → ⊥
@@ -48,7 +53,10 @@ is_none_from : (o : Option ℕ) → is_none o ≡ true → o ≡ None
 is_none_from None h = refl
 is_none_from (Some x) h = absurd (false≢true h)
 
-module _ (rows : List Row) (env reached : List ℕ) (are : AreReachedFrom (links_of rows) (starts_of rows env) reached) (other place by : ℕ) (row winner parent : Row) (stands : slice_get rows other ≡ Some row) (wins : winner_of rows row.app ≡ Some place) (stands_winner : slice_get rows place ≡ Some winner) (declared : row.by ≡ Some by) (parent_wins : IsWinner rows by parent) (has : Bool) (tell : IsTrue has ↔ Contains reached by) where
+module _ (rows : List Row) (env reached : List ℕ) (are : AreReachedFrom (links_of rows) (starts_of rows env) reached) (other place by : ℕ)
+    (row winner parent : Row) (stands : slice_get rows other ≡ Some row) (wins : winner_of rows row.app ≡ Some place)
+    (stands_winner : slice_get rows place ≡ Some winner) (declared : row.by ≡ Some by) (parent_wins : IsWinner rows by parent) (has : Bool)
+    (tell : IsTrue has ↔ Contains reached by) where
   is_there : is_stray_beside winner row has env ≡ true → IsStray rows env other
   is_there h =
       let a = and_parts row.required (is_none winner.by && (has && not (admits winner.decl.only env))) h in
@@ -86,14 +94,17 @@ module _ (rows : List Row) (env reached : List ℕ) (are : AreReachedFrom (links
       let root : winner.by ≡ None = rw same_winner at s.root in
       let barred : admits winner.decl.only env ≡ false = rw same_winner at s.barred in
       let required : row.required ≡ true = rw same_row at s.required in
-      and_from _ _ required (and_from _ _ (ap (λ (o : Option ℕ). is_none o) root) (and_from _ _ (tell.1 ((are.each by).1 there)) (ap (λ (b : Bool). not b) barred)))
+      and_from _ _ required (and_from _ _ (ap (λ (o : Option ℕ). is_none o) root)
+          (and_from _ _ (tell.1 ((are.each by).1 there)) (ap (λ (b : Bool). not b) barred)))
 
   pub stray_is : IsTrue (is_stray_beside winner row has env) ↔ IsStray rows env other
   stray_is = (is_there, is_back)
 
 -- ---- one environment
 
-pub stray_yes : (rows : List Row) (env : List ℕ) (first old : List Bool) (i : ℕ) → i < length old → ((q : ℕ) → IsTrue (is_marked old q) ↔ (IsTrue (is_marked first q) ⊎ ((q < i) × IsStray rows env q))) → IsStray rows env i → (q : ℕ) → IsTrue (is_marked (set old i true) q) ↔ (IsTrue (is_marked first q) ⊎ ((q < i + 1) × IsStray rows env q))
+pub stray_yes : (rows : List Row) (env : List ℕ) (first old : List Bool) (i : ℕ) → i < length old
+    → ((q : ℕ) → IsTrue (is_marked old q) ↔ (IsTrue (is_marked first q) ⊎ ((q < i) × IsStray rows env q))) → IsStray rows env i → (q : ℕ)
+    → IsTrue (is_marked (set old i true) q) ↔ (IsTrue (is_marked first q) ⊎ ((q < i + 1) × IsStray rows env q))
 stray_yes rows env first old i within so_far here q = elim (cases_eq q i) [
   | inl same ↦ (λ marked. inr (omega arith, subst (IsStray rows env) (sym same) here), λ h. rw same (get_or-set_same old i true false within))
   | inr apart ↦
@@ -103,7 +114,9 @@ stray_yes rows env first old i within so_far here q = elim (cases_eq q i) [
       )
 ]
 
-pub stray_no : (rows : List Row) (env : List ℕ) (first old : List Bool) (i : ℕ) → ((q : ℕ) → IsTrue (is_marked old q) ↔ (IsTrue (is_marked first q) ⊎ ((q < i) × IsStray rows env q))) → (IsStray rows env i → ⊥) → (q : ℕ) → IsTrue (is_marked old q) ↔ (IsTrue (is_marked first q) ⊎ ((q < i + 1) × IsStray rows env q))
+pub stray_no : (rows : List Row) (env : List ℕ) (first old : List Bool) (i : ℕ)
+    → ((q : ℕ) → IsTrue (is_marked old q) ↔ (IsTrue (is_marked first q) ⊎ ((q < i) × IsStray rows env q))) → (IsStray rows env i → ⊥) → (q : ℕ)
+    → IsTrue (is_marked old q) ↔ (IsTrue (is_marked first q) ⊎ ((q < i + 1) × IsStray rows env q))
 stray_no rows env first old i so_far none q =
     (λ marked. elim ((so_far q).0 marked) [ inl was ↦ inl was | inr new ↦ inr (omega (arith, new.0), new.1) ], back)
   where
@@ -114,7 +127,9 @@ stray_no rows env first old i so_far none q =
       | inr apart ↦ (so_far q).1 (inr (omega (arith, new.0), new.1))
     ]
 
-pub stray_all : (rows : List Row) (env : List ℕ) (first last : List Bool) (i : ℕ) → length rows ≤ i → ((q : ℕ) → IsTrue (is_marked last q) ↔ (IsTrue (is_marked first q) ⊎ ((q < i) × IsStray rows env q))) → (q : ℕ) → IsTrue (is_marked last q) ↔ (IsTrue (is_marked first q) ⊎ IsStray rows env q)
+pub stray_all : (rows : List Row) (env : List ℕ) (first last : List Bool) (i : ℕ) → length rows ≤ i
+    → ((q : ℕ) → IsTrue (is_marked last q) ↔ (IsTrue (is_marked first q) ⊎ ((q < i) × IsStray rows env q))) → (q : ℕ)
+    → IsTrue (is_marked last q) ↔ (IsTrue (is_marked first q) ⊎ IsStray rows env q)
 stray_all rows env first last i long so_far q = (
   λ marked. elim ((so_far q).0 marked) [ inl was ↦ inl was | inr new ↦ inr new.1 ],
   λ h. (so_far q).1 (elim h [ inl was ↦ inl was | inr s ↦ inr (omega (arith, long, slice_get_within rows q s.row s.under.stands), s) ]),

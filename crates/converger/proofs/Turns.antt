@@ -64,13 +64,16 @@ module _ (listed : Listed) (versions : List (Option Version)) where
   one_a_turn : (d e : Divergence) → turn d ≡ turn e → DivergesIn listed versions d → DivergesIn listed versions e → d ≡ e
   one_a_turn d e same here there =
       let others = same_other d.other e.other d.rule e.rule same in
-      let at : DivergesIn listed versions (made e.rule e.winner d.other) = subst (λ (o : ℕ). DivergesIn listed versions (made e.rule e.winner o)) (sym others) there in
-      same_parts d e (same_rule d.other e.other d.rule e.rule same) (one_place listed.rows listed.winners versions d.rule e.rule d.winner e.winner d.other here at) others
+      let at : DivergesIn listed versions (made e.rule e.winner d.other) = subst (λ (o : ℕ). DivergesIn listed versions (made e.rule e.winner o))
+          (sym others) there in
+      same_parts d e (same_rule d.other e.other d.rule e.rule same) (one_place listed.rows listed.winners versions d.rule e.rule d.winner e.winner d.other here
+          at) others
 
   later : (now : ℕ) (list : List Divergence) → All (IsEarlier now) list → All (IsEarlier (now + 1)) list
   later now list only = All-weaker (IsEarlier now) (IsEarlier (now + 1)) (λ d h. (omega (arith, h.0), h.1)) list only
 
-  pub before_found : (d : Divergence) (list : List Divergence) → AreBefore listed versions (turn d) list → DivergesIn listed versions d → AreBefore listed versions (turn d + 1) (list ++ d ∷ [])
+  pub before_found : (d : Divergence) (list : List Divergence) → AreBefore listed versions (turn d) list → DivergesIn listed versions d
+      → AreBefore listed versions (turn d + 1) (list ++ d ∷ [])
   before_found d list before here = record {
     in_order = all_pairs_push (λ (earlier later : Divergence). turn earlier < turn later) list d before.in_order (λ k e within. (before.only k e within).0);
     only = All-push (IsEarlier (turn d + 1)) list d (later (turn d) list before.only) (omega arith, here);
@@ -80,7 +83,8 @@ module _ (listed : Listed) (versions : List (Option Version)) where
     ];
   }
 
-  pub before_none : (rule : Rule) (other : ℕ) (list : List Divergence) → AreBefore listed versions (turn_of other rule) list → ((place : ℕ) → DivergesIn listed versions (made rule place other) → ⊥) → AreBefore listed versions (turn_of other rule + 1) list
+  pub before_none : (rule : Rule) (other : ℕ) (list : List Divergence) → AreBefore listed versions (turn_of other rule) list
+      → ((place : ℕ) → DivergesIn listed versions (made rule place other) → ⊥) → AreBefore listed versions (turn_of other rule + 1) list
   before_none rule other list before none = record {
     in_order = before.in_order;
     only = later (turn_of other rule) list before.only;
@@ -88,7 +92,8 @@ module _ (listed : Listed) (versions : List (Option Version)) where
       | inl same ↦
           let others = same_other e.other other e.rule rule same in
           let rules = same_rule e.other other e.rule rule same in
-          let moved : DivergesIn listed versions (made rule e.winner other) = subst (λ (o : ℕ). DivergesIn listed versions (made rule e.winner o)) others (subst (λ (r : Rule). DivergesIn listed versions (made r e.winner e.other)) rules diverges) in
+          let moved : DivergesIn listed versions (made rule e.winner other) = subst (λ (o : ℕ). DivergesIn listed versions (made rule e.winner o)) others
+              (subst (λ (r : Rule). DivergesIn listed versions (made r e.winner e.other)) rules diverges) in
           absurd (none e.winner moved)
       | inr apart ↦ before.all e (omega (arith, less, apart)) diverges
     ];
@@ -112,7 +117,8 @@ module _ (listed : Listed) (versions : List (Option Version)) where
         inr (same, omega (arith, less, same, rank_of a.rule, rank_of b.rule))
   ]
 
-  pub before_all : (n : ℕ) (list : List Divergence) → length listed.rows ≤ n → AreBefore listed versions (turn_of n V1) list → AreDivergences listed.rows listed.winners versions list
+  pub before_all : (n : ℕ) (list : List Divergence) → length listed.rows ≤ n → AreBefore listed versions (turn_of n V1) list
+      → AreDivergences listed.rows listed.winners versions list
   before_all n list long before = record {
     in_order = λ i j d less within. in_order (get_or list i d) (get_or list j d) (before.in_order i j d less within);
     only = λ k d within. (before.only k d within).1;

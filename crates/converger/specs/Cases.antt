@@ -20,7 +20,8 @@ ComesFromElsewhere winner row = IsFalse (is_ignored winner row) × (row.decl.sou
 
 -- the row is compiled otherwise
 abbrev pub IsCompiledOtherwise : Row → Row → Type 0
-IsCompiledOtherwise winner row = IsFalse (is_ignored winner row) × ((row.decl.app_file ≢ winner.decl.app_file) ⊎ ((row.decl.env ≢ winner.decl.env) ⊎ (row.decl.compile ≢ winner.decl.compile)))
+IsCompiledOtherwise winner row = IsFalse (is_ignored winner row)
+    × ((row.decl.app_file ≢ winner.decl.app_file) ⊎ ((row.decl.env ≢ winner.decl.env) ⊎ (row.decl.compile ≢ winner.decl.compile)))
 
 -- the row asks for another version than the winner has
 pub record AsksOtherwise (winner row : Row) (found : Option Version) : Type 0 where

@@ -36,13 +36,20 @@ pub record IsUnder (rows : List Row) (place : ℕ) (winner : Row) (other : ℕ) 
 -- the rules by which a row can't live together with the winner of its app
 pub data Diverges (rows : List Row) (winners : List ℕ) (versions : List (Option Version)) : Rule → ℕ → ℕ → Type 0 where
   -- it comes from elsewhere
-  source : {place other : ℕ} (winner row : Row) → IsUnder rows place winner other row → other ≢ place → IsFalse (is_ignored winner row) → row.decl.source ≢ winner.decl.source → Diverges rows winners versions V1 place other
+  source : {place other : ℕ} (winner row : Row) → IsUnder rows place winner other row → other ≢ place → IsFalse (is_ignored winner row)
+      → row.decl.source ≢ winner.decl.source → Diverges rows winners versions V1 place other
   -- it is compiled otherwise
-  compiled : {place other : ℕ} (winner row : Row) → IsUnder rows place winner other row → other ≢ place → IsFalse (is_ignored winner row) → (row.decl.app_file ≢ winner.decl.app_file) ⊎ ((row.decl.env ≢ winner.decl.env) ⊎ (row.decl.compile ≢ winner.decl.compile)) → Diverges rows winners versions V2 place other
+  compiled : {place other : ℕ} (winner row : Row) → IsUnder rows place winner other row → other ≢ place → IsFalse (is_ignored winner row)
+      → (row.decl.app_file ≢ winner.decl.app_file) ⊎ ((row.decl.env ≢ winner.decl.env) ⊎ (row.decl.compile ≢ winner.decl.compile))
+      → Diverges rows winners versions V2 place other
   -- it asks for another version. It may be the winner itself; pre-releases are taken of a folder alone
-  version : {place other : ℕ} (winner row : Row) (version : Version) (requirement : Alternatives) → IsUnder rows place winner other row → IsFalse (is_ignored winner row) → HasVersion winners versions place (Some version) → row.decl.requirement ≡ Some requirement → IsFalse (sat requirement (parts_of version) (is_path winner.decl.source)) → Diverges rows winners versions V3 place other
+  version : {place other : ℕ} (winner row : Row) (version : Version) (requirement : Alternatives) → IsUnder rows place winner other row → IsFalse (is_ignored winner row)
+      → HasVersion winners versions place (Some version) → row.decl.requirement ≡ Some requirement
+      → IsFalse (sat requirement (parts_of version) (is_path winner.decl.source)) → Diverges rows winners versions V3 place other
   -- it is reached in an environment that the winner, in the root, isn't for
-  environment : {place other : ℕ} (by : ℕ) (winner row parent : Row) (env : List ℕ) → IsUnder rows place winner other row → winner.by ≡ None → IsFalse (admits winner.decl.only env) → IsTrue row.required → row.by ≡ Some by → slice_get rows by ≡ Some parent → IsReached rows env parent.app → Diverges rows winners versions V4 place other
+  environment : {place other : ℕ} (by : ℕ) (winner row parent : Row) (env : List ℕ) → IsUnder rows place winner other row
+      → winner.by ≡ None → IsFalse (admits winner.decl.only env) → IsTrue row.required → row.by ≡ Some by → slice_get rows by ≡ Some parent
+      → IsReached rows env parent.app → Diverges rows winners versions V4 place other
 
 -- the order of the rules
 abbrev pub rank : Rule → ℕ
@@ -55,7 +62,8 @@ rank V4 = 4
 pub record AreDivergences (rows : List Row) (winners : List ℕ) (versions : List (Option Version)) (list : List Divergence) : Type 0 where
   pub in_order : AllPairs (λ earlier later. (earlier.other < later.other) ⊎ ((earlier.other ≡ later.other) × (rank earlier.rule < rank later.rule))) list
   pub only : All (λ d. Diverges rows winners versions d.rule d.winner d.other) list
-  pub all : (rule : Rule) (place other : ℕ) → Diverges rows winners versions rule place other → Contains list (record { rule = rule; winner = place; other = other })
+  pub all : (rule : Rule) (place other : ℕ) → Diverges rows winners versions rule place other
+      → Contains list (record { rule = rule; winner = place; other = other })
 
 -- the first winner that has no version, and its app
 pub record IsWithoutVersion (rows : List Row) (winners : List ℕ) (versions : List (Option Version)) (app : List ℕ) : Type 0 where

@@ -35,7 +35,8 @@ is_named (Some names) env = list_any (bytes_eq env) names
 
 -- the texts that pass the test are all environments that the root names
 abbrev pub AreNamed : List Row → (List ℕ → Bool) → Type 0
-AreNamed rows has = (place : ℕ) (row : Row) (env : List ℕ) → slice_get rows place ≡ Some row → row.by ≡ None → IsTrue (is_named row.decl.only env) → IsTrue (has env)
+AreNamed rows has = (place : ℕ) (row : Row) (env : List ℕ) → slice_get rows place ≡ Some row → row.by ≡ None
+    → IsTrue (is_named row.decl.only env) → IsTrue (has env)
 
 -- the root doesn't name the environment
 abbrev pub IsUnnamed : List Row → List ℕ → Type 0

@@ -22,7 +22,8 @@ pub(crate) struct Case<'a> {
 impl Case<'_> {
     /// Whether the rule meets.
     pub(crate) fn meets(&self, rule: Rule) -> bool
-        ensures { IsTrue result ↔ Meets rule self.now.winner.now self.now.row.now self.now.is_winner (option_copied self.now.version) self.now.is_stray }
+        ensures { IsTrue result ↔ Meets rule self.now.winner.now self.now.row.now self.now.is_winner
+            (option_copied self.now.version) self.now.is_stray }
     {
         match rule {
             Rule::V1 => !self.is_winner && comes_from_elsewhere(self.winner, self.row),

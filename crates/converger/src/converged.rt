@@ -81,14 +81,15 @@ pub fn converge(alloc: Global, rows: Rows, versions: Versions) -> Result<Converg
     Ok(Converged { rows, versions })
 }
 
-/// All declarations that can't live together with the winners of their apps, by row and then by rule.
+/// All declarations that can't live together with the winners of their apps, by row and then by
+/// rule.
 pub fn divergences(
     alloc: Global,
     rows: &Rows,
     versions: &[Option<Version>],
 ) -> Result<Divergences, AllocError>
     requires { length versions.now ≡ length rows.now.winners }
-    ensures { IfOk result (λ list. AreDivergences rows.now.rows rows.now.winners versions.now list) }
+    ensures { IfOk result (AreDivergences rows.now.rows rows.now.winners versions.now) }
 {
     let web = web_of(alloc, rows)?;
     let strays = strays(alloc, &web)?;
@@ -106,8 +107,10 @@ fn app_without_version(
     versions: &[Option<Version>],
 ) -> Result<Option<AppName>, AllocError>
     requires { length versions.now ≡ length rows.now.winners }
-    ensures none { IfOk result (λ found. IfNone found (All (λ version. IsSome version) versions.now)) }
-    ensures app { IfOk result (λ found. IfSome found (IsWithoutVersion rows.now.rows rows.now.winners versions.now)) }
+    ensures none { IfOk result (λ found.
+        IfNone found (All (λ version. IsSome version) versions.now)) }
+    ensures app { IfOk result (λ found.
+        IfSome found (IsWithoutVersion rows.now.rows rows.now.winners versions.now)) }
 {
     let Some(at) = first_none(versions) else {
         return Ok(None);
@@ -128,7 +131,8 @@ fn first_none(versions: &[Option<Version>]) -> Option<usize>
     ensures none { IfNone result (All (λ version. IsSome version) versions.now) }
     ensures within { IfSome result (λ at. at < length versions.now) }
     ensures is { IfSome result (λ at. slice_get versions.now at ≡ Some None) }
-    ensures first { IfSome result (λ at. (k : ℕ) → k < at → slice_get versions.now k ≡ Some None → ⊥) }
+    ensures first { IfSome result (λ at.
+        (k : ℕ) → k < at → slice_get versions.now k ≡ Some None → ⊥) }
 {
     for (at, version) in versions.iter().enumerate() {
         if version.is_none() {

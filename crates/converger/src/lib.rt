@@ -1,8 +1,8 @@
 //! The rules by which declarations of one app live together, and what an environment reaches.
 //!
-//! It stands on the rows of `dep_rows` and on the reach of `dep_order`. A layer above may rely on this: `converge`
-//! refuses exactly where a rule meets, with all divergences, and `for_env` lists exactly the winners that an
-//! environment reaches.
+//! It stands on the rows of `dep_rows` and on the reach of `dep_order`. A layer above may rely on
+//! this: `converge` refuses exactly where a rule meets, with all divergences, and `for_env` lists
+//! exactly the winners that an environment reaches.
 #![tactic(auto)]
 
 mod cases;

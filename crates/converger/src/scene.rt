@@ -24,7 +24,8 @@ impl Scene<'_> {
     /// All divergences, by row and then by rule.
     pub(crate) fn divergences(&self, alloc: Global) -> Result<Divergences, AllocError>
         requires { IsScene self.now.rows.now self.now.versions.now self.now.strays.now }
-        ensures { IfOk result (AreDivergences self.now.rows.now.rows self.now.rows.now.winners self.now.versions.now) }
+        ensures { IfOk result
+            (AreDivergences self.now.rows.now.rows self.now.rows.now.winners self.now.versions.now) }
     {
         let mut list = Divergences::new(alloc);
         for other in 0..self.rows.rows().len() {
@@ -39,8 +40,10 @@ impl Scene<'_> {
     fn add(&self, list: &mut Divergences, rule: Rule, other: usize) -> Result<(), AllocError>
         requires scene { IsScene self.now.rows.now self.now.versions.now self.now.strays.now }
         requires other { other < length self.now.rows.now.rows }
-        requires before { AreBefore self.now.rows.now self.now.versions.now (turn_of other rule) list.old }
-        ensures { OnOk result (AreBefore self.now.rows.now self.now.versions.now (turn_of other rule + 1) list.new) }
+        requires before { AreBefore self.now.rows.now self.now.versions.now
+            (turn_of other rule) list.old }
+        ensures { OnOk result (AreBefore self.now.rows.now self.now.versions.now
+            (turn_of other rule + 1) list.new) }
     {
         if let Some(winner) = self.diverging(rule, other) {
             list.push(Divergence {
@@ -73,7 +76,8 @@ impl Scene<'_> {
         requires scene { IsScene self.now.rows.now self.now.versions.now self.now.strays.now }
         requires under { IsUnderAt self.now.rows.now.rows place other }
         ensures { (rule : Rule) →
-            Meets rule result.winner.now result.row.now result.is_winner (option_copied result.version) result.is_stray
+            Meets rule result.winner.now result.row.now result.is_winner
+                (option_copied result.version) result.is_stray
             ↔ Diverges self.now.rows.now.rows self.now.rows.now.winners self.now.versions.now rule place other }
     {
         Case {
@@ -94,7 +98,8 @@ fn version_of<'a>(
 ) -> Option<&'a Version>
     requires sorted { AllPairs (λ earlier later. earlier < later) winners.now }
     requires long { length versions.now ≡ length winners.now }
-    ensures { (version : Version) → (option_copied result ≡ Some version) ↔ HasVersion winners.now versions.now place (Some version) }
+    ensures { (version : Version) → (option_copied result ≡ Some version)
+        ↔ HasVersion winners.now versions.now place (Some version) }
 {
     match winners.binary_search(&place) {
         Ok(at) => versions[at].as_ref(),

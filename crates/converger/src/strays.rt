@@ -41,7 +41,8 @@ fn add_strays(
     requires { length strays.old.items ≡ length web.now.rows.now.rows }
     ensures long { length strays.new.items ≡ length strays.old.items }
     ensures marks { OnOk result ((other : ℕ) → IsTrue (is_marked strays.new.items other)
-        ↔ (IsTrue (is_marked strays.old.items other) ⊎ IsStray web.now.rows.now.rows env.now other)) }
+        ↔ (IsTrue (is_marked strays.old.items other)
+            ⊎ IsStray web.now.rows.now.rows env.now other)) }
 {
     let reached = reach(alloc, web, env)?;
     for other in 0..web.rows.rows().len() {
@@ -60,7 +61,8 @@ fn mark(marks: &mut Vec<bool>, place: usize)
 }
 
 fn is_stray(rows: &Rows, reached: &[usize], env: &str, other: usize) -> bool
-    requires reached { AreReachedFrom (links_of rows.now.rows) (starts_of rows.now.rows env.now) reached.now }
+    requires reached { AreReachedFrom (links_of rows.now.rows)
+        (starts_of rows.now.rows env.now) reached.now }
     requires other { other < length rows.now.rows }
     ensures { IsTrue result ↔ IsStray rows.now.rows env.now other }
 {
@@ -95,7 +97,8 @@ fn is_stray_beside(winner: &Row, row: &Row, is_reached: bool, env: &str) -> bool
 
 /// The environments that the root names, each once.
 fn named<'a>(alloc: Global, rows: &'a [Row]) -> Result<Vec<&'a str>, AllocError>
-    ensures named { IfOk result (λ names. AreNamed rows.now (λ env. list_any (λ name. is_eq (text_cmp env name.now)) names.items)) }
+    ensures named { IfOk result (λ names. AreNamed rows.now (λ env.
+        list_any (λ name. is_eq (text_cmp env name.now)) names.items)) }
     ensures unnamed { IfOk result (λ _. IsUnnamed rows.now []) }
 {
     let mut names = BTreeSet::new(alloc);
@@ -114,7 +117,8 @@ fn listed<'a>(alloc: Global, names: BTreeSet<&'a str>) -> Result<Vec<&'a str>, A
 }
 
 fn add_names<'a>(names: &mut BTreeSet<&'a str>, only: &'a Option<Names>) -> Result<(), AllocError>
-    ensures names { OnOk result ((env : List ℕ) → contains_by (λ name. text_cmp env name.now) names.new
+    ensures names { OnOk result ((env : List ℕ) →
+        contains_by (λ name. text_cmp env name.now) names.new
         ≡ (contains_by (λ name. text_cmp env name.now) names.old || is_named only.now env)) }
     ensures not_empty { OnOk result (IsFalse (is_named only.now [])) }
 {
@@ -125,8 +129,10 @@ fn add_names<'a>(names: &mut BTreeSet<&'a str>, only: &'a Option<Names>) -> Resu
 }
 
 fn add_all<'a>(names: &mut BTreeSet<&'a str>, only: &'a [AppName]) -> Result<(), AllocError>
-    ensures names { OnOk result ((env : List ℕ) → contains_by (λ name. text_cmp env name.now) names.new
-        ≡ (contains_by (λ name. text_cmp env name.now) names.old || list_any (bytes_eq env) only.now)) }
+    ensures names { OnOk result ((env : List ℕ) →
+        contains_by (λ name. text_cmp env name.now) names.new
+        ≡ (contains_by (λ name. text_cmp env name.now) names.old
+            || list_any (bytes_eq env) only.now)) }
     ensures not_empty { OnOk result (IsFalse (list_any (bytes_eq []) only.now)) }
 {
     for name in only {

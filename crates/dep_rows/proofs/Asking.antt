@@ -38,20 +38,23 @@ both_told None P Q step h = h
 both_told (Some told) P Q step h = step h
 
 -- the winner's children are refused
-pub hinders : {Known Fault : Type 0} (children_of : Known → ChildrenOf Fault) (blame : Fault → Blame) (meaning : Option Known) (winner : ℕ) (row : Row) (rows : List Row) (fault : Fault) →
+pub hinders : {Known Fault : Type 0} (children_of : Known → ChildrenOf Fault) (blame : Fault → Blame) (meaning : Option Known) (winner : ℕ) (row : Row)
+    (rows : List Row) (fault : Fault) →
     slice_get rows winner ≡ Some row → IfSome meaning (λ known. blame fault ≡ Input → children_of known row.app row.decl (Err fault)) →
     IfSome meaning (λ known. Hinders blame (children_of known) rows winner (Children fault))
 hinders children_of blame None winner row rows fault stands refused = tt
 hinders children_of blame (Some known) winner row rows fault stands refused = (row, stands, refused)
 
 -- the winner's children are too many
-pub overflows : {Known Fault : Type 0} (children_of : Known → ChildrenOf Fault) (blame : Fault → Blame) (meaning : Option Known) (winner : ℕ) (row : Row) (rows : List Row) (decls : List Decl) →
+pub overflows : {Known Fault : Type 0} (children_of : Known → ChildrenOf Fault) (blame : Fault → Blame) (meaning : Option Known) (winner : ℕ) (row : Row)
+    (rows : List Row) (decls : List Decl) →
     slice_get rows winner ≡ Some row → IfSome meaning (λ known. children_of known row.app row.decl (Ok decls)) → most_rows < length rows + length decls →
     IfSome meaning (λ known. Hinders blame (children_of known) rows winner TooManyRows)
 overflows children_of blame None winner row rows decls stands declared many = tt
 overflows children_of blame (Some known) winner row rows decls stands declared many = (row, decls, stands, declared, many)
 
-pub root_stands : {Known Fault : Type 0} (children_of : Known → ChildrenOf Fault) (meaning : Option Known) (root : List Decl) → length root ≤ most_rows → Stands children_of meaning root (rows_from None 0 root) (next_winners [] (rows_from None 0 root)) 0
+pub root_stands : {Known Fault : Type 0} (children_of : Known → ChildrenOf Fault) (meaning : Option Known) (root : List Decl) → length root ≤ most_rows
+    → Stands children_of meaning root (rows_from None 0 root) (next_winners [] (rows_from None 0 root)) 0
 root_stands children_of meaning root few =
     let long = length-rows_from None 0 root in
     record {
@@ -63,7 +66,9 @@ root_stands children_of meaning root few =
     }
 
 -- the rows of the root, before a winner is asked
-pub stands_root : {Known Fault : Type 0} (children_of : Known → ChildrenOf Fault) (meaning : Option Known) (root decls : List Decl) (no_rows rows : List Row) (nowhere winners : List ℕ) → no_rows ≡ [] → nowhere ≡ [] → decls ≡ root → rows ≡ no_rows ++ rows_from None 0 decls → winners ≡ nowhere ++ next_winners no_rows (rows_from None 0 decls) → length root ≤ most_rows → Stands children_of meaning root rows winners 0
+pub stands_root : {Known Fault : Type 0} (children_of : Known → ChildrenOf Fault) (meaning : Option Known) (root decls : List Decl) (no_rows rows : List Row)
+    (nowhere winners : List ℕ) → no_rows ≡ [] → nowhere ≡ [] → decls ≡ root → rows ≡ no_rows ++ rows_from None 0 decls
+    → winners ≡ nowhere ++ next_winners no_rows (rows_from None 0 decls) → length root ≤ most_rows → Stands children_of meaning root rows winners 0
 stands_root children_of meaning root decls no_rows rows nowhere winners none at_none same rows_are winners_are few =
     let all_rows : rows ≡ rows_from None 0 root = rows_are ∙ ap (λ (rs : List Row). rs ++ rows_from None 0 decls) none ∙ ap (λ (ds : List Decl). rows_from None 0 ds) same in
     let all_winners : winners ≡ next_winners [] (rows_from None 0 root) =
@@ -85,7 +90,8 @@ module _ {Known Fault : Type 0} (children_of : Known → ChildrenOf Fault) (mean
   left_is : drop asked winners ≡ winner ∷ drop (asked + 1) winners
   left_is = drop_more winners asked winner next ∙ ap (λ (n : ℕ). n ∷ drop (asked + 1) winners) (sym is)
 
-  next_told : (children : ChildrenOf Fault) → AreRowsSoFar children root rows (take asked winners) (drop asked winners) → AreRowsSoFar children root rows (take asked winners) (winner ∷ drop (asked + 1) winners)
+  next_told : (children : ChildrenOf Fault) → AreRowsSoFar children root rows (take asked winners) (drop asked winners)
+      → AreRowsSoFar children root rows (take asked winners) (winner ∷ drop (asked + 1) winners)
   next_told children so_far = subst (λ (ws : List ℕ). AreRowsSoFar children root rows (take asked winners) ws) left_is so_far
 
   asked_more : (more : List ℕ) → take (asked + 1) (winners ++ more) ≡ take asked winners ++ winner ∷ []
@@ -98,7 +104,8 @@ module _ {Known Fault : Type 0} (children_of : Known → ChildrenOf Fault) (mean
   has_winner = subst (λ (n : ℕ). Contains winners n) (sym is) (Contains-get_or winners asked winner next)
 
   -- its children came
-  pub stands_more : (new_rows : List Row) (new_winners : List ℕ) → BringsIn children_of meaning winner rows new_rows winners new_winners → Stands children_of meaning root new_rows new_winners (asked + 1)
+  pub stands_more : (new_rows : List Row) (new_winners : List ℕ) → BringsIn children_of meaning winner rows new_rows winners new_winners
+      → Stands children_of meaning root new_rows new_winners (asked + 1)
   stands_more new_rows new_winners brings =
       let block = rows_from (Some winner) 0 brings.decls in
       let new = next_winners rows block in
@@ -127,7 +134,8 @@ module _ {Known Fault : Type 0} (children_of : Known → ChildrenOf Fault) (mean
       (subst (λ (ws : List ℕ). Stands children_of meaning root (rows ++ block) ws (asked + 1)) (sym brings.winners) all)
 
   -- its children can't come
-  pub stands_hindered : (blame : Fault → Blame) (error : RowsError Fault) → IfSome meaning (λ known. Hinders blame (children_of known) rows winner error) → IfSome meaning (λ known. rows_blame blame error ≡ Input → IsListing (children_of known) root (Err error))
+  pub stands_hindered : (blame : Fault → Blame) (error : RowsError Fault) → IfSome meaning (λ known. Hinders blame (children_of known) rows winner error)
+      → IfSome meaning (λ known. rows_blame blame error ≡ Input → IsListing (children_of known) root (Err error))
   stands_hindered blame error hindered =
       both_told meaning (λ known. Hinders blame (children_of known) rows winner error) (λ known. rows_blame blame error ≡ Input → IsListing (children_of known) root (Err error))
       (if_told meaning
@@ -137,7 +145,9 @@ module _ {Known Fault : Type 0} (children_of : Known → ChildrenOf Fault) (mean
       stands.told)
       hindered
     where
-      cause : (children : ChildrenOf Fault) (error : RowsError Fault) → AreRowsSoFar children root rows (take asked winners) (winner ∷ drop (asked + 1) winners) → Hinders blame children rows winner error → rows_blame blame error ≡ Input → IsListing children root (Err error)
+      cause : (children : ChildrenOf Fault) (error : RowsError Fault)
+          → AreRowsSoFar children root rows (take asked winners) (winner ∷ drop (asked + 1) winners) → Hinders blame children rows winner error
+          → rows_blame blame error ≡ Input → IsListing children root (Err error)
       cause children (Children fault) so_far (row, there, ends) input =
           record { rows = rows; asked = take asked winners; winner = winner; later = drop (asked + 1) winners; row = row; so_far = so_far; few = stands.few; stands = there; answer = ends input }
       cause children TooManyRows so_far (row, decls, there, answer, many) input =
@@ -153,7 +163,9 @@ module _ {Known Fault : Type 0} (children_of : Known → ChildrenOf Fault) (mean
       cause children OutOfMemory so_far h input = cc
 
 -- all winners were asked
-pub stands_end : {Known Fault : Type 0} (children_of : Known → ChildrenOf Fault) (meaning : Option Known) (root : List Decl) (rows : List Row) (winners : List ℕ) (asked : ℕ) → Stands children_of meaning root rows winners asked → length winners ≤ asked → IfSome meaning (λ known. AreRows (children_of known) root rows winners)
+pub stands_end : {Known Fault : Type 0} (children_of : Known → ChildrenOf Fault) (meaning : Option Known) (root : List Decl) (rows : List Row)
+    (winners : List ℕ) (asked : ℕ) → Stands children_of meaning root rows winners asked → length winners ≤ asked
+    → IfSome meaning (λ known. AreRows (children_of known) root rows winners)
 stands_end children_of meaning root rows winners asked stands past =
     if_told meaning
     (λ known. AreRowsSoFar (children_of known) root rows (take asked winners) (drop asked winners))
@@ -164,13 +176,18 @@ stands_end children_of meaning root rows winners asked stands past =
     stands.told
 
 -- the root alone passes the limit
-pub root_many : {Known Fault : Type 0} (children_of : Known → ChildrenOf Fault) (meaning : Option Known) (blame : Fault → Blame) (root : List Decl) → most_rows < length root → IfSome meaning (λ known. rows_blame blame TooManyRows ≡ Input → IsListing (children_of known) root (Err TooManyRows))
+pub root_many : {Known Fault : Type 0} (children_of : Known → ChildrenOf Fault) (meaning : Option Known) (blame : Fault → Blame) (root : List Decl)
+    → most_rows < length root → IfSome meaning (λ known. rows_blame blame TooManyRows ≡ Input → IsListing (children_of known) root (Err TooManyRows))
 root_many children_of meaning blame root many =
     let long = length-rows_from None 0 root in
     if_any meaning (λ known. rows_blame blame TooManyRows ≡ Input → IsListing (children_of known) root (Err TooManyRows))
     (λ known input. record { rows = rows_from None 0 root; asked = []; later = next_winners [] (rows_from None 0 root); so_far = so_far_root (children_of known) root; many = omega (arith, many, long) })
 
-pub brings_in : {Known Fault : Type 0} (children_of : Known → ChildrenOf Fault) (meaning : Option Known) (winner : ℕ) (row : Row) (decls : List Decl) (old_rows new_rows : List Row) (old_winners new_winners : List ℕ) → slice_get old_rows winner ≡ Some row → IfSome meaning (λ known. children_of known row.app row.decl (Ok decls)) → new_rows ≡ old_rows ++ rows_from (Some winner) 0 decls → new_winners ≡ old_winners ++ next_winners old_rows (rows_from (Some winner) 0 decls) → length old_rows + length decls ≤ most_rows → BringsIn children_of meaning winner old_rows new_rows old_winners new_winners
+pub brings_in : {Known Fault : Type 0} (children_of : Known → ChildrenOf Fault) (meaning : Option Known) (winner : ℕ) (row : Row) (decls : List Decl)
+    (old_rows new_rows : List Row) (old_winners new_winners : List ℕ) → slice_get old_rows winner ≡ Some row
+    → IfSome meaning (λ known. children_of known row.app row.decl (Ok decls)) → new_rows ≡ old_rows ++ rows_from (Some winner) 0 decls
+    → new_winners ≡ old_winners ++ next_winners old_rows (rows_from (Some winner) 0 decls) → length old_rows + length decls ≤ most_rows
+    → BringsIn children_of meaning winner old_rows new_rows old_winners new_winners
 brings_in children_of meaning winner row decls old_rows new_rows old_winners new_winners stands answer rows_are winners_are few =
     let long : length new_rows ≡ length old_rows + length decls = ap length rows_are ∙ length-append old_rows (rows_from (Some winner) 0 decls) ∙ ap (λ (n : ℕ). length old_rows + n) (length-rows_from (Some winner) 0 decls) in
     record {
@@ -184,6 +201,8 @@ brings_in children_of meaning winner row decls old_rows new_rows old_winners new
     }
 
 -- an error that is handed on
-pub told_on : {Known X E : Type 0} (meaning : Option Known) (blame : E → Blame) (Is : Known → Result X E → Type 0) (result : Result X E) (error : E) → IsErrAnd result (λ e. e ≡ error) → IfSome meaning (λ known. blame error ≡ Input → Is known (Err error)) → IfSome meaning (λ known. Answers blame result (Is known))
+pub told_on : {Known X E : Type 0} (meaning : Option Known) (blame : E → Blame) (Is : Known → Result X E → Type 0) (result : Result X E) (error : E)
+    → IsErrAnd result (λ e. e ≡ error) → IfSome meaning (λ known. blame error ≡ Input → Is known (Err error))
+    → IfSome meaning (λ known. Answers blame result (Is known))
 told_on meaning blame Is (Ok x) error is refused = absurd is
 told_on meaning blame Is (Err e) error is refused = subst (λ x. IfSome meaning (λ known. blame x ≡ Input → Is known (Err x))) (sym is) refused

@@ -13,7 +13,8 @@ pub length-rows_from : (by : Option ℕ) (index : ℕ) (decls : List Decl) → l
 length-rows_from by index [] = refl
 length-rows_from by index (decl ∷ decls) = ap suc (length-rows_from by (suc index) decls)
 
-pub rows_from-push : (by : Option ℕ) (index : ℕ) (decls : List Decl) (decl : Decl) → rows_from by index (decls ++ decl ∷ []) ≡ rows_from by index decls ++ row_of by (index + length decls) decl ∷ []
+pub rows_from-push : (by : Option ℕ) (index : ℕ) (decls : List Decl) (decl : Decl)
+    → rows_from by index (decls ++ decl ∷ []) ≡ rows_from by index decls ++ row_of by (index + length decls) decl ∷ []
 rows_from-push by index [] decl =
     let same : index ≡ index + 0 = omega arith in
     ap (λ (n : ℕ). row_of by n decl ∷ []) same
@@ -28,18 +29,22 @@ as_declared by index [] = All-nil (λ row. row ≡ row_of row.by row.index row.d
 as_declared by index (decl ∷ decls) = All-cons (λ row. row ≡ row_of row.by row.index row.decl) (row_of by index decl) (rows_from by (suc index) decls) refl (as_declared by (suc index) decls)
 
 -- each of the rows names the one that declares them
-pub declared_by_one : (by : Option ℕ) (index : ℕ) (decls : List Decl) (place : ℕ) (row : Row) → slice_get (rows_from by index decls) place ≡ Some row → by ≡ row.by
+pub declared_by_one : (by : Option ℕ) (index : ℕ) (decls : List Decl) (place : ℕ) (row : Row) → slice_get (rows_from by index decls) place ≡ Some row
+    → by ≡ row.by
 declared_by_one by index [] place row h = absurd (none-some row h)
 declared_by_one by index (decl ∷ decls) zero row h = ap (λ (r : Row). r.by) (same_Some (row_of by index decl) row h)
 declared_by_one by index (decl ∷ decls) (suc place) row h = declared_by_one by (suc index) decls place row h
 
-pub blocks_longer : {Fault : Type 0} (children : ChildrenOf Fault) (rows more : List Row) (start : ℕ) (winners : List ℕ) (below : List Row) → Blocks children rows start winners below → Blocks children (rows ++ more) start winners below
+pub blocks_longer : {Fault : Type 0} (children : ChildrenOf Fault) (rows more : List Row) (start : ℕ) (winners : List ℕ) (below : List Row)
+    → Blocks children rows start winners below → Blocks children (rows ++ more) start winners below
 blocks_longer children rows more start _ _ none = none
 blocks_longer children rows more start _ _ (next {winner = winner} {winners = winners} {row = row} {decls = decls} {more = below} before stands answer rest) =
     next before (get_longer rows more winner row stands) answer (blocks_longer children rows more (start + length decls) winners below rest)
 
 -- the children of one winner more
-pub blocks_push : {Fault : Type 0} (children : ChildrenOf Fault) (rows : List Row) (last : ℕ) (row : Row) (decls : List Decl) (start : ℕ) (winners : List ℕ) (below : List Row) → Blocks children rows start winners below → last < start + length below → slice_get rows last ≡ Some row → children row.app row.decl (Ok decls) → Blocks children rows start (winners ++ last ∷ []) (below ++ rows_from (Some last) 0 decls)
+pub blocks_push : {Fault : Type 0} (children : ChildrenOf Fault) (rows : List Row) (last : ℕ) (row : Row) (decls : List Decl) (start : ℕ) (winners : List ℕ)
+    (below : List Row) → Blocks children rows start winners below → last < start + length below → slice_get rows last ≡ Some row
+    → children row.app row.decl (Ok decls) → Blocks children rows start (winners ++ last ∷ []) (below ++ rows_from (Some last) 0 decls)
 blocks_push children rows last row decls start _ _ none within stands answer =
     subst (λ (rs : List Row). Blocks children rows start (last ∷ []) rs) (append-nil (rows_from (Some last) 0 decls)) (next (omega (arith, within)) stands answer none)
 blocks_push children rows last row decls start _ _ (next {winner = winner} {winners = winners} {row = first} {decls = firsts} {more = below} before at known rest) within stands answer =

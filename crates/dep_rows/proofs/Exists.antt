@@ -30,7 +30,8 @@ module _ {Known Fault : Type 0} (children_of : Known → ChildrenOf Fault) (know
   all_input fault = Input
 
   -- the next winner's children are refused, or too many
-  hindered : (rows : List Row) (winners : List ℕ) (asked : ℕ) → IsAt rows winners asked → asked < length winners → (error : RowsError Fault) → rows_blame all_input error ≡ Input → Hinders all_input (children_of known) rows (get_or winners asked 0) error → Outcome
+  hindered : (rows : List Row) (winners : List ℕ) (asked : ℕ) → IsAt rows winners asked → asked < length winners → (error : RowsError Fault)
+      → rows_blame all_input error ≡ Input → Hinders all_input (children_of known) rows (get_or winners asked 0) error → Outcome
   hindered rows winners asked at next error input hinders = record {
     outcome = Err error;
     is = stands_hindered children_of (Some known) root rows winners asked (get_or winners asked 0) at next (get_or_default winners asked 0 (get_or winners asked 0) next) all_input error hinders input;
@@ -49,7 +50,8 @@ module _ {Known Fault : Type 0} (children_of : Known → ChildrenOf Fault) (know
   GoesOn left = (rows : List Row) (winners : List ℕ) (asked : ℕ) → IsAt rows winners asked → most_rows ≤ asked + left → Outcome
 
   -- the next winner has an answer
-  answered : (left : ℕ) → GoesOn left → (rows : List Row) (winners : List ℕ) (asked : ℕ) → IsAt rows winners asked → most_rows ≤ asked + suc left → (row : Row) → IsNext rows winners asked row → (answer : Result (List Decl) Fault) → children_of known row.app row.decl answer → Outcome
+  answered : (left : ℕ) → GoesOn left → (rows : List Row) (winners : List ℕ) (asked : ℕ) → IsAt rows winners asked → most_rows ≤ asked + suc left → (row : Row)
+      → IsNext rows winners asked row → (answer : Result (List Decl) Fault) → children_of known row.app row.decl answer → Outcome
   answered left on rows winners asked at enough row is (Err fault) answer = hindered rows winners asked at is.next (Children fault) refl (row, is.stands, λ input. answer)
   answered left on rows winners asked at enough row is (Ok decls) answer =
       elim (cases_lt most_rows (length rows + length decls)) [

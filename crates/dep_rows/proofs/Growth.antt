@@ -22,7 +22,8 @@ pub record Grows (by : Option ℕ) (index : ℕ) (decls left : List Decl) (old_r
   pub rows_are : rows ≡ old_rows ++ rows_from by 0 done
   pub winners_are : winners ≡ old_winners ++ next_winners old_rows (rows_from by 0 done)
 
-pub grows_none : (by : Option ℕ) (index : ℕ) (decls left : List Decl) (rows : List Row) (winners : List ℕ) → index ≡ 0 → left ≡ decls → Grows by index decls left rows rows winners winners
+pub grows_none : (by : Option ℕ) (index : ℕ) (decls left : List Decl) (rows : List Row) (winners : List ℕ) → index ≡ 0 → left ≡ decls
+    → Grows by index decls left rows rows winners winners
 grows_none by index decls left rows winners at all = record {
   done = [];
   split = sym all;
@@ -32,14 +33,18 @@ grows_none by index decls left rows winners at all = record {
 }
 
 -- there is room for one more
-pub grows_room : (by : Option ℕ) (index : ℕ) (decls left : List Decl) (old_rows rows : List Row) (old_winners winners : List ℕ) (all : List Decl) (decl : Decl) → Grows by index decls all old_rows rows old_winners winners → all ≡ decl ∷ left → length old_rows + length decls ≤ most_rows → (length rows < most_rows) × (index < most_rows)
+pub grows_room : (by : Option ℕ) (index : ℕ) (decls left : List Decl) (old_rows rows : List Row) (old_winners winners : List ℕ) (all : List Decl) (decl : Decl)
+    → Grows by index decls all old_rows rows old_winners winners → all ≡ decl ∷ left → length old_rows + length decls ≤ most_rows
+    → (length rows < most_rows) × (index < most_rows)
 grows_room by index decls left old_rows rows old_winners winners all decl grows is few =
     let counted = grows.counted in
     let long_decls : length decls ≡ length grows.done + length (decl ∷ left) = ap length grows.split ∙ length-append grows.done all ∙ ap (λ (ds : List Decl). length grows.done + length ds) is in
     let long_rows : length rows ≡ length old_rows + length grows.done = ap length grows.rows_are ∙ length-append old_rows (rows_from by 0 grows.done) ∙ ap (λ (n : ℕ). length old_rows + n) (length-rows_from by 0 grows.done) in
     (omega (arith, few, long_decls, long_rows), omega (arith, few, long_decls, counted))
 
-pub grows_more : (by : Option ℕ) (index : ℕ) (decls left : List Decl) (old_rows rows new_rows : List Row) (old_winners winners new_winners : List ℕ) (all : List Decl) (decl : Decl) (row : Row) → Grows by index decls all old_rows rows old_winners winners → all ≡ decl ∷ left → row ≡ row_of by index decl → new_rows ≡ rows ++ row ∷ [] → new_winners ≡ winners ++ next_winner rows row → Grows by (index + 1) decls left old_rows new_rows old_winners new_winners
+pub grows_more : (by : Option ℕ) (index : ℕ) (decls left : List Decl) (old_rows rows new_rows : List Row) (old_winners winners new_winners : List ℕ)
+    (all : List Decl) (decl : Decl) (row : Row) → Grows by index decls all old_rows rows old_winners winners → all ≡ decl ∷ left → row ≡ row_of by index decl
+    → new_rows ≡ rows ++ row ∷ [] → new_winners ≡ winners ++ next_winner rows row → Grows by (index + 1) decls left old_rows new_rows old_winners new_winners
 grows_more by index decls left old_rows rows new_rows old_winners winners new_winners all decl row grows is row_is rows_are winners_are =
     let done = grows.done in
     let counted = grows.counted in
@@ -65,7 +70,8 @@ pub record Grown (by : Option ℕ) (decls : List Decl) (old_rows rows : List Row
   pub rows_are : rows ≡ old_rows ++ rows_from by 0 decls
   pub winners_are : winners ≡ old_winners ++ next_winners old_rows (rows_from by 0 decls)
 
-pub grows_all : (by : Option ℕ) (index : ℕ) (decls left : List Decl) (old_rows rows : List Row) (old_winners winners : List ℕ) (count : ℕ) → Grows by index decls left old_rows rows old_winners winners → count ≡ length left → count ≡ 0 → Grown by decls old_rows rows old_winners winners
+pub grows_all : (by : Option ℕ) (index : ℕ) (decls left : List Decl) (old_rows rows : List Row) (old_winners winners : List ℕ) (count : ℕ)
+    → Grows by index decls left old_rows rows old_winners winners → count ≡ length left → count ≡ 0 → Grown by decls old_rows rows old_winners winners
 grows_all by index decls left old_rows rows old_winners winners count grows counts zeroth =
     let empty : left ≡ [] = nil_from_length left (sym counts ∙ zeroth) in
     let all : decls ≡ grows.done = grows.split ∙ ap (λ (ds : List Decl). grows.done ++ ds) empty ∙ append-nil grows.done in

@@ -20,7 +20,8 @@ pub both_win : (common more other_more : List Row) (place : ℕ) → place < len
 both_win common more other_more place within wins = (wins.0, wins_longer common other_more place wins.0 (wins_shorter common more place wins.0 within wins.1))
 
 -- after the same winners the next one of another list stands no later
-pub no_later : (common more other_more : List Row) (front : List ℕ) (x : ℕ) (rest : List ℕ) (y : ℕ) (other_rest : List ℕ) → x < length common → AreWinners (common ++ more) (front ++ x ∷ rest) → AreWinners (common ++ other_more) (front ++ y ∷ other_rest) → y ≤ x
+pub no_later : (common more other_more : List Row) (front : List ℕ) (x : ℕ) (rest : List ℕ) (y : ℕ) (other_rest : List ℕ) → x < length common
+    → AreWinners (common ++ more) (front ++ x ∷ rest) → AreWinners (common ++ other_more) (front ++ y ∷ other_rest) → y ≤ x
 no_later common more other_more front x rest y other_rest within are others =
     let wins = All-contains (Wins (common ++ more)) (front ++ x ∷ rest) x are.only (here front x rest) in
     let also = both_win common more other_more x within wins in
@@ -45,7 +46,8 @@ module _ {Fault : Type 0} (children : ChildrenOf Fault) (once : AnswersOnce chil
   abbrev pub Either : Type 0
   Either = GoesOn children rows other asked other_asked ⊎ GoesOn children other rows other_asked asked
 
-  next_same : (common more other_more : List Row) (front : List ℕ) (x y : ℕ) (rest other_rest : List ℕ) → rows ≡ common ++ more → other ≡ common ++ other_more → asked ≡ front ++ x ∷ rest → other_asked ≡ front ++ y ∷ other_rest → x < length common → y < length common → x ≡ y
+  next_same : (common more other_more : List Row) (front : List ℕ) (x y : ℕ) (rest other_rest : List ℕ) → rows ≡ common ++ more → other ≡ common ++ other_more
+      → asked ≡ front ++ x ∷ rest → other_asked ≡ front ++ y ∷ other_rest → x < length common → y < length common → x ≡ y
   next_same common more other_more front x y rest other_rest whole other_whole asks other_asks x_within y_within =
       let are : AreWinners (common ++ more) (front ++ x ∷ (rest ++ later)) =
       subst (λ (rs : List Row). AreWinners rs (front ++ x ∷ (rest ++ later))) whole
@@ -59,14 +61,18 @@ module _ {Fault : Type 0} (children : ChildrenOf Fault) (once : AnswersOnce chil
       (no_later common other_more more front y (other_rest ++ other_later) x (rest ++ later) y_within other_are are)
       (no_later common more other_more front x (rest ++ later) y (other_rest ++ other_later) x_within are other_are)
 
-  same_child : (common more other_more : List Row) (x y : ℕ) (row other_row : Row) (decls other_decls : List Decl) → rows ≡ common ++ more → other ≡ common ++ other_more → x < length common → x ≡ y → slice_get rows x ≡ Some row → slice_get other y ≡ Some other_row → children row.app row.decl (Ok decls) → children other_row.app other_row.decl (Ok other_decls) → decls ≡ other_decls
+  same_child : (common more other_more : List Row) (x y : ℕ) (row other_row : Row) (decls other_decls : List Decl) → rows ≡ common ++ more
+      → other ≡ common ++ other_more → x < length common → x ≡ y → slice_get rows x ≡ Some row → slice_get other y ≡ Some other_row
+      → children row.app row.decl (Ok decls) → children other_row.app other_row.decl (Ok other_decls) → decls ≡ other_decls
   same_child common more other_more x y row other_row decls other_decls whole other_whole within same stands other_stands answer other_answer =
       let in_common : slice_get rows x ≡ slice_get common x = ap (λ (rs : List Row). slice_get rs x) whole ∙ get_before common more x within in
       let in_other : slice_get other x ≡ slice_get common x = ap (λ (rs : List Row). slice_get rs x) other_whole ∙ get_before common other_more x within in
       let same_row : row ≡ other_row = same_Some row other_row (sym stands ∙ in_common ∙ sym in_other ∙ ap (λ (n : ℕ). slice_get other n) same ∙ other_stands) in
       same_answer decls other_decls (once row.app row.decl (Ok decls) (Ok other_decls) answer (subst (λ (r : Row). children r.app r.decl (Ok other_decls)) (sym same_row) other_answer))
 
-  pub either_from : (start : ℕ) (common more other_more : List Row) (front rest other_rest : List ℕ) → length common ≡ start → rows ≡ common ++ more → other ≡ common ++ other_more → asked ≡ front ++ rest → other_asked ≡ front ++ other_rest → Blocks children rows start rest more → Blocks children other start other_rest other_more → Either
+  pub either_from : (start : ℕ) (common more other_more : List Row) (front rest other_rest : List ℕ) → length common ≡ start → rows ≡ common ++ more
+      → other ≡ common ++ other_more → asked ≡ front ++ rest → other_asked ≡ front ++ other_rest → Blocks children rows start rest more
+      → Blocks children other start other_rest other_more → Either
   either_from start common _ other_more front _ other_rest long whole other_whole asks other_asks none blocks =
       let rows_are : rows ≡ common = whole ∙ append-nil common in
       inl (record {

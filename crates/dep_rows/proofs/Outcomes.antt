@@ -14,7 +14,8 @@ use Rattle.dep_rows.proofs.Blocks.{length-rows_from}
 use Rattle.dep_rows.proofs.OneList.{GoesOn, here, both_win, no_later, either_from}
 
 -- of two rows so far of one root, one goes on where the other ends
-pub either : {Fault : Type 0} (children : ChildrenOf Fault) → AnswersOnce children → (root : List Decl) (rows other : List Row) (asked later other_asked other_later : List ℕ)
+pub either : {Fault : Type 0} (children : ChildrenOf Fault) → AnswersOnce children
+    → (root : List Decl) (rows other : List Row) (asked later other_asked other_later : List ℕ)
     → AreRowsSoFar children root rows asked later → AreRowsSoFar children root other other_asked other_later
     → GoesOn children rows other asked other_asked ⊎ GoesOn children other rows other_asked asked
 either children once root rows other asked later other_asked other_later so_far other_so_far =
@@ -36,7 +37,8 @@ module _ {Fault : Type 0} (children : ChildrenOf Fault) (rows more : List Row) (
         | inr after ↦ after
       ]
 
-next_is : (rows more : List Row) (asked : List ℕ) (place : ℕ) (rest further : List ℕ) (winner : ℕ) → AreWinners rows (asked ++ place ∷ rest) → AreWinners (rows ++ more) (asked ++ winner ∷ further) → winner < length rows → place ≡ winner
+next_is : (rows more : List Row) (asked : List ℕ) (place : ℕ) (rest further : List ℕ) (winner : ℕ) → AreWinners rows (asked ++ place ∷ rest)
+    → AreWinners (rows ++ more) (asked ++ winner ∷ further) → winner < length rows → place ≡ winner
 next_is rows more asked place rest further winner are others within =
     let here_are : AreWinners (rows ++ []) (asked ++ place ∷ rest) = subst (λ (rs : List Row). AreWinners rs (asked ++ place ∷ rest)) (sym (append-nil rows)) are in
     let wins = All-contains (Wins rows) (asked ++ place ∷ rest) place are.only (here asked place rest) in
@@ -45,7 +47,8 @@ next_is rows more asked place rest further winner are others within =
     (no_later rows more [] asked winner further place rest within others here_are)
     (no_later rows [] more asked place rest winner further next_within here_are others)
 
-no_further : {Fault : Type 0} (children : ChildrenOf Fault) (rows other : List Row) (asked later other_asked other_later : List ℕ) → AreWinners rows (asked ++ later) → AreWinners other (other_asked ++ other_later) → IsEnd children rows later
+no_further : {Fault : Type 0} (children : ChildrenOf Fault) (rows other : List Row) (asked later other_asked other_later : List ℕ)
+    → AreWinners rows (asked ++ later) → AreWinners other (other_asked ++ other_later) → IsEnd children rows later
     → (start : ℕ) (further : List ℕ) (more : List Row) → start ≡ length rows → other_asked ≡ asked ++ further → other ≡ rows ++ more → Blocks children other start further more → (further ≡ []) × (more ≡ [])
 no_further children rows other asked later other_asked other_later winners others ends start _ _ from asks whole none = (refl, refl)
 no_further children rows other asked later other_asked other_later winners others ends start _ _ from asks whole (next {winner = winner} {winners = further} {row = row} {decls = decls} {more = more} before stands answer blocks) =
@@ -57,7 +60,8 @@ no_further children rows other asked later other_asked other_later winners other
     in
     let there : slice_get rows winner ≡ Some row = get_shorter rows all_more winner row within (subst (λ (rs : List Row). slice_get rs winner ≡ Some row) whole stands) in
     absurd (at_end later winners ends (is_later children rows all_more asked later further other_later winner winners are within) are there) where
-      at_end : (left : List ℕ) → AreWinners rows (asked ++ left) → IsEnd children rows left → Contains left winner → AreWinners (rows ++ (rows_from (Some winner) 0 decls ++ more)) (asked ++ winner ∷ (further ++ other_later)) → slice_get rows winner ≡ Some row → ⊥
+      at_end : (left : List ℕ) → AreWinners rows (asked ++ left) → IsEnd children rows left → Contains left winner
+          → AreWinners (rows ++ (rows_from (Some winner) 0 decls ++ more)) (asked ++ winner ∷ (further ++ other_later)) → slice_get rows winner ≡ Some row → ⊥
       at_end [] left_are left_ends has are there = let within = has.1 in omega (arith, within)
       at_end (place ∷ rest) left_are left_ends has are there =
           let within : winner < length rows = omega (arith, before, from) in
@@ -65,7 +69,8 @@ no_further children rows other asked later other_asked other_later winners other
           left_ends place rest row decls refl (ap (λ (n : ℕ). slice_get rows n) same ∙ there) answer
 
 -- two ends are one
-pub same_end : {Fault : Type 0} (children : ChildrenOf Fault) → AnswersOnce children → (root : List Decl) (rows other : List Row) (asked later other_asked other_later : List ℕ)
+pub same_end : {Fault : Type 0} (children : ChildrenOf Fault) → AnswersOnce children
+    → (root : List Decl) (rows other : List Row) (asked later other_asked other_later : List ℕ)
     → AreRowsSoFar children root rows asked later → AreRowsSoFar children root other other_asked other_later → IsEnd children rows later → IsEnd children other other_later → (rows ≡ other) × (asked ≡ other_asked)
 same_end children once root rows other asked later other_asked other_later so_far other_so_far ends other_ends =
     elim (either children once root rows other asked later other_asked other_later so_far other_so_far) [
@@ -89,14 +94,16 @@ first_same x y xs ys same = cc
 same_fault : {Fault : Type 0} (a b : Fault) → ◌≡◌ {A = Result (List Decl) Fault} (Err a) (Err b) → a ≡ b
 same_fault a b same = cc
 
-met_end : {Fault : Type 0} (children : ChildrenOf Fault) → AnswersOnce children → (root : List Decl) (fault : Fault) (met : Meets children root fault) → IsEnd children met.rows (met.winner ∷ met.later)
+met_end : {Fault : Type 0} (children : ChildrenOf Fault) → AnswersOnce children → (root : List Decl) (fault : Fault) (met : Meets children root fault)
+    → IsEnd children met.rows (met.winner ∷ met.later)
 met_end children once root fault met winner rest row decls is stands answer =
     let same : met.winner ≡ winner = first_same met.winner winner met.later rest is in
     let same_row : row ≡ met.row = same_Some row met.row (sym stands ∙ ap (λ (n : ℕ). slice_get met.rows n) (sym same) ∙ met.stands) in
     apart decls fault (once row.app row.decl (Ok decls) (Err fault) answer (subst (λ (r : Row). children r.app r.decl (Err fault)) (sym same_row) met.answer))
 
 -- no rows pass the limit where others end below it
-end_within : {Fault : Type 0} (children : ChildrenOf Fault) → AnswersOnce children → (root : List Decl) (rows : List Row) (asked later : List ℕ) → AreRowsSoFar children root rows asked later → IsEnd children rows later → length rows ≤ most_rows → PassesLimit children root → ⊥
+end_within : {Fault : Type 0} (children : ChildrenOf Fault) → AnswersOnce children → (root : List Decl) (rows : List Row) (asked later : List ℕ)
+    → AreRowsSoFar children root rows asked later → IsEnd children rows later → length rows ≤ most_rows → PassesLimit children root → ⊥
 end_within children once root rows asked later so_far ends few passes =
     let many = passes.many in
     elim (either children once root rows passes.rows asked later passes.asked passes.later so_far passes.so_far) [
@@ -109,16 +116,21 @@ end_within children once root rows asked later so_far ends few passes =
           omega (arith, many, few, long)
     ]
 
-pub one_list : {Fault : Type 0} (children : ChildrenOf Fault) → AnswersOnce children → (root : List Decl) (rows other : List Row) (winners other_winners : List ℕ) → AreRows children root rows winners → AreRows children root other other_winners → (rows ≡ other) × (winners ≡ other_winners)
+pub one_list : {Fault : Type 0} (children : ChildrenOf Fault) → AnswersOnce children
+    → (root : List Decl) (rows other : List Row) (winners other_winners : List ℕ) → AreRows children root rows winners
+    → AreRows children root other other_winners → (rows ≡ other) × (winners ≡ other_winners)
 one_list children once root rows other winners other_winners are others = same_end children once root rows other winners [] other_winners [] are others (rows_end children rows) (rows_end children other)
 
-pub rows_or_limit : {Fault : Type 0} (children : ChildrenOf Fault) → AnswersOnce children → (root : List Decl) (rows : List Row) (winners : List ℕ) → AreRows children root rows winners → length rows ≤ most_rows → PassesLimit children root → ⊥
+pub rows_or_limit : {Fault : Type 0} (children : ChildrenOf Fault) → AnswersOnce children → (root : List Decl) (rows : List Row) (winners : List ℕ)
+    → AreRows children root rows winners → length rows ≤ most_rows → PassesLimit children root → ⊥
 rows_or_limit children once root rows winners are few passes = end_within children once root rows winners [] are (rows_end children rows) few passes
 
-pub fault_or_limit : {Fault : Type 0} (children : ChildrenOf Fault) → AnswersOnce children → (root : List Decl) (fault : Fault) → Meets children root fault → PassesLimit children root → ⊥
+pub fault_or_limit : {Fault : Type 0} (children : ChildrenOf Fault) → AnswersOnce children → (root : List Decl) (fault : Fault) → Meets children root fault
+    → PassesLimit children root → ⊥
 fault_or_limit children once root fault met passes = end_within children once root met.rows met.asked (met.winner ∷ met.later) met.so_far (met_end children once root fault met) met.few passes
 
-pub rows_or_fault : {Fault : Type 0} (children : ChildrenOf Fault) → AnswersOnce children → (root : List Decl) (rows : List Row) (winners : List ℕ) (fault : Fault) → AreRows children root rows winners → Meets children root fault → ⊥
+pub rows_or_fault : {Fault : Type 0} (children : ChildrenOf Fault) → AnswersOnce children
+    → (root : List Decl) (rows : List Row) (winners : List ℕ) (fault : Fault) → AreRows children root rows winners → Meets children root fault → ⊥
 rows_or_fault children once root rows winners fault are met =
     let same = same_end children once root rows met.rows winners [] met.asked (met.winner ∷ met.later) are met.so_far (rows_end children rows) (met_end children once root fault met) in
     let wins = All-contains (Wins met.rows) (met.asked ++ met.winner ∷ met.later) met.winner met.so_far.winners.only (here met.asked met.winner met.later) in
@@ -126,7 +138,8 @@ rows_or_fault children once root rows winners fault are met =
     let has : Contains met.asked met.winner = subst (λ (ws : List ℕ). Contains ws met.winner) (append-nil winners ∙ same.1) (are.winners.all met.winner also.0 also.1) in
     not_itself_before met.asked met.winner met.later met.so_far.winners.in_order has
 
-pub one_fault : {Fault : Type 0} (children : ChildrenOf Fault) → AnswersOnce children → (root : List Decl) (fault other : Fault) → Meets children root fault → Meets children root other → fault ≡ other
+pub one_fault : {Fault : Type 0} (children : ChildrenOf Fault) → AnswersOnce children → (root : List Decl) (fault other : Fault) → Meets children root fault
+    → Meets children root other → fault ≡ other
 one_fault children once root fault other met also =
     let same = same_end children once root met.rows also.rows met.asked (met.winner ∷ met.later) also.asked (also.winner ∷ also.later) met.so_far also.so_far (met_end children once root fault met) (met_end children once root other also) in
     let others : AreWinners (met.rows ++ []) (met.asked ++ also.winner ∷ also.later) =

@@ -13,7 +13,8 @@ position-cons p x xs = at (p x) refl
     at false is = grind (arith, nat_tests)
 
 -- the first place is one further after what is appended, where none is there
-pub position-push : {X : Type 0} (p : X → Bool) (xs : List X) (x : X) → position p (xs ++ x ∷ []) ≡ option_or (position p xs) (cond (p x) (Some (length xs)) None)
+pub position-push : {X : Type 0} (p : X → Bool) (xs : List X) (x : X)
+    → position p (xs ++ x ∷ []) ≡ option_or (position p xs) (cond (p x) (Some (length xs)) None)
 position-push p [] x = position-cons p x [] ∙ refl
 position-push p (y ∷ ys) x =
     position-cons p y (ys ++ x ∷ [])
@@ -21,7 +22,9 @@ position-push p (y ∷ ys) x =
     ∙ at (p y) (position p ys) (p x)
     ∙ ap (λ o. option_or o (cond (p x) (Some (suc (length ys))) None)) (sym (position-cons p y ys))
   where
-    at : (here : Bool) (before : Option ℕ) (last : Bool) → cond here (Some 0) (option_map suc (option_or before (cond last (Some (length ys)) None))) ≡ option_or (cond here (Some 0) (option_map suc before)) (cond last (Some (suc (length ys))) None)
+    at : (here : Bool) (before : Option ℕ) (last : Bool)
+        → cond here (Some 0) (option_map suc (option_or before (cond last (Some (length ys)) None))) ≡ option_or (cond here (Some 0) (option_map suc before))
+        (cond last (Some (suc (length ys))) None)
     at true before last = refl
     at false (Some k) last = refl
     at false None true = refl
@@ -45,7 +48,8 @@ first_from_position p (x ∷ xs) place is = at (first_from_position p xs) (p x) 
         before zero earlier less stands = ap p (sym (same_Some x earlier stands)) ∙ fails
         before (suc other) earlier less stands = rest.before other earlier (omega arith) stands
 
-    at : ((k : ℕ) → position p xs ≡ Some k → IsFirst p xs k) → (b : Bool) → p x ≡ b → (o : Option ℕ) → position p xs ≡ o → cond b (Some 0) (option_map suc o) ≡ Some place → IsFirst p (x ∷ xs) place
+    at : ((k : ℕ) → position p xs ≡ Some k → IsFirst p xs k) → (b : Bool) → p x ≡ b → (o : Option ℕ) → position p xs ≡ o
+        → cond b (Some 0) (option_map suc o) ≡ Some place → IsFirst p (x ∷ xs) place
     at rest true passes o found is = subst (IsFirst p (x ∷ xs)) (same_Some 0 place is) (record {
       item = x;
       stands = refl;
@@ -55,11 +59,13 @@ first_from_position p (x ∷ xs) place is = at (first_from_position p xs) (p x) 
     at rest false fails None found is = absurd (none-some place is)
     at rest false fails (Some k) found is = subst (IsFirst p (x ∷ xs)) (same_Some (suc k) place is) (later k fails (rest k found))
 
-pub none_from_position : {X : Type 0} (p : X → Bool) (xs : List X) → position p xs ≡ None → (place : ℕ) (item : X) → slice_get xs place ≡ Some item → p item ≡ false
+pub none_from_position : {X : Type 0} (p : X → Bool) (xs : List X) → position p xs ≡ None → (place : ℕ) (item : X) → slice_get xs place ≡ Some item
+    → p item ≡ false
 none_from_position p [] none place item stands = absurd (none-some item stands)
 none_from_position p (x ∷ xs) none place item stands = at (none_from_position p xs) (p x) refl (position p xs) refl (sym (position-cons p x xs) ∙ none) place stands
   where
-    at : (position p xs ≡ None → (place : ℕ) (item : _) → slice_get xs place ≡ Some item → p item ≡ false) → (b : Bool) → p x ≡ b → (o : Option ℕ) → position p xs ≡ o → cond b (Some 0) (option_map suc o) ≡ None → (place : ℕ) → slice_get (x ∷ xs) place ≡ Some item → p item ≡ false
+    at : (position p xs ≡ None → (place : ℕ) (item : _) → slice_get xs place ≡ Some item → p item ≡ false) → (b : Bool) → p x ≡ b → (o : Option ℕ)
+        → position p xs ≡ o → cond b (Some 0) (option_map suc o) ≡ None → (place : ℕ) → slice_get (x ∷ xs) place ≡ Some item → p item ≡ false
     at rest true passes o found none place stands = absurd (none-some 0 (sym none))
     at rest false fails (Some k) found none place stands = absurd (none-some (suc k) (sym none))
     at rest false fails None found none zero stands = ap p (sym (same_Some x item stands)) ∙ fails

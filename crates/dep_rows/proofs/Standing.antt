@@ -21,7 +21,8 @@ declared_later winners place later None past h = tt
 declared_later winners place later (Some by) past h = let before = h.0 in (omega (arith, before, past), h.1)
 
 -- rows stay well formed with the declarations of one manifest more
-pub well_formed_more : (rows : List Row) (winners : List ℕ) (by : Option ℕ) (decls : List Decl) → AreWellFormed rows winners → IsDeclaredBy winners (length rows) by → AreWellFormed (rows ++ rows_from by 0 decls) (winners ++ next_winners rows (rows_from by 0 decls))
+pub well_formed_more : (rows : List Row) (winners : List ℕ) (by : Option ℕ) (decls : List Decl) → AreWellFormed rows winners
+    → IsDeclaredBy winners (length rows) by → AreWellFormed (rows ++ rows_from by 0 decls) (winners ++ next_winners rows (rows_from by 0 decls))
 well_formed_more rows winners by decls are known = record {
   winning = winners_more rows winners (rows_from by 0 decls) are.winning;
   as_declared = All-append (λ row. row ≡ row_of row.by row.index row.decl) rows (rows_from by 0 decls) are.as_declared (as_declared by 0 decls);
@@ -41,7 +42,8 @@ nothing_well_formed = record {
 }
 
 -- the rows of the root, before a winner is asked
-pub so_far_root : {Fault : Type 0} (children : ChildrenOf Fault) (root : List Decl) → AreRowsSoFar children root (rows_from None 0 root) [] (next_winners [] (rows_from None 0 root))
+pub so_far_root : {Fault : Type 0} (children : ChildrenOf Fault) (root : List Decl)
+    → AreRowsSoFar children root (rows_from None 0 root) [] (next_winners [] (rows_from None 0 root))
 so_far_root children root = record {
   below = [];
   whole = sym (append-nil (rows_from None 0 root));
@@ -50,7 +52,8 @@ so_far_root children root = record {
 }
 
 -- the rows with the children of the next winner
-pub so_far_more : {Fault : Type 0} (children : ChildrenOf Fault) (root : List Decl) (rows : List Row) (asked : List ℕ) (winner : ℕ) (later : List ℕ) (row : Row) (decls : List Decl)
+pub so_far_more : {Fault : Type 0} (children : ChildrenOf Fault) (root : List Decl) (rows : List Row) (asked : List ℕ) (winner : ℕ) (later : List ℕ)
+    (row : Row) (decls : List Decl)
     → AreRowsSoFar children root rows asked (winner ∷ later) → slice_get rows winner ≡ Some row → children row.app row.decl (Ok decls)
     → AreRowsSoFar children root (rows ++ rows_from (Some winner) 0 decls) (asked ++ winner ∷ []) (later ++ next_winners rows (rows_from (Some winner) 0 decls))
 so_far_more children root rows asked winner later row decls so_far stands answer =

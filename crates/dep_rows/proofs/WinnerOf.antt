@@ -45,7 +45,8 @@ winner_is rows app place is =
     }
 
 -- where no app wins, it has no required row
-pub no_winner : (rows : List Row) (app : List ℕ) → winner_of rows app ≡ None → (place : ℕ) (row : Row) → slice_get rows place ≡ Some row → IsTrue row.required → row.app ≡ app → ⊥
+pub no_winner : (rows : List Row) (app : List ℕ) → winner_of rows app ≡ None → (place : ℕ) (row : Row) → slice_get rows place ≡ Some row → IsTrue row.required
+    → row.app ≡ app → ⊥
 unfolding winner_of
 no_winner rows app none place row stands required same =
     both_ways (is_required_of app row) (none_from_position (is_required_of app) rows none place row stands)
@@ -69,7 +70,8 @@ is_winner rows app place row wins named = at (winner_of rows app) refl
           ]
         ]
 
-pub has_winner : (rows : List Row) (place : ℕ) (row : Row) → slice_get rows place ≡ Some row → IsTrue row.required → (winner : ℕ) × (winner_of rows row.app ≡ Some winner)
+pub has_winner : (rows : List Row) (place : ℕ) (row : Row) → slice_get rows place ≡ Some row → IsTrue row.required
+    → (winner : ℕ) × (winner_of rows row.app ≡ Some winner)
 has_winner rows place row stands required = at (winner_of rows row.app) refl
   where
     at : (o : Option ℕ) → winner_of rows row.app ≡ o → (winner : ℕ) × (winner_of rows row.app ≡ Some winner)
@@ -81,7 +83,8 @@ winner_within rows app place is = let w = winner_is rows app place is in slice_g
 
 -- ---- a row more
 
-winner_of-push : (rows : List Row) (row : Row) (app : List ℕ) → winner_of (rows ++ row ∷ []) app ≡ option_or (winner_of rows app) (cond (is_required_of app row) (Some (length rows)) None)
+winner_of-push : (rows : List Row) (row : Row) (app : List ℕ)
+    → winner_of (rows ++ row ∷ []) app ≡ option_or (winner_of rows app) (cond (is_required_of app row) (Some (length rows)) None)
 unfolding winner_of
 winner_of-push rows row app = position-push (is_required_of app) rows row
 
@@ -98,7 +101,8 @@ unfolding winner_of
 knows_nothing by_app rows none empty app = rw (empty, none) refl
 
 -- a row that isn't required, or whose app has a winner, changes no winner
-pub knows_same : {Hasher : Type 0} (by_app : IndexMap (List ℕ) ℕ Hasher) (rows : List Row) (row : Row) → KnowsWinners by_app rows → (row.required ≡ true → is_some (get (pointwise nat_eq) by_app row.app) ≡ true) → KnowsWinners by_app (rows ++ row ∷ [])
+pub knows_same : {Hasher : Type 0} (by_app : IndexMap (List ℕ) ℕ Hasher) (rows : List Row) (row : Row) → KnowsWinners by_app rows
+    → (row.required ≡ true → is_some (get (pointwise nat_eq) by_app row.app) ≡ true) → KnowsWinners by_app (rows ++ row ∷ [])
 knows_same by_app rows row known had app = known app ∙ sym (winner_of-push rows row app ∙ at (is_required_of app row) refl (winner_of rows app) refl)
   where
     at : (b : Bool) → is_required_of app row ≡ b → (o : Option ℕ) → winner_of rows app ≡ o → option_or o (cond b (Some (length rows)) None) ≡ o
@@ -110,7 +114,9 @@ knows_same by_app rows row known had app = known app ∙ sym (winner_of-push row
         absurd (both_ways (is_some (get (pointwise nat_eq) by_app row.app)) (ap is_some (ap (get (pointwise nat_eq) by_app) (sym same) ∙ known app ∙ was)) (had parts.0))
 
 -- the first required row of an app is its winner
-pub knows_more : {Hasher : Type 0} (by_app new : IndexMap (List ℕ) ℕ Hasher) (rows : List Row) (row : Row) (name : List ℕ) (place : ℕ) → KnowsWinners by_app rows → row.required ≡ true → is_some (get (pointwise nat_eq) by_app row.app) ≡ false → name ≡ row.app → place ≡ length rows → Updates (pointwise nat_eq) by_app new name (Some place) → KnowsWinners new (rows ++ row ∷ [])
+pub knows_more : {Hasher : Type 0} (by_app new : IndexMap (List ℕ) ℕ Hasher) (rows : List Row) (row : Row) (name : List ℕ) (place : ℕ)
+    → KnowsWinners by_app rows → row.required ≡ true → is_some (get (pointwise nat_eq) by_app row.app) ≡ false → name ≡ row.app → place ≡ length rows
+    → Updates (pointwise nat_eq) by_app new name (Some place) → KnowsWinners new (rows ++ row ∷ [])
 knows_more by_app new rows row name place known required fresh named at_end updates app =
     updates.0 app
     ∙ ap (λ (n : List ℕ). cond (pointwise nat_eq n app) (Some place) (get (pointwise nat_eq) by_app app)) named
@@ -119,6 +125,7 @@ knows_more by_app new rows row name place known required fresh named at_end upda
     ∙ ap (λ (o : Option ℕ). cond (bytes_eq app row.app) (Some (length rows)) o) (known app)
     ∙ sym (winner_of-push rows row app ∙ ap (λ (b : Bool). option_or (winner_of rows app) (cond (b && bytes_eq app row.app) (Some (length rows)) None)) required ∙ at (bytes_eq app row.app) refl)
   where
-    at : (b : Bool) → bytes_eq app row.app ≡ b → option_or (winner_of rows app) (cond b (Some (length rows)) None) ≡ cond b (Some (length rows)) (winner_of rows app)
+    at : (b : Bool) → bytes_eq app row.app ≡ b
+        → option_or (winner_of rows app) (cond b (Some (length rows)) None) ≡ cond b (Some (length rows)) (winner_of rows app)
     at true is = ap (λ (o : Option ℕ). option_or o (Some (length rows))) (sym (known app) ∙ ap (get (pointwise nat_eq) by_app) (same_bytes app row.app is) ∙ none_left (get (pointwise nat_eq) by_app row.app) fresh)
     at false is = none_more (winner_of rows app)

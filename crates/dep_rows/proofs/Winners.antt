@@ -44,7 +44,8 @@ pub record IsLast (rows : List Row) (place : ℕ) (last row : Row) : Type 0 wher
   pub at : place ≡ length rows
   pub is : last ≡ row
 
-wins_cases : (rows : List Row) (last : Row) (place : ℕ) (row : Row) → IsWinner (rows ++ last ∷ []) place row → IsWinner rows place row ⊎ IsLast rows place last row
+wins_cases : (rows : List Row) (last : Row) (place : ℕ) (row : Row) → IsWinner (rows ++ last ∷ []) place row
+    → IsWinner rows place row ⊎ IsLast rows place last row
 wins_cases rows last place row wins =
     elim (get_cases rows (last ∷ []) place row wins.stands) [
       | inl stands ↦ inl (wins_shorter rows (last ∷ []) place row (slice_get_within rows place row stands) wins)
@@ -55,7 +56,8 @@ wins_cases rows last place row wins =
           inr (record { at = omega (arith, at, zeroth); is = one.1 })
     ]
 
-push_winner : (rows : List Row) (winners : List ℕ) (row : Row) → IsTrue row.required → winner_of rows row.app ≡ None → AreWinners rows winners → AreWinners (rows ++ row ∷ []) (winners ++ length rows ∷ [])
+push_winner : (rows : List Row) (winners : List ℕ) (row : Row) → IsTrue row.required → winner_of rows row.app ≡ None → AreWinners rows winners
+    → AreWinners (rows ++ row ∷ []) (winners ++ length rows ∷ [])
 push_winner rows winners row required fresh are = record {
   in_order = all_pairs_push (λ earlier later. earlier < later) winners (length rows) are.in_order (winner_within rows winners are);
   only = All-push (Wins (rows ++ row ∷ [])) winners (length rows) (longer_wins rows winners row are) (
@@ -77,7 +79,8 @@ some_winner : (o : Option ℕ) → is_none o ≡ false → (place : ℕ) × (o �
 some_winner None h = cc
 some_winner (Some place) h = (place, refl)
 
-push_other : (rows : List Row) (winners : List ℕ) (row : Row) → (IsTrue row.required → is_none (winner_of rows row.app) ≡ false) → AreWinners rows winners → AreWinners (rows ++ row ∷ []) winners
+push_other : (rows : List Row) (winners : List ℕ) (row : Row) → (IsTrue row.required → is_none (winner_of rows row.app) ≡ false) → AreWinners rows winners
+    → AreWinners (rows ++ row ∷ []) winners
 push_other rows winners row known are = record {
   in_order = are.in_order;
   only = longer_wins rows winners row are;
@@ -101,14 +104,16 @@ winners_push rows winners row are = at row.required (winner_of rows row.app) ref
   stay : (IsTrue row.required → is_none (winner_of rows row.app) ≡ false) → AreWinners (rows ++ row ∷ []) (winners ++ [])
   stay known = subst (λ (ws : List ℕ). AreWinners (rows ++ row ∷ []) ws) (sym (append-nil winners)) (push_other rows winners row known are)
 
-  at : (required : Bool) (known : Option ℕ) → row.required ≡ required → winner_of rows row.app ≡ known → AreWinners (rows ++ row ∷ []) (winners ++ cond (required && is_none known) (length rows ∷ []) [])
+  at : (required : Bool) (known : Option ℕ) → row.required ≡ required → winner_of rows row.app ≡ known
+      → AreWinners (rows ++ row ∷ []) (winners ++ cond (required && is_none known) (length rows ∷ []) [])
   at true None is_required is_known = push_winner rows winners row is_required is_known are
   at true (Some other) is_required is_known = stay (λ h. ap is_none is_known)
   at false None is_required is_known = stay (λ h. absurd (both_ways _ is_required h))
   at false (Some other) is_required is_known = stay (λ h. ap is_none is_known)
 
 -- the winners with all the rows that come next
-pub winners_more : (rows : List Row) (winners : List ℕ) (more : List Row) → AreWinners rows winners → AreWinners (rows ++ more) (winners ++ next_winners rows more)
+pub winners_more : (rows : List Row) (winners : List ℕ) (more : List Row) → AreWinners rows winners
+    → AreWinners (rows ++ more) (winners ++ next_winners rows more)
 winners_more rows winners [] are = rw (append-nil rows, append-nil winners) are
 winners_more rows winners (row ∷ more) are =
     subst (λ (ws : List ℕ). AreWinners (rows ++ row ∷ more) ws) (append_assoc winners (next_winner rows row) (next_winners (rows ++ row ∷ []) more))

@@ -26,14 +26,16 @@ impl Model for Rows {
     ghost view = { λ list. record { rows = list.rows; winners = list.winners } };
 
     ghost invariant = { λ list.
-        IsWithinLimit (record { rows = list.rows; winners = list.winners }) × KnowsWinners list.by_app list.rows };
+        IsWithinLimit (record { rows = list.rows; winners = list.winners })
+        × KnowsWinners list.by_app list.rows };
 }
 
 impl Rows {
     pub(crate) fn of(listing: Listing) -> Rows
         requires well_formed { AreWellFormed listing.rows.items listing.winners.items }
         requires few { length listing.rows.items ≤ most_rows }
-        ensures value { result ≡ record { rows = listing.rows.items; winners = listing.winners.items } }
+        ensures value { result
+            ≡ record { rows = listing.rows.items; winners = listing.winners.items } }
         ensures within { IsWithinLimit result }
     {
         let Listing {

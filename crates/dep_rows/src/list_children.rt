@@ -7,6 +7,7 @@ ghost use Rattle.dep_rows.specs.ListChildren.{answer_for, told_by, list_blame, l
 
 use crate::children::Children;
 use crate::decls::copied;
+use crate::tally::Tally;
 use dep_options::Decl;
 use mx_base::{AppName, Faults, ListOf};
 use std::alloc::{AllocError, Global};
@@ -48,6 +49,7 @@ impl From<AllocError> for ListFault {
 pub struct ListChildren<P> {
     answers: ListAnswers,
     plan: P,
+    tally: Tally,
 }
 
 impl<P: Faults + Drop> ListChildren<P> {
@@ -55,7 +57,11 @@ impl<P: Faults + Drop> ListChildren<P> {
         ensures meaning { ⟦<ListChildren<P> as Children>⟧.meaning result ≡ Some answers }
         ensures faults { ⟦<ListChildren<P> as Children>⟧.faults result ≡ P.count plan }
     {
-        ListChildren { answers, plan }
+        ListChildren {
+            answers,
+            plan,
+            tally: Tally::none(),
+        }
     }
 }
 
@@ -69,6 +75,8 @@ impl<P: Faults + Drop> Children for ListChildren<P> {
     ghost meaning = { λ list. Some list.answers };
 
     ghost faults = { λ list. P.count list.plan };
+
+    ghost tally = { λ list. list.tally };
 
     ghost blame = { list_blame };
 
@@ -91,12 +99,15 @@ impl<P: Faults + Drop> Children for ListChildren<P> {
         if self.plan.fails() {
             return Err(ListFault::Failed);
         }
-        answer_for(alloc, self.answers.as_slice(), app)
+        let decls = answer_for(alloc, self.answers.as_slice(), app)?;
+        self.tally = self.tally.with(decls.len())?;
+        Ok(decls)
     }
 }
 
 fn answer_for(alloc: Global, answers: &[ListAnswer], app: &AppName) -> Result<Vec<Decl>, ListFault>
-    ensures answer { AnswersBy (λ decls. decls.items) list_blame result (λ answer. answer ≡ answer_for answers.now app.now) }
+    ensures answer { AnswersBy (λ decls. decls.items) list_blame result (λ answer.
+        answer ≡ answer_for answers.now app.now) }
     ensures alone { IsFalse (fails list_blame result) }
 {
     for answer in answers {
@@ -108,7 +119,8 @@ fn answer_for(alloc: Global, answers: &[ListAnswer], app: &AppName) -> Result<Ve
 }
 
 fn told_by(alloc: Global, answer: &ListAnswer) -> Result<Vec<Decl>, ListFault>
-    ensures answer { AnswersBy (λ decls. decls.items) list_blame result (λ told. told ≡ told_by answer.now.children) }
+    ensures answer { AnswersBy (λ decls. decls.items) list_blame result (λ told.
+        told ≡ told_by answer.now.children) }
     ensures alone { IsFalse (fails list_blame result) }
 {
     match &answer.children {

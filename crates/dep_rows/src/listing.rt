@@ -39,9 +39,11 @@ impl Listing {
     /// With the declarations of one manifest, that of the root where no row declares them.
     pub(crate) fn with_all(self, by: Option<u32>, decls: Vec<Decl>) -> Result<Listing, AllocError>
         requires { vec_len self.rows + vec_len decls ≤ most_rows }
-        ensures rows { IfOk result (λ listing. listing.rows.items ≡ self.rows.items ++ rows_from by 0 decls.items) }
+        ensures rows { IfOk result (λ listing. listing.rows.items
+            ≡ self.rows.items ++ rows_from by 0 decls.items) }
         ensures winners { IfOk result (λ listing.
-            listing.winners.items ≡ self.winners.items ++ next_winners self.rows.items (rows_from by 0 decls.items)) }
+            listing.winners.items ≡ self.winners.items ++ next_winners self.rows.items
+            (rows_from by 0 decls.items)) }
     {
         let mut listing = self;
         let mut index = 0;
@@ -82,7 +84,8 @@ fn note(
 ) -> Result<(), AllocError>
     requires few { vec_len rows.now < most_rows }
     requires knows { KnowsWinners by_app.old rows.now.items }
-    ensures winners { OnOk result (winners.new.items ≡ winners.old.items ++ next_winner rows.now.items row.now) }
+    ensures winners { OnOk result (winners.new.items
+        ≡ winners.old.items ++ next_winner rows.now.items row.now) }
     ensures knows { OnOk result (KnowsWinners by_app.new (rows.now.items ++ row.now ∷ [])) }
 {
     if !row.required {

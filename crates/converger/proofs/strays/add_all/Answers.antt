@@ -8,6 +8,7 @@ loop-name-preserved c =
     let i = c.loop-name.name-index in
     let within : i < length only = omega arith in
     record {
-      names = names_more only i c.name-item.result within c.name-item.is c.args.names.now c.loop-name.names c.insert.new.self c.as_str.result.now c.as_str.ensures.value c.in_ok-insert.ensures.updates c.loop-name.invariant.names;
+      names = names_more only i c.name-item.result within c.name-item.is c.args.names.now c.loop-name.names c.insert.new.self c.as_str.result.now
+          c.as_str.ensures.value c.in_ok-insert.ensures.updates c.loop-name.invariant.names;
       not_empty = not_empty_more only i c.name-item.result within c.name-item.is c.as_str.ensures.name c.loop-name.invariant.not_empty;
     }

@@ -10,7 +10,8 @@ loop-row-preserved c =
     let is = rw c.rows-list.ensures.rows at c.row-item.is in
     record {
       long = c.in_ok-add_link.ensures.long ∙ c.loop-row.invariant.long;
-      each = λ place inside. link_more rows c.loop-row.row-index c.row-item.result place c.loop-row.links.items c.add_link.new.links.items within is (c.loop-row.invariant.each place inside) (c.in_ok-add_link.ensures.each place);
+      each = λ place inside. link_more rows c.loop-row.row-index c.row-item.result place c.loop-row.links.items c.add_link.new.links.items within is
+          (c.loop-row.invariant.each place inside) (c.in_ok-add_link.ensures.each place);
     }
 
 pub of-requires : goal.of-requires
