@@ -21,8 +21,8 @@ use Rattle.tree_store.proofs.FilesLemmas.{put_all_in_order}
 use Rattle.tree_store.proofs.OrderLemmas.{less_back, same_name}
 use Rattle.tree_store.proofs.StoreLemmas.{one_key}
 use Rattle.mix_main.specs.Tree.{is_same_text, is_in_env, files_of, app_files, ClearsEnv, LeavesTree, cut_file, begun, IsEmpty, FillsPartly}
-use Rattle.mix_main.specs.Filling.{jobs_differ, filled_once, BeginsHeld, BeginsSlot}
-use Rattle.mix_main.proofs.TreeLemmas.{own_app, either, both, not_true, not_same, emptied_twice}
+use Rattle.mix_main.specs.Filling.{jobs_differ, filled_once, filled_by, BeginsHeld, BeginsSlot, BeginsEnv}
+use Rattle.mix_main.proofs.TreeLemmas.{own_app, either, both, not_true, not_same, emptied_twice, filled_emptied}
 
 -- what holds anyway holds on an error
 pub on_err : {T E : Type 0} (r : Result T E) (P : Type 0) → P → OnErr r P
@@ -222,3 +222,9 @@ pub all_filled : (env : List ℕ) (jobs : List Job) (fates : List Fate) (old new
 all_filled env jobs fates old new leaves q e =
     let files : List File = app_files q.app jobs fates in
     (length files, None, leaves q ∙ ap (λ (b : Bool). cond b (slot_with files (old q)) (old q)) e ∙ ap (λ (fs : List File). slot_with fs (old q)) (all_begun files))
+
+-- what is filled wholly is filled as far as need be
+pub filled_begins : (env : List ℕ) (jobs : List Job) (fates : List Fate) (old new : BuildKey → Slot) → ((q : BuildKey) → new q ≡ filled_by env q jobs fates (old q)) → BeginsEnv env jobs fates old new
+filled_begins env jobs fates old new fills differ order empties q e =
+    let files : List File = app_files q.app jobs fates in
+    (length files, None, fills q ∙ ap (filled_by env q jobs fates) (empties q e) ∙ filled_emptied env q jobs fates (old q) e differ order ∙ ap (λ (fs : List File). slot_with fs (old q)) (all_begun files))

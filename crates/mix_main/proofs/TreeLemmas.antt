@@ -197,7 +197,7 @@ filled_empty env q (job ∷ jobs) (fate ∷ fates) e differs order =
         step false same ∙ ap (filled_by env q jobs fates) (either_same false fate (Here (Some [])) refl) ∙ rest
         ∙ ap (λ (t : Bool). Here (Some (cond t (files_of fate) (app_files q.app jobs fates)))) (sym same)
 
-filled_emptied : (env : List ℕ) (q : BuildKey) (jobs : List Job) (fates : List Fate) (s : Slot) → is_in_env env q ≡ true → jobs_differ jobs ≡ true → AllByRecursion HoldsInOrder fates → filled_by env q jobs fates (emptied_slot s) ≡ slot_with (app_files q.app jobs fates) s
+pub filled_emptied : (env : List ℕ) (q : BuildKey) (jobs : List Job) (fates : List Fate) (s : Slot) → is_in_env env q ≡ true → jobs_differ jobs ≡ true → AllByRecursion HoldsInOrder fates → filled_by env q jobs fates (emptied_slot s) ≡ slot_with (app_files q.app jobs fates) s
 filled_emptied env q jobs fates (Here None) e differ order = filled_none env q jobs fates
 filled_emptied env q jobs fates (Here (Some h)) e differ order = filled_empty env q jobs fates e differ order
 filled_emptied env q jobs fates Out e differ order = filled_out env q jobs fates

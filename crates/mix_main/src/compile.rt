@@ -1,9 +1,12 @@
 // The command `deps.compile`.
-ghost use Rattle.std.specs.Prelude.{◌≡◌, length};
+ghost use Rattle.std.specs.Prelude.{◌≡◌, length, IfOk, OnOk};
 ghost use Rattle.compile_model.specs.Planned.{ArePlanned};
+ghost use Rattle.tree_store.specs.declared.key.BuildKey.{BuildKey};
 ghost use Rattle.tree_store.specs.Slot.{AllHere};
-ghost use Rattle.mix_main.specs.Answer.{status_in, text_in};
+ghost use Rattle.mix_main.specs.Answer.{Fails, status_in, text_in};
 ghost use Rattle.mix_main.specs.Compile.{Builds, Compiles, Stands, status_by};
+ghost use Rattle.mix_main.specs.Filling.{BeginsEnv, filled_by};
+ghost use Rattle.mix_main.specs.Report.{report};
 ghost use Rattle.mix_main.specs.Tree.{StaysElsewhere};
 ghost use Rattle.mix_main.specs.World.{Keeps, site_of};
 
@@ -14,7 +17,7 @@ use crate::refusal::refuse;
 use crate::report::{any_failed, report_of};
 use crate::status::Status;
 use build_plan::plan;
-use compile_model::{Compiler, Fate, Plan, seq_build};
+use compile_model::{Compiler, Fate, Job, Plan, seq_build};
 use mx_base::AppName;
 use std::alloc::Global;
 use tree_store::Store;
@@ -53,10 +56,33 @@ fn build<S: Store, C: Compiler>(
 {
     clear_env(alloc, env, store)?;
     let fates = seq_build(alloc, plan, compiler)?;
-    fill_env(alloc, env, plan.jobs.as_slice(), &fates, store)?;
-    let text = report_of(alloc, plan.jobs.as_slice(), &fates)?;
+    finish(alloc, env, plan.jobs.as_slice(), &fates, store)
+}
+
+// Puts what was built into an empty environment, and reports it.
+fn finish<S: Store>(
+    alloc: Global,
+    env: &AppName,
+    jobs: &[Job],
+    fates: &[Fate],
+    store: &mut S,
+) -> Result<Answer, Stop>
+    requires lengths { length fates.now ≡ length jobs.now }
+    requires here { AllHere (S.known store.old).slot }
+    ensures status { IfOk result (λ answer. answer.status ≡ status_by fates.now) }
+    ensures report { IfOk result (λ answer. answer.text.items ≡ report jobs.now fates.now) }
+    ensures filled { OnOk result ((q : BuildKey) → (S.known store.new).slot q
+        ≡ filled_by env.now q jobs.now fates.now ((S.known store.old).slot q)) }
+    ensures begun { BeginsEnv env.now jobs.now fates.now
+        (S.known store.old).slot (S.known store.new).slot }
+    ensures elsewhere { StaysElsewhere env.now (S.known store.old).slot (S.known store.new).slot }
+    ensures keeps { Keeps (S.known store.old) (S.known store.new) }
+    ensures fails { Fails result (S.known store.old) (S.known store.new) }
+{
+    fill_env(alloc, env, jobs, fates, store)?;
+    let text = report_of(alloc, jobs, fates)?;
     Ok(Answer {
-        status: status_by(&fates),
+        status: status_by(fates),
         text,
     })
 }
