@@ -78,6 +78,7 @@ pub trait Compiler: Meaning {
     fn compile(&mut self, alloc: Global, input: &Input) -> Result<Outcome, CompileFault>
         requires needs { length input.now.needs.now ≡ length input.now.job.now.needs }
         requires named { IsNamed input.now.job.now }
-        ensures meaning { IfOk result (λ outcome. outcome ≡ Self.compile_of (content_of input.now.job.now input.now.needs.now)) }
+        ensures meaning { IfOk result (λ outcome. outcome
+            ≡ Self.compile_of (content_of input.now.job.now input.now.needs.now)) }
         ensures cause { Counted (deaths self.old) (deaths self.new) (fails compile_blame result) };
 }

@@ -80,7 +80,8 @@ fn has_name(file: &File, name: &str) -> bool
 fn echo_files(alloc: Global, input: &Input) -> Result<Files, AllocError>
     requires needs { length input.now.needs.now ≡ length input.now.job.now.needs }
     requires named { IsNamed input.now.job.now }
-    ensures { IfOk result (λ files. files ≡ echo_file (content_of input.now.job.now input.now.needs.now) ∷ []) }
+    ensures { IfOk result (λ files. files ≡ echo_file
+        (content_of input.now.job.now input.now.needs.now) ∷ []) }
 {
     let mut name = String::from_str(alloc, input.job.app.as_str())?;
     name.push_str(".out")?;
@@ -96,7 +97,8 @@ fn echo_files(alloc: Global, input: &Input) -> Result<Files, AllocError>
 fn echoed(alloc: Global, input: &Input) -> Result<Vec<u8>, AllocError>
     requires needs { length input.now.needs.now ≡ length input.now.job.now.needs }
     requires named { IsNamed input.now.job.now }
-    ensures { IfOk result (λ bytes. bytes.items ≡ echo_bytes (content_of input.now.job.now input.now.needs.now)) }
+    ensures { IfOk result (λ bytes. bytes.items
+        ≡ echo_bytes (content_of input.now.job.now input.now.needs.now)) }
 {
     let mut bytes = Vec::new(alloc);
     push_copied(&mut bytes, input.job.sources.as_slice())?;
@@ -105,7 +107,8 @@ fn echoed(alloc: Global, input: &Input) -> Result<Vec<u8>, AllocError>
 }
 
 fn push_needs(bytes: &mut Vec<u8>, needs: &[Shared<Outcome>]) -> Result<(), AllocError>
-    ensures { OnOk result (bytes.new.items ≡ bytes.old.items ++ flat_map bytes_of (map (λ o. o.files) needs.now)) }
+    ensures { OnOk result (bytes.new.items ≡ bytes.old.items
+        ++ flat_map bytes_of (map (λ o. o.files) needs.now)) }
 {
     for need in needs {
         push_files(bytes, need.get().files.as_slice())?;
@@ -114,7 +117,8 @@ fn push_needs(bytes: &mut Vec<u8>, needs: &[Shared<Outcome>]) -> Result<(), Allo
 }
 
 fn push_copied(bytes: &mut Vec<u8>, sources: &[File]) -> Result<(), AllocError>
-    ensures { OnOk result (bytes.new.items ≡ bytes.old.items ++ bytes_of (filter is_copied sources.now)) }
+    ensures { OnOk result (bytes.new.items ≡ bytes.old.items
+        ++ bytes_of (filter is_copied sources.now)) }
 {
     for file in sources {
         if is_copied(file) {

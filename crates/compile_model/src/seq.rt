@@ -54,8 +54,10 @@ pub fn seq_build<C: Compiler>(
     requires { All IsNamed plan.now.jobs }
     ensures fates { IfOk result (λ fates. fates.items ≡ seq C.compile_of plan.now.jobs) }
     ensures length { IfOk result (λ fates. vec_len fates ≡ length plan.now.jobs) }
-    ensures died { IfErr result (DiedAt C.compile_of plan.now.jobs (C.deaths compiler.old) (C.deaths compiler.new)) }
-    ensures cause { Counted (C.deaths compiler.old) (C.deaths compiler.new) (fails seq_blame result) }
+    ensures died { IfErr result (DiedAt C.compile_of plan.now.jobs (C.deaths compiler.old)
+        (C.deaths compiler.new)) }
+    ensures cause { Counted (C.deaths compiler.old) (C.deaths compiler.new)
+        (fails seq_blame result) }
 {
     let mut fates = Vec::new(alloc);
     for (place, job) in plan.jobs.as_slice().iter().enumerate() {
@@ -78,8 +80,10 @@ fn fate<C: Compiler>(
 ) -> Result<Fate, CompileFault>
     requires { IsNamed job.now }
     ensures fate { IfOk result (λ fate. fate ≡ fate_of C.compile_of fates.now job.now) }
-    ensures started { IsTrue (fails compile_blame result) → first_unbuilt fates.now job.now.needs ≡ None }
-    ensures cause { Counted (C.deaths compiler.old) (C.deaths compiler.new) (fails compile_blame result) }
+    ensures started { IsTrue (fails compile_blame result)
+        → first_unbuilt fates.now job.now.needs ≡ None }
+    ensures cause { Counted (C.deaths compiler.old) (C.deaths compiler.new)
+        (fails compile_blame result) }
 {
     if let Some(need) = missing(fates, job.needs.as_slice()) {
         return Ok(Fate::Skipped { need });

@@ -57,7 +57,8 @@ fn words_in(alloc: Global, text: &[u8]) -> Result<Texts, AllocError>
 
 // What stands between the spaces of a text.
 fn pieces(alloc: Global, text: &[u8]) -> Result<Vec<&[u8]>, AllocError>
-    ensures { IfOk result (λ pieces. map (λ p. p.now) pieces.items ≡ slice_split (λ byte. byte == 32) text.now) }
+    ensures { IfOk result (λ pieces. map (λ p. p.now) pieces.items
+        ≡ slice_split (λ byte. byte == 32) text.now) }
 {
     text.split(|byte| *byte == b' ').collect(alloc)
 }

@@ -68,7 +68,8 @@ impl OptionError {
 
 impl OptionCause {
     fn say_after_colon(&self, text: &mut Vec<u8>) -> Result<(), AllocError>
-        ensures { OnOk result (text.new.items ≡ text.old.items ++ codes ": " ++ cause_said self.now) }
+        ensures { OnOk result (text.new.items
+            ≡ text.old.items ++ codes ": " ++ cause_said self.now) }
     {
         text.extend_from_slice(b": ")?;
         self.say(text)

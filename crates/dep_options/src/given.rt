@@ -42,7 +42,8 @@ pub(crate) fn truth(options: Options, name: &[u8], default: bool) -> bool
 
 /// The environments of `only`.
 pub(crate) fn environments(alloc: Global, options: Options) -> Result<Option<Names>, AllocError>
-    ensures { IfOk result (λ names. names ≡ said (codes "only") environments_of (named options.now)) }
+    ensures { IfOk result (λ names. names ≡ said (codes "only") environments_of
+        (named options.now)) }
 {
     match first(options, b"only") {
         Some(value) => environments_of(alloc, value),
@@ -52,7 +53,8 @@ pub(crate) fn environments(alloc: Global, options: Options) -> Result<Option<Nam
 
 /// The environment of `env`, or else `prod`.
 pub(crate) fn environment(alloc: Global, options: Options) -> Result<AppName, AllocError>
-    ensures { IfOk result (λ env. env ≡ given (codes "env") app_of (codes "prod") (named options.now)) }
+    ensures { IfOk result (λ env. env ≡ given (codes "env") app_of (codes "prod")
+        (named options.now)) }
 {
     if let Some(value) = first(options, b"env")
         && let Some(env) = app_of(alloc, value)?
@@ -68,7 +70,8 @@ pub(crate) fn environment(alloc: Global, options: Options) -> Result<AppName, Al
 
 /// The way of `compile`, or else the manager's.
 pub(crate) fn compiling(alloc: Global, options: Options) -> Result<CompileBy, AllocError>
-    ensures { IfOk result (λ way. way ≡ given (codes "compile") compile_of by.Manager (named options.now)) }
+    ensures { IfOk result (λ way. way ≡ given (codes "compile") compile_of by.Manager
+        (named options.now)) }
 {
     if let Some(value) = first(options, b"compile")
         && let Some(way) = compile_of(alloc, value)?
@@ -84,7 +87,8 @@ pub(crate) fn folder(
     base: &RelPath,
     options: Options,
 ) -> Result<Option<RelPath>, AllocError>
-    ensures { IfOk result (λ dir. dir ≡ said (codes "path") (folder_of base.now) (named options.now)) }
+    ensures { IfOk result (λ dir. dir ≡ said (codes "path") (folder_of base.now)
+        (named options.now)) }
 {
     match first(options, b"path") {
         Some(value) => folder_of(alloc, base, value),
@@ -94,7 +98,8 @@ pub(crate) fn folder(
 
 /// The package of `hex`, or else that of the app's name.
 pub(crate) fn package(alloc: Global, app: &AppName, options: Options) -> Result<AppName, AllocError>
-    ensures { IfOk result (λ name. name ≡ given (codes "hex") package_of app.now (named options.now)) }
+    ensures { IfOk result (λ name. name ≡ given (codes "hex") package_of app.now
+        (named options.now)) }
 {
     if let Some(value) = first(options, b"hex")
         && let Some(name) = package_of(alloc, value)?
@@ -113,7 +118,8 @@ pub(crate) fn manager(options: Options) -> Option<Manager>
 
 /// The variables of `system_env`, or else none.
 pub(crate) fn variables(alloc: Global, options: Options) -> Result<Variables, AllocError>
-    ensures { IfOk result (λ them. them ≡ given (codes "system_env") variables_of [] (named options.now)) }
+    ensures { IfOk result (λ them. them ≡ given (codes "system_env") variables_of []
+        (named options.now)) }
 {
     if let Some(value) = first(options, b"system_env")
         && let Some(variables) = variables_of(alloc, value)?

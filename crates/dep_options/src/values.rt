@@ -15,7 +15,8 @@ use term_values::Term;
 
 // The name of an app, where the text is one.
 fn name_of(alloc: Global, text: &[u8]) -> Result<Option<AppName>, AllocError>
-    ensures { IfOk result (λ found. found ≡ (if is_app_name text.now then Some text.now else None)) }
+    ensures { IfOk result (λ found.
+        found ≡ (if is_app_name text.now then Some text.now else None)) }
 {
     match AppName::of(alloc, text) {
         Ok(name) => Ok(Some(name)),

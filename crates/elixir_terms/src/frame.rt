@@ -132,7 +132,8 @@ impl Frame {
 
     /// The term that the bracket encloses, closed here, where there is one.
     pub fn enclosed(self, alloc: Global) -> Result<Option<Term>, AllocError>
-        ensures { IfOk result (λ term. term ≡ enclosed self.bracket self.items self.entries self.keywords) }
+        ensures { IfOk result (λ term. term ≡ enclosed self.bracket self.items self.entries
+            self.keywords) }
     {
         let Frame {
             bracket,

@@ -96,7 +96,8 @@ impl Holes {
 
     /// Takes the innermost hole.
     pub fn pop(&mut self) -> Option<Hole>
-        ensures { MatchOption result ((self.old ≡ []) × (self.new ≡ [])) (λ hole. self.old ≡ hole ∷ self.new) }
+        ensures { MatchOption result ((self.old ≡ []) × (self.new ≡ []))
+            (λ hole. self.old ≡ hole ∷ self.new) }
     {
         let hole = self.open.pop()?;
         self.depth -= hole.cost();

@@ -56,7 +56,8 @@ fn push_term(code: &mut Vec<u8>, term: &Term) -> Result<(), AllocError>
 // Adds the kind, and the codes of terms.
 #[cycle(push_term)]
 fn push_parts(code: &mut Vec<u8>, kind: u8, parts: &[Term]) -> Result<(), AllocError>
-    ensures { OnOk result (code.new.items ≡ code.old.items ++ kind ∷ parts_code (map term_code parts.now)) }
+    ensures { OnOk result (code.new.items ≡ code.old.items
+        ++ kind ∷ parts_code (map term_code parts.now)) }
 {
     code.push(kind)?;
     for part in parts {
@@ -70,7 +71,8 @@ fn push_parts(code: &mut Vec<u8>, kind: u8, parts: &[Term]) -> Result<(), AllocE
 // Adds the kind of a map, and the codes of keys and their values.
 #[cycle(push_term)]
 fn push_pairs(code: &mut Vec<u8>, pairs: &[(Term, Term)]) -> Result<(), AllocError>
-    ensures { OnOk result (code.new.items ≡ code.old.items ++ 5 ∷ pairs_code (map pair_codes pairs.now)) }
+    ensures { OnOk result (code.new.items ≡ code.old.items
+        ++ 5 ∷ pairs_code (map pair_codes pairs.now)) }
 {
     code.push(MAP)?;
     for (key, value) in pairs {

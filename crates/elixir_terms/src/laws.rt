@@ -10,12 +10,14 @@ ghost use Rattle.elixir_terms.specs.Within.{Within};
 
 /// No text is refused in two ways.
 pub fn one_refusal()
-    ensures { (text : List ℕ) (at place : ℕ) (why other : TermCause) → IsRefusal text at why → IsRefusal text place other → (at ≡ place) × (why ≡ other) }
+    ensures { (text : List ℕ) (at place : ℕ) (why other : TermCause) → IsRefusal text at why
+        → IsRefusal text place other → (at ≡ place) × (why ≡ other) }
 {}
 
 /// No text that spells a term within the limits is refused.
 pub fn no_refusal()
-    ensures { (text : List ℕ) (term : Term) (at : ℕ) (why : TermCause) → Spells text term → Within text term → IsRefusal text at why → ⊥ }
+    ensures { (text : List ℕ) (term : Term) (at : ℕ) (why : TermCause) → Spells text term
+        → Within text term → IsRefusal text at why → ⊥ }
 {}
 
 /// Each text spells a term within the limits, or is refused, and not for want of memory.

@@ -104,7 +104,8 @@ impl Opened {
     /// Whether it is a map's, and has the key already.
     #[tactic(auto, using(crate::proofs::CodeLemmas::new_by))]
     pub fn has_key(&self, alloc: Global, key: &Term) -> Result<bool, AllocError>
-        ensures { IfOk result (λ has. IsFalse has ↔ NewIn self.now.bracket key.now (keys_in self.now)) }
+        ensures { IfOk result (λ has. IsFalse has
+            ↔ NewIn self.now.bracket key.now (keys_in self.now)) }
     {
         match self.frame.bracket {
             Bracket::List | Bracket::Tuple => Ok(false),
@@ -114,7 +115,8 @@ impl Opened {
 
     /// The term that the bracket encloses, closed here, where there is one.
     pub fn enclosed(self, alloc: Global) -> Result<Option<Term>, AllocError>
-        ensures { IfOk result (λ term. term ≡ enclosed self.bracket self.items self.entries self.keywords) }
+        ensures { IfOk result (λ term. term ≡ enclosed self.bracket self.items self.entries
+            self.keywords) }
     {
         self.frame.enclosed(alloc)
     }
@@ -126,7 +128,8 @@ fn with_code(
     mut known: BTreeSet<Bytes>,
     key: &Term,
 ) -> Result<BTreeSet<Bytes>, AllocError>
-    ensures { IfOk result (λ codes. UpdatesBy text_cmp (text_cmp (term_code key.now)) known codes true) }
+    ensures { IfOk result (λ codes. UpdatesBy text_cmp (text_cmp (term_code key.now)) known codes
+        true) }
 {
     known.insert(code_of(alloc, key)?)?;
     Ok(known)

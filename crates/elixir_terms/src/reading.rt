@@ -33,7 +33,8 @@ pub fn read(alloc: Global, text: &[u8]) -> Result<Term, TermError>
     // What is read is what the text spells.
     ensures read { IfOk result (λ term. Spells text.now term × Within text.now term) }
     // What is refused has this refusal, unless memory ran out.
-    ensures refused { IfErr result (λ error. IsFalse (is_memory error.cause) → IsRefusal text.now error.at error.cause) }
+    ensures refused { IfErr result (λ error. IsFalse (is_memory error.cause)
+        → IsRefusal text.now error.at error.cause) }
 {
     if text.len() > LONGEST {
         return Err(TermError {
@@ -73,7 +74,8 @@ fn read_tokens(alloc: Global, text: &[u8]) -> Result<Term, Fault>
     requires utf8 { IsUtf8 text.now }
     requires short { length text.now ≤ longest }
     ensures read { IfOk result (λ term. Spells text.now term × Within text.now term) }
-    ensures refused { IfErr result (λ fault. IsFalse (is_memory fault.cause) → (at : ℕ) × (at + fault.left ≡ length text.now) × IsRefusal text.now at fault.cause) }
+    ensures refused { IfErr result (λ fault. IsFalse (is_memory fault.cause)
+        → (at : ℕ) × (at + fault.left ≡ length text.now) × IsRefusal text.now at fault.cause) }
 {
     let mut state = State::Value {
         holes: Holes::new(alloc),
@@ -96,7 +98,8 @@ fn advanced<'a>(
     text: &'a [u8],
     begun: &mut Vec<usize>,
 ) -> Result<(State, &'a [u8]), Fault>
-    requires steps { (token : Token) → IsTrue (takes (expected state) token) → step state token ≡ None → ⊥ }
+    requires steps { (token : Token) → IsTrue (takes (expected state) token)
+        → step state token ≡ None → ⊥ }
     requires places { length begun.old.items ≡ 65 }
     ensures noted { begun.new.items ≡ noted state (length text.now) begun.old.items }
     ensures advances { IfOk result (λ found. Advances state text.now found.0 found.1.now) }
@@ -127,7 +130,8 @@ fn repeated(begun: &[usize], state: &State) -> Fault
 /// The term of the text that ends here, where it is whole.
 fn finished(state: State) -> Result<Term, Fault>
     ensures whole { IfOk result (λ term. state ≡ Done term) }
-    ensures open_ { IfErr result (λ fault. (fault.left ≡ 0) × (fault.cause ≡ Unclosed) × ((t : Term) → state ≡ Done t → ⊥)) }
+    ensures open_ { IfErr result (λ fault. (fault.left ≡ 0) × (fault.cause ≡ Unclosed)
+        × ((t : Term) → state ≡ Done t → ⊥)) }
 {
     match state {
         State::Done { term } => Ok(term),
@@ -151,7 +155,8 @@ fn note(begun: &mut Vec<usize>, state: &State, left: usize)
 
 /// The state after the first token of the text, and the text after it.
 fn read_token(alloc: Global, state: State, text: &[u8]) -> Result<(State, &[u8]), Fault>
-    requires steps { (token : Token) → IsTrue (takes (expected state) token) → step state token ≡ None → ⊥ }
+    requires steps { (token : Token) → IsTrue (takes (expected state) token)
+        → step state token ≡ None → ⊥ }
     ensures moves { IfOk result (λ found. Moves state text.now found.0 found.1.now) }
     ensures shorter { IfOk result (λ found. length found.1.now < length text.now) }
     ensures stops { IfErr result (λ fault. IsFalse (is_memory fault.cause)
@@ -219,7 +224,8 @@ fn stepped(
 
 /// Why nothing is read of the text, where that is plain before its first token is.
 fn stop_before(state: &State, text: &[u8]) -> Option<TermCause>
-    ensures { MatchOption result (IsOpenAt state.now text.now) (λ cause. Stops state.now text.now 0 cause) }
+    ensures { MatchOption result (IsOpenAt state.now text.now)
+        (λ cause. Stops state.now text.now 0 cause) }
 {
     if let State::Done { .. } = state {
         return Some(TermCause::TrailingText);
@@ -243,5 +249,6 @@ fn begins_deep_words(state: &State, text: &[u8]) -> bool
 
 /// No text spells two terms.
 pub fn one_reading()
-    ensures { (text : List ℕ) (term other : Term) → Spells text term → Spells text other → term ≡ other }
+    ensures { (text : List ℕ) (term other : Term) → Spells text term → Spells text other
+        → term ≡ other }
 {}

@@ -97,8 +97,10 @@ impl State {
     /// Whether words are within the limit on levels here, where a term may stand.
     #[tactic(auto, using(crate::proofs::DepthLemmas::inside_well, crate::proofs::DepthLemmas::well_inside))]
     pub fn has_room_for_words(&self) -> bool
-        ensures room { IsTrue result → IsTrue (expected self.now).term → HasLevels self.now (Words Strings []) }
-        ensures deep { IsFalse result → IsTrue (expected self.now).term × (HasLevels self.now (Words Strings []) → ⊥) }
+        ensures room { IsTrue result → IsTrue (expected self.now).term
+            → HasLevels self.now (Words Strings []) }
+        ensures deep { IsFalse result → IsTrue (expected self.now).term
+            × (HasLevels self.now (Words Strings []) → ⊥) }
     {
         match self {
             State::Value { holes } => holes.has_room(),
@@ -254,7 +256,8 @@ fn at_part(
 
 /// A keyword begins in a bracket.
 fn at_key(frame: Opened, holes: Holes, key: Text, left: usize) -> Result<State, Fault>
-    ensures { GivesWhere (Enters (record { frame = frame; slot = Keyword key }) holes) left result (at_key frame holes key) }
+    ensures { GivesWhere (Enters (record { frame = frame; slot = Keyword key }) holes) left result
+        (at_key frame holes key) }
 {
     if !frame.takes_key() {
         return Err(unexpected(left));
@@ -272,7 +275,8 @@ fn at_element(
     token: Token,
     left: usize,
 ) -> Result<State, Fault>
-    ensures { GivesWhere (ElementFits frame holes token) left result (at_element frame holes token) }
+    ensures { GivesWhere (ElementFits frame holes token) left result
+        (at_element frame holes token) }
 {
     match token {
         Token::Close(closing) => closed(alloc, frame, closing, holes, left),
@@ -306,7 +310,8 @@ fn at_arrow(
     token: Token,
     left: usize,
 ) -> Result<State, Fault>
-    ensures { GivesWhere (Enters (record { frame = frame; slot = EntryValue key }) holes) left result (at_arrow key frame holes token) }
+    ensures { GivesWhere (Enters (record { frame = frame; slot = EntryValue key }) holes) left
+        result (at_arrow key frame holes token) }
 {
     let Token::Arrow = token else {
         return Err(unexpected(left));

@@ -27,7 +27,8 @@ fn pair_entries(
     alloc: Global,
     pairs: &[(Term, Term)],
 ) -> Result<Option<Vec<(&Text, &Term)>>, AllocError>
-    ensures { IfOk result (λ found. option_map (λ es. named es.items) found ≡ all_of named_of pairs.now) }
+    ensures { IfOk result (λ found. option_map (λ es. named es.items) found
+        ≡ all_of named_of pairs.now) }
 {
     let mut entries = Vec::new(alloc);
     for (key, value) in pairs {

@@ -12,7 +12,9 @@ use elixir_terms::{no_refusal, one_reading, one_refusal, some_answer};
 
 /// The manifest in a folder says one thing, or is refused in one way.
 pub fn one_project()
-    ensures { (files : List File) (dir : List ℕ) (answer other : Result (Option Project) ProjectError) → IsLoaded files dir answer → IsLoaded files dir other → answer ≡ other }
+    ensures { (files : List File) (dir : List ℕ)
+        (answer other : Result (Option Project) ProjectError) → IsLoaded files dir answer
+        → IsLoaded files dir other → answer ≡ other }
 {
     one_reading();
     one_refusal();
@@ -22,7 +24,8 @@ pub fn one_project()
 
 /// The files of a project have one meaning as settings, or are refused in one way.
 pub fn one_settings()
-    ensures { (files : List File) (answer other : Result Settings SettingsError) → AreSettings files answer → AreSettings files other → answer ≡ other }
+    ensures { (files : List File) (answer other : Result Settings SettingsError)
+        → AreSettings files answer → AreSettings files other → answer ≡ other }
 {
     one_reading();
     one_refusal();

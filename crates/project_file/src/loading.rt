@@ -63,7 +63,8 @@ pub fn load_settings<S: Store>(alloc: Global, store: &mut S) -> Result<Settings,
     ensures found { Answers settings_blame result
         (IsOfText (S.known store.old) settings_path SaysSettings) }
     ensures answer { Answers settings_blame result (Told (S.known store.old) AreSettings) }
-    ensures reads { OnlyReads (S.known store.old) (S.known store.new) (fails settings_blame result) }
+    ensures reads { OnlyReads (S.known store.old) (S.known store.new)
+        (fails settings_blame result) }
 {
     let path = RelPath::root(alloc).child(alloc, SETTINGS)?;
     let text = store.get(alloc, &path)?;

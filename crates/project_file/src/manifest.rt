@@ -81,7 +81,8 @@ fn stated_by<'a>(
 }
 
 fn app_in(alloc: Global, entries: &[(&Text, &Term)]) -> Result<Option<AppName>, AllocError>
-    ensures { IfOk result (λ found. found ≡ option_and_then app_of (first_of (codes "app") (named entries.now))) }
+    ensures { IfOk result (λ found. found ≡ option_and_then app_of
+        (first_of (codes "app") (named entries.now))) }
 {
     match first(entries, b"app") {
         Some(term) => app_of(alloc, term),
@@ -90,7 +91,8 @@ fn app_in(alloc: Global, entries: &[(&Text, &Term)]) -> Result<Option<AppName>, 
 }
 
 fn version_in(alloc: Global, entries: &[(&Text, &Term)]) -> Result<Option<Text>, AllocError>
-    ensures { IfOk result (λ found. found ≡ option_and_then version_of (first_of (codes "version") (named entries.now))) }
+    ensures { IfOk result (λ found. found ≡ option_and_then version_of
+        (first_of (codes "version") (named entries.now))) }
 {
     match first(entries, b"version") {
         Some(term) => version_of(alloc, term),
@@ -100,7 +102,8 @@ fn version_in(alloc: Global, entries: &[(&Text, &Term)]) -> Result<Option<Text>,
 
 // The list of declarations, where one is written.
 fn deps_in<'a>(entries: &[(&'a Text, &'a Term)]) -> Option<Option<&'a Term>>
-    ensures { option_map (λ deps. option_copied deps) result ≡ deps_in (first_of (codes "deps") (named entries.now)) }
+    ensures { option_map (λ deps. option_copied deps) result
+        ≡ deps_in (first_of (codes "deps") (named entries.now)) }
 {
     match first(entries, b"deps") {
         Some(term) => match term.as_list() {

@@ -98,7 +98,8 @@ fn print_parts(out: &mut Vec<u8>, parts: &[Term]) -> Result<(), AllocError>
 // Adds the parts of a list as keywords.
 #[cycle(print_term)]
 fn print_keywords(out: &mut Vec<u8>, parts: &[Term]) -> Result<(), AllocError>
-    ensures { OnOk result (out.new.items ≡ out.old.items ++ joined (map printed_keyword parts.now)) }
+    ensures { OnOk result (out.new.items ≡ out.old.items
+        ++ joined (map printed_keyword parts.now)) }
 {
     let mut separator: &[u8] = b"";
     for part in parts {

@@ -31,8 +31,10 @@ pub fn first_token(alloc: Global, text: &[u8], expected: Expected) -> Result<(To
     ensures free { IfOk result (λ found. IsFree text.now found.0 found.1.now) }
     ensures shorter { IfOk result (λ found. length found.1.now < length text.now) }
     // Nothing holds there of the text.
-    ensures whole { IfOk result (λ found. (place : ℕ) (why : TermCause) → Locally expected text.now place why → ⊥) }
-    ensures refused { IfErr result (λ fault. IsFalse (is_memory fault.cause) → (k : ℕ) × (fault.left + k ≡ length text.now) × IsFirst expected text.now k fault.cause) }
+    ensures whole { IfOk result (λ found. (place : ℕ) (why : TermCause)
+        → Locally expected text.now place why → ⊥) }
+    ensures refused { IfErr result (λ fault. IsFalse (is_memory fault.cause)
+        → (k : ℕ) × (fault.left + k ≡ length text.now) × IsFirst expected text.now k fault.cause) }
 {
     token(alloc, text, expected)
 }
@@ -60,7 +62,8 @@ fn atom<'a>(
     after: &'a [u8],
     expected: Expected,
 ) -> Result<(Token, &'a [u8]), Fault>
-    ensures { LexedBy (λ found. (found.0, found.1.now)) result (atom_lexed expected text.now after.now) }
+    ensures { LexedBy (λ found. (found.0, found.1.now)) result
+        (atom_lexed expected text.now after.now) }
 {
     if !expected.term {
         return Err(Fault::before(text, TermCause::Unexpected));

@@ -42,7 +42,8 @@ fn key<'a>(
     rest: &'a [u8],
     expected: Expected,
 ) -> Result<(Token, &'a [u8]), Fault>
-    ensures { LexedBy (λ found. (found.0, found.1.now)) result (key_lexed expected text.now name.now rest.now (after_colon rest.now)) }
+    ensures { LexedBy (λ found. (found.0, found.1.now)) result
+        (key_lexed expected text.now name.now rest.now (after_colon rest.now)) }
 {
     match after_colon(rest) {
         Some(after) => Ok((Token::Key(Text::from_slice(alloc, name)?), after)),
@@ -79,7 +80,8 @@ fn bare<'a>(
     rest: &'a [u8],
     expected: Expected,
 ) -> Result<(Token, &'a [u8]), Fault>
-    ensures { LexedBy (λ found. (found.0, found.1.now)) result (bare_lexed expected text.now name.now rest.now) }
+    ensures { LexedBy (λ found. (found.0, found.1.now)) result
+        (bare_lexed expected text.now name.now rest.now) }
 {
     if is_capital(text) {
         return Err(Fault::before(text, TermCause::Unsupported(Feature::Alias)));

@@ -32,7 +32,8 @@ fn signed<'a>(
     negative: bool,
     numeral: &'a [u8],
 ) -> Result<(Token, &'a [u8]), Fault>
-    ensures { LexedBy (λ found. (found.0, found.1.now)) result (numeral_lexed text.now negative numeral.now) }
+    ensures { LexedBy (λ found. (found.0, found.1.now)) result
+        (numeral_lexed text.now negative numeral.now) }
 {
     let (base, digits) = base_of(numeral);
     let mut written = minus(alloc, negative)?;
@@ -103,7 +104,9 @@ fn push_digits<'a>(
 ) -> Result<(bool, &'a [u8]), AllocError>
     requires least { 2 ≤ base }
     requires most { base ≤ 16 }
-    ensures { IfOk result (λ found. (digits : List ℕ) × ((found.0, digits, found.1.now) ≡ scanned base false text.now) × (written.new.items ≡ written.old.items ++ digits)) }
+    ensures { IfOk result (λ found. (digits : List ℕ)
+        × ((found.0, digits, found.1.now) ≡ scanned base false text.now)
+        × (written.new.items ≡ written.old.items ++ digits)) }
 {
     let mut after_digit = false;
     let mut rest = text;
@@ -126,7 +129,8 @@ fn value(base: u32, written: &[u8]) -> Option<i128>
     requires least { 2 ≤ base }
     requires most { base ≤ 16 }
     requires digits { IsTrue (are_signed_digits base written.now) }
-    ensures { SomeIff result (IsNarrow (Int (signed_value base written.now))) (signed_value base written.now) }
+    ensures { SomeIff result (IsNarrow (Int (signed_value base written.now)))
+        (signed_value base written.now) }
 {
     let value = match str::from_utf8(written) {
         Ok(text) => i128::from_str_radix(text, base),

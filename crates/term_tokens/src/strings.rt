@@ -28,7 +28,9 @@ pub fn quoted_atom<'a>(
     text: &'a [u8],
     inside: &'a [u8],
 ) -> Result<(Token, &'a [u8]), Fault>
-    ensures { LexedBy (λ found. (found.0, found.1.now)) result (quoted_stop text.now (spelt_at inside.now).0 (spelt_at inside.now).1 (stuck_at inside.now)) }
+    ensures { LexedBy (λ found. (found.0, found.1.now)) result
+        (quoted_stop text.now (spelt_at inside.now).0 (spelt_at inside.now).1
+        (stuck_at inside.now)) }
 {
     let (bytes, rest) = spelt(alloc, inside)?;
     match rest {
@@ -48,7 +50,8 @@ pub fn string<'a>(
     inside: &'a [u8],
     expected: Expected,
 ) -> Result<(Token, &'a [u8]), Fault>
-    ensures { LexedBy (λ found. (found.0, found.1.now)) result (string_lexed expected text.now inside.now) }
+    ensures { LexedBy (λ found. (found.0, found.1.now)) result
+        (string_lexed expected text.now inside.now) }
 {
     if !(expected.term || expected.key) {
         Err(Fault::before(text, TermCause::Unexpected))
@@ -66,7 +69,9 @@ fn quoted<'a>(
     inside: &'a [u8],
     expected: Expected,
 ) -> Result<(Token, &'a [u8]), Fault>
-    ensures { LexedBy (λ found. (found.0, found.1.now)) result (string_stop expected text.now (spelt_at inside.now).0 (spelt_at inside.now).1 (stuck_at inside.now)) }
+    ensures { LexedBy (λ found. (found.0, found.1.now)) result
+        (string_stop expected text.now (spelt_at inside.now).0 (spelt_at inside.now).1
+        (stuck_at inside.now)) }
 {
     let (bytes, rest) = spelt(alloc, inside)?;
     match rest {
@@ -109,7 +114,8 @@ fn stopped<'a>(
     rest: &'a [u8],
     cause: TermCause,
 ) -> Result<(Token, &'a [u8]), Fault>
-    ensures { LexedBy (λ found. (found.0, found.1.now)) result (stopped any (stuck_at inside.now) (Err (rest.now, cause))) }
+    ensures { LexedBy (λ found. (found.0, found.1.now)) result
+        (stopped any (stuck_at inside.now) (Err (rest.now, cause))) }
 {
     if any {
         return Err(Fault::before(rest, cause));
@@ -137,7 +143,8 @@ fn closed<'a>(
     rest: &'a [u8],
     expected: Expected,
 ) -> Result<(Token, &'a [u8]), Fault>
-    ensures { LexedBy (λ found. (found.0, found.1.now)) result (closed_lexed expected text.now bytes rest.now (after_colon rest.now)) }
+    ensures { LexedBy (λ found. (found.0, found.1.now)) result
+        (closed_lexed expected text.now bytes rest.now (after_colon rest.now)) }
 {
     match after_colon(rest) {
         Some(after) if expected.key => match utf8_text(bytes) {
@@ -150,7 +157,8 @@ fn closed<'a>(
 
 /// A string that is no keyword's key, before the rest.
 fn no_key<'a>(bytes: Bytes, rest: &'a [u8], expected: Expected) -> Result<(Token, &'a [u8]), Fault>
-    ensures { LexedBy (λ found. (found.0, found.1.now)) result (no_quoted_key expected bytes rest.now) }
+    ensures { LexedBy (λ found. (found.0, found.1.now)) result
+        (no_quoted_key expected bytes rest.now) }
 {
     match rest {
         [b':', after @ ..] if expected.key && is_utf8(bytes.as_slice()) => Err(cut_off(after)),
@@ -201,7 +209,8 @@ pub fn next(text: &[u8]) -> Option<(Spelled, &[u8])>
 
 /// What the escape after a backslash spells, and the text after it.
 fn after_escape(text: &[u8]) -> Option<(Spelled, &[u8])>
-    ensures value { option_map (λ found. (spelled found.0, found.1.now)) result ≡ after_escape (escape_at text.now) text.now }
+    ensures value { option_map (λ found. (spelled found.0, found.1.now)) result
+        ≡ after_escape (escape_at text.now) text.now }
     ensures shorter { IfSome result (λ found. length found.1.now ≤ length text.now) }
 {
     let (value, len) = escape(text)?;
@@ -250,7 +259,8 @@ fn letter_escape(letter: u8) -> Option<u8>
 
 /// The byte of two hexadecimal digits after `x`.
 fn byte_escape(text: &[u8]) -> Option<(Spelled, usize)>
-    ensures value { option_map (λ found. (spelled found.0, found.1)) result ≡ byte_escape_at text.now }
+    ensures value { option_map (λ found. (spelled found.0, found.1)) result
+        ≡ byte_escape_at text.now }
     ensures within { IfSome result (λ found. found.1 ≤ 1 + length text.now) }
 {
     match text {
@@ -266,7 +276,8 @@ fn byte_escape(text: &[u8]) -> Option<(Spelled, usize)>
 /// The scalar value of one to six hexadecimal digits before `}`, after `u{`.
 #[tactic(auto, using(crate::proofs::StringLemmas::hex_digits))]
 fn scalar_escape(text: &[u8]) -> Option<(Spelled, usize)>
-    ensures value { option_map (λ found. (spelled found.0, found.1)) result ≡ scalar_of (hex_len text.now) text.now }
+    ensures value { option_map (λ found. (spelled found.0, found.1)) result
+        ≡ scalar_of (hex_len text.now) text.now }
     ensures within { IfSome result (λ found. found.1 ≤ 2 + length text.now) }
 {
     let len = hex_len(text);

@@ -77,7 +77,8 @@ fn stuck_digit<'a>(alloc: Global, bytes: &[u8], text: &'a [u8]) -> Result<&'a [u
 
 /// Some byte with this high digit may follow the bytes.
 fn goes_on(alloc: Global, bytes: &[u8], high: u8) -> Result<bool, AllocError>
-    ensures { IfOk result (λ some. some ≡ (is_digit high 16 && some_low bytes.now (digit_value high) 16)) }
+    ensures { IfOk result (λ some. some ≡ (is_digit high 16 && some_low bytes.now
+        (digit_value high) 16)) }
 {
     match char::from(high).to_digit(16) {
         Some(value) => some_low(alloc, bytes, value as u8),

@@ -15,7 +15,8 @@ use std::alloc::{AllocError, Global};
 
 /// A list of words: the text from its `~` on, and after it.
 pub fn words<'a>(alloc: Global, text: &'a [u8], after: &'a [u8]) -> Result<(Token, &'a [u8]), Fault>
-    ensures { LexedBy (λ found. (found.0, found.1.now)) result (after_tilde_lexed text.now after.now) }
+    ensures { LexedBy (λ found. (found.0, found.1.now)) result
+        (after_tilde_lexed text.now after.now) }
 {
     match after {
         [] | [b'w'] => Err(Fault {
@@ -29,7 +30,8 @@ pub fn words<'a>(alloc: Global, text: &'a [u8], after: &'a [u8]) -> Result<(Toke
 
 /// A list of words, after its opening parenthesis.
 fn words_in(alloc: Global, text: &[u8]) -> Result<(Token, &[u8]), Fault>
-    ensures { LexedBy (λ found. (found.0, found.1.now)) result (words_stop (take (inside_len text.now) text.now) (drop (inside_len text.now) text.now)) }
+    ensures { LexedBy (λ found. (found.0, found.1.now)) result
+        (words_stop (take (inside_len text.now) text.now) (drop (inside_len text.now) text.now)) }
 {
     let (inside, rest) = text.split_at(inside_len(text));
     match rest {

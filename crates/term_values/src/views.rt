@@ -74,7 +74,8 @@ impl Term {
     ///
     /// Memory ran out.
     pub fn keywords(&self, alloc: Global) -> Result<Option<Vec<(&Text, &Term)>>, AllocError>
-        ensures { IfOk result (λ found. option_map (λ entries. named entries.items) found ≡ keywords_of self.now) }
+        ensures { IfOk result (λ found. option_map (λ entries. named entries.items) found
+            ≡ keywords_of self.now) }
     {
         let Some(items) = self.as_list() else {
             return Ok(None);
