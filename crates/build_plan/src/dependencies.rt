@@ -12,7 +12,7 @@ use crate::error::PlanError;
 use crate::found::Found;
 use crate::manifests::Manifests;
 use dep_options::Decl;
-use dep_rows::{Rows, rows};
+use dep_rows::{Rows, Tally, rows};
 use project_file::one_project;
 use std::alloc::Global;
 use std::collections::BTreeMap;
@@ -40,6 +40,7 @@ pub(crate) fn dependencies<S: Store>(
     let mut manifests = Manifests {
         store,
         found: &mut found,
+        tally: Tally::none(),
     };
     take_stock(alloc, &mut manifests, root)
 }

@@ -11,7 +11,7 @@ ghost use Rattle.build_plan.specs.ChildLaws.{children_once, fault_is_told};
 use crate::error::PlanError;
 use crate::found::{Found, find};
 use dep_options::{Decl, DepSource};
-use dep_rows::Children;
+use dep_rows::{Children, Tally};
 use mx_base::{AppName, RelPath};
 use std::alloc::{AllocError, Global};
 use std::collections::BTreeMap;
@@ -22,6 +22,8 @@ pub(crate) struct Manifests<'a, S> {
     pub store: &'a mut S,
     /// What was found, by folder.
     pub found: &'a mut BTreeMap<RelPath, Found>,
+    /// The calls that gave declarations.
+    pub tally: Tally,
 }
 
 impl<S: Store> Manifests<'_, S> {
@@ -37,6 +39,7 @@ impl<S: Store> Manifests<'_, S> {
         ensures kept { AreKept (S.known self.old.store.now).sources self.new.found.now }
         ensures same_reference { self.new.store.ghost_name ≡ self.old.store.ghost_name }
         ensures reads { OnlyReads (S.known self.old.store.now) (S.known self.new.store.now) (fails blame_of result) }
+        ensures tally { self.new.tally ≡ self.old.tally }
     {
         match &winner.source {
             DepSource::Hex { .. } => Err(PlanError::NotLocked(app.clone()?)),
@@ -54,6 +57,7 @@ impl<S: Store> Manifests<'_, S> {
         ensures kept { AreKept (S.known self.old.store.now).sources self.new.found.now }
         ensures same_reference { self.new.store.ghost_name ≡ self.old.store.ghost_name }
         ensures store { self.new.store.now ≡ self.old.store.now }
+        ensures tally { self.new.tally ≡ self.old.tally }
     {
         self.found.insert(found.dir.clone()?, found)?;
         Ok(())
@@ -64,7 +68,11 @@ impl<S> Drop for Manifests<'_, S> {
     fn drop(self)
         ensures { self.exit.0.now ≡ self.entry.store.now }
     {
-        let Manifests { store: _, found: _ } = self;
+        let Manifests {
+            store: _,
+            found: _,
+            tally: _,
+        } = self;
     }
 }
 
@@ -78,6 +86,8 @@ impl<S: Store> Children for Manifests<'_, S> {
     ghost meaning = { λ manifests. (S.known manifests.store.now).sources };
 
     ghost faults = { λ manifests. (S.known manifests.store.now).faults };
+
+    ghost tally = { λ manifests. manifests.tally };
 
     ghost blame = { blame_of };
 
@@ -100,6 +110,7 @@ impl<S: Store> Children for Manifests<'_, S> {
         let found = self.take(alloc, app, winner)?;
         let decls = found.declared(alloc, &winner.env)?;
         self.keep(found)?;
+        self.tally = self.tally.with(decls.len())?;
         Ok(decls)
     }
 }

@@ -10,3 +10,4 @@ pub mod Outcomes
 pub mod Asking
 pub mod Growth
 pub mod Exists
+pub mod Tallies

@@ -4,3 +4,4 @@ pub mod Children
 pub mod ListChildren
 pub mod Refusal
 pub mod Listed
+pub mod Tally

@@ -1,10 +1,12 @@
 // What the winner of an app declares in turn.
-ghost use Rattle.std.specs.Prelude.{◌≡◌, ℕ, List, Option, Err, IfSome};
+ghost use Rattle.std.specs.Prelude.{◌≡◌, ℕ, List, Option, Err, IfOk, IfErr, IfSome, length};
 ghost use Rattle.mx_base.specs.Blame.{Blame, AnswersBy, fails};
 ghost use Rattle.mx_base.specs.Blame.Blame.{Input};
 ghost use Rattle.mx_base.specs.Causes.{Counted};
 ghost use Rattle.dep_options.specs.declared.decl.Decl.{Decl};
 ghost use Rattle.dep_rows.specs.Rows.{ChildrenOf, AnswersOnce};
+ghost use Rattle.dep_rows.specs.Tally.{one_more};
+ghost use Rattle.dep_rows.specs.declared.tally.Tally.{Tally};
 
 use dep_options::Decl;
 use mx_base::AppName;
@@ -25,6 +27,9 @@ pub trait Children {
 
     /// How often the outside failed. The count never falls.
     ghost faults: { Self → ℕ };
+
+    /// The calls that gave declarations.
+    ghost tally: { Self → Tally };
 
     /// Whom a fault blames.
     ghost blame: { Self.Fault → Blame };
@@ -50,6 +55,9 @@ pub trait Children {
         ensures meaning { meaning self.new ≡ meaning self.old }
         ensures made_over { made_over self.new ≡ made_over self.old }
         ensures stands { stands self.new }
+        ensures given { IfOk result (λ decls.
+            tally self.new ≡ one_more (tally self.old) (length decls.items)) }
+        ensures refused { IfErr result (λ _. tally self.new ≡ tally self.old) }
         ensures cause { Counted (faults self.old) (faults self.new) (fails blame result) };
 
     /// Each winner has one answer at most.
@@ -59,5 +67,5 @@ pub trait Children {
     /// A fault that is told is a refusal.
     ghost told: { (object : Self) (app : List ℕ) (winner : Decl) (fault : Self.Fault) →
         IfSome (meaning object) (λ known.
-            children_of known app winner (Err fault) → blame fault ≡ Input) };
+        children_of known app winner (Err fault) → blame fault ≡ Input) };
 }

@@ -15,6 +15,7 @@ mod list_children;
 mod listing;
 mod queue;
 mod row;
+mod tally;
 
 pub use children::Children;
 pub use error::RowsError;
@@ -23,3 +24,4 @@ pub use list::Rows;
 pub use list_children::{ListAnswer, ListAnswers, ListChildren, ListFault};
 pub use queue::rows;
 pub use row::{Places, Row, RowList};
+pub use tally::Tally;

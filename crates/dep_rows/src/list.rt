@@ -27,7 +27,7 @@ impl Model for Rows {
 
     ghost invariant = { λ list.
         IsWithinLimit (record { rows = list.rows; winners = list.winners })
-            × KnowsWinners list.by_app list.rows };
+        × KnowsWinners list.by_app list.rows };
 }
 
 impl Rows {

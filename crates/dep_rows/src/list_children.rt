@@ -7,6 +7,7 @@ ghost use Rattle.dep_rows.specs.ListChildren.{answer_for, told_by, list_blame, l
 
 use crate::children::Children;
 use crate::decls::copied;
+use crate::tally::Tally;
 use dep_options::Decl;
 use mx_base::{AppName, Faults, ListOf};
 use std::alloc::{AllocError, Global};
@@ -48,6 +49,7 @@ impl From<AllocError> for ListFault {
 pub struct ListChildren<P> {
     answers: ListAnswers,
     plan: P,
+    tally: Tally,
 }
 
 impl<P: Faults + Drop> ListChildren<P> {
@@ -55,7 +57,11 @@ impl<P: Faults + Drop> ListChildren<P> {
         ensures meaning { ⟦<ListChildren<P> as Children>⟧.meaning result ≡ Some answers }
         ensures faults { ⟦<ListChildren<P> as Children>⟧.faults result ≡ P.count plan }
     {
-        ListChildren { answers, plan }
+        ListChildren {
+            answers,
+            plan,
+            tally: Tally::none(),
+        }
     }
 }
 
@@ -69,6 +75,8 @@ impl<P: Faults + Drop> Children for ListChildren<P> {
     ghost meaning = { λ list. Some list.answers };
 
     ghost faults = { λ list. P.count list.plan };
+
+    ghost tally = { λ list. list.tally };
 
     ghost blame = { list_blame };
 
@@ -91,7 +99,9 @@ impl<P: Faults + Drop> Children for ListChildren<P> {
         if self.plan.fails() {
             return Err(ListFault::Failed);
         }
-        answer_for(alloc, self.answers.as_slice(), app)
+        let decls = answer_for(alloc, self.answers.as_slice(), app)?;
+        self.tally = self.tally.with(decls.len())?;
+        Ok(decls)
     }
 }
 

@@ -43,7 +43,7 @@ impl Listing {
             ≡ self.rows.items ++ rows_from by 0 decls.items) }
         ensures winners { IfOk result (λ listing.
             listing.winners.items ≡ self.winners.items ++ next_winners self.rows.items
-                (rows_from by 0 decls.items)) }
+            (rows_from by 0 decls.items)) }
     {
         let mut listing = self;
         let mut index = 0;

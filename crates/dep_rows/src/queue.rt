@@ -1,5 +1,5 @@
 // Each winner, in the order of its place, is asked for its children, whose rows come at the end.
-ghost use Rattle.std.specs.Prelude.{◌≡◌, ◌≤◌, ◌<◌, IfOk, IfErr, IfSome, vec_len};
+ghost use Rattle.std.specs.Prelude.{◌≡◌, ◌≤◌, ◌<◌, IfOk, IfErr, IfSome, length, vec_len};
 ghost use Rattle.mx_base.specs.Blame.{Answers, fails};
 ghost use Rattle.mx_base.specs.Causes.{Counted};
 ghost use Rattle.dep_rows.specs.Children.{rows_blame};
@@ -7,6 +7,7 @@ ghost use Rattle.dep_rows.specs.Growing.{BringsIn, Hinders};
 ghost use Rattle.dep_rows.specs.Listed.{IsWithinLimit};
 ghost use Rattle.dep_rows.specs.Refusal.{IsListing};
 ghost use Rattle.dep_rows.specs.Rows.{most_rows};
+ghost use Rattle.dep_rows.specs.Tally.{Asks, AsksOne, OverflowsBy};
 
 use crate::children::Children;
 use crate::decls::copied;
@@ -31,6 +32,7 @@ pub fn rows<C: Children>(
     ensures stands { C.stands children.new }
     ensures cause { Counted (C.faults children.old) (C.faults children.new)
         (fails (rows_blame C.blame) result) }
+    ensures asks { Asks (length root.now) (C.tally children.old) (C.tally children.new) result }
 {
     if root.len() > MOST_ROWS {
         return Err(RowsError::TooManyRows);
@@ -65,6 +67,10 @@ fn bring_in<C: Children>(
     ensures stands { C.stands children.new }
     ensures cause { Counted (C.faults children.old) (C.faults children.new)
         (fails (rows_blame C.blame) result) }
+    ensures asks { IfOk result (λ longer.
+        AsksOne (length listing.rows.items) (length longer.rows.items) (C.tally children.old) (C.tally children.new)) }
+    ensures past { IfErr result (OverflowsBy (length listing.rows.items) (C.tally children.old)
+        (C.tally children.new)) }
 {
     let row = &listing.rows[winner as usize];
     let decls = match children.children(alloc, &row.app, &row.decl) {

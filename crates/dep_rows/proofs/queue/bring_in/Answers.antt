@@ -2,6 +2,7 @@ use Rattle.std.proofs.Common.{◌<◌, ◌+◌, length, arith}
 use Rattle.std.proofs.lemmas.Option.{slice_get_read}
 use Rattle.dep_rows.specs.Rows.{most_rows}
 use Rattle.dep_rows.proofs.Asking.{brings_in, hinders, overflows}
+use Rattle.dep_rows.proofs.Tallies.{asks_one}
 use Rattle.dep_rows.proofs.queue.bring_in.Goals as goal
 
 pub returns-clause-ok : goal.returns-clause-ok
@@ -41,3 +42,17 @@ returns-then-len-clause-err g c =
     let many : most_rows < length old.items + length decls.items = omega (arith, few, rows_long, decls_long, shown, shown_rows, past) in
     let stands = slice_get_read old.items old.len c.args.winner row rows_long c.requires.within c.index-row.ensures in
     overflows g.C.Children.children_of g.C.Children.blame (g.C.Children.meaning c.args.children.now) c.args.winner row old.items decls.items stands c.in-Ok.ensures.answer many
+
+pub returns-clause-asks : goal.returns-clause-asks
+returns-clause-asks g c =
+    asks_one c.args.winner c.in-Ok.decls.items c.args.listing.rows.items c.in_ok-with_all.field-0.rows.items (g.C.Children.tally c.args.children.now) (g.C.Children.tally c.children.new.self) c.in_ok-with_all.ensures.rows c.in-Ok.ensures.given
+
+pub returns-then-len-clause-past : goal.returns-then-len-clause-past
+returns-then-len-clause-past g c =
+    let rows_long = c.args.listing.rows.ok.0 in
+    let decls_long = c.in-Ok.decls.ok.0 in
+    let few = c.requires.few in
+    let shown = c.len.ensures in
+    let shown_rows = c.len-2.ensures in
+    let past = c.if-len.true in
+    (length c.in-Ok.decls.items, c.in-Ok.ensures.given, omega (arith, few, rows_long, decls_long, shown, shown_rows, past))

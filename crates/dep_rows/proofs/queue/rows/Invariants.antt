@@ -1,5 +1,6 @@
-use Rattle.std.proofs.Common.{◌≡◌, ◌-◌}
+use Rattle.std.proofs.Common.{◌≡◌, ◌-◌, length}
 use Rattle.dep_rows.specs.Rows.{most_rows}
+use Rattle.dep_rows.specs.Tally.{HasAsked}
 use Rattle.dep_rows.proofs.Asking.{Stands}
 use Rattle.dep_rows.proofs.queue.rows.Given as goal
 
@@ -9,6 +10,7 @@ invariant-loop-asked g l = record {
   meaning : g.C.Children.meaning l.children ≡ g.C.Children.meaning l.fn.children;
   made_over : g.C.Children.made_over l.children ≡ g.C.Children.made_over l.fn.children;
   standing : g.C.Children.stands l.children;
+  asks : HasAsked (length l.fn.root) (length l.listing.rows.items) l.asked (g.C.Children.tally l.fn.children) (g.C.Children.tally l.children);
   faults : g.C.Children.faults l.children ≡ g.C.Children.faults l.fn.children;
 }
 
