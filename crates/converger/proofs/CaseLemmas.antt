@@ -7,7 +7,7 @@ use Rattle.semver.specs.declared.Version.{Version}
 use Rattle.dep_rows.specs.declared.row.Row.{Row}
 use Rattle.dep_rows.proofs.WinnerOf.{is_winner, winner_is}
 use Rattle.dep_rows.specs.Listed.{Listed}
-use Rattle.dep_rows.specs.Rows.{IsWinner, winner_of}
+use Rattle.dep_rows.specs.Rows.{winner_of}
 use Rattle.converger.specs.declared.divergence.Rule.{Rule}
 use Rattle.converger.specs.declared.divergence.Rule.TheVariants.{V1, V2, V3, V4}
 use Rattle.converger.specs.Divergence.{Diverges, source, compiled, version, environment, HasVersion, IsUnder}
@@ -99,7 +99,7 @@ module _ (rows : List Row) (winners : List ℕ) (versions : List (Option Version
         let s = at.1 in
         let here : s.row ≡ row = one_value (sym s.under.stands ∙ case.under.stands) in
         let same_place : s.place ≡ place = one_value (sym (is_winner rows row.app s.place s.winner s.under.wins (s.under.app ∙ ap (λ (r : Row). r.app) here))
-            ∙ is_winner rows row.app place winner case.under.wins case.under.app) in
+        ∙ is_winner rows row.app place winner case.under.wins case.under.app) in
         subst (λ (p : ℕ). Diverges rows winners versions V4 p other) same_place
         (environment s.by s.winner s.row s.parent at.0 s.under s.root s.barred s.required s.declared s.stands s.reached)
 

@@ -1,6 +1,6 @@
 -- Facts that hold or don't.
-use Rattle.std.proofs.Common.{◌≡◌, ◌≢◌, ℕ, ◌<◌, Bool, true, false, ◌⊎◌, inl, inr, List, [], ◌∷◌, Contains, sym, subst, ap, refl, arith, bytes_eq, Option, Some, None}
-use Rattle.std.proofs.lemmas.Bool.{both_ways, cases_Bool, cases_eq}
+use Rattle.std.proofs.Common.{◌≡◌, ℕ, Bool, true, false, ◌⊎◌, inl, inr, List, [], ◌∷◌, Contains, sym, subst, ap, refl, arith, bytes_eq, Option, Some, None}
+use Rattle.std.proofs.lemmas.Bool.{both_ways, cases_eq}
 use Rattle.std.proofs.lemmas.Option.{none-some}
 use Rattle.dep_order.specs.Listing.{is_listed}
 use Rattle.dep_order.proofs.Listed.{listed-from_Contains, Contains-from_listed}
@@ -9,7 +9,7 @@ use Rattle.dep_options.specs.declared.decl.DepSource.TheVariants.{Hex, Path}
 use Rattle.dep_options.specs.declared.decl.CompileBy.{CompileBy}
 use Rattle.dep_options.specs.declared.decl.CompileBy.TheVariants.{Manager, Command, Nothing}
 use Rattle.converger.proofs.OneLemmas.{in_front, behind, front_or_behind}
-use Rattle.converger.proofs.WebLemmas.{one_value, same_bytes, bytes_same}
+use Rattle.converger.proofs.WebLemmas.{same_bytes, bytes_same}
 
 abbrev pub IsDecided : Type 0 → Type 0
 IsDecided P = P ⊎ (P → ⊥)

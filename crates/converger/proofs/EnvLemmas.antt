@@ -11,7 +11,7 @@ use Rattle.mx_base.specs.Order.{text_cmp}
 use Rattle.mx_base.specs.AppName.{IsAppName}
 use Rattle.dep_order.specs.Reach.{IsReachedFrom, Direct, Further}
 use Rattle.dep_rows.specs.declared.row.Row.{Row}
-use Rattle.converger.specs.Reach.{admits, is_wanted, links_of, starts_of, winners_among}
+use Rattle.converger.specs.Reach.{admits, is_wanted, links_of, starts_of}
 use Rattle.converger.specs.Strays.{is_marked, IsStray, IsStraySomewhere, AreNamed, IsUnnamed, is_named}
 use Rattle.converger.proofs.Links.{brought}
 use Rattle.converger.proofs.Reached.{starts_brought}
@@ -46,7 +46,7 @@ pub not_empty_more : (only : List (List ℕ)) (i : ℕ) (name : List ℕ) → i 
 not_empty_more only i name within is named so_far =
     list_any_more (bytes_eq []) only i name within
     ∙ ap₂ (λ (a b : Bool). a || b) so_far (ap (bytes_eq []) (sym is) ∙ not_same_bytes [] name
-        (λ same. absurd (omega (arith, named.not_empty, ap (λ (t : List ℕ). length t) same))))
+    (λ same. absurd (omega (arith, named.not_empty, ap (λ (t : List ℕ). length t) same))))
 
 push_cases : (xs : List Row) (x r : Row) (k : ℕ) → slice_get (xs ++ x ∷ []) k ≡ Some r → (slice_get xs k ≡ Some r) ⊎ (x ≡ r)
 push_cases [] x r zero h = inr (one_value h)
@@ -58,7 +58,7 @@ row_cases : (rows : List Row) (i : ℕ) (row : Row) → i < length rows → row 
     → slice_get (take (i + 1) rows) place ≡ Some r → (slice_get (take i rows) place ≡ Some r) ⊎ (row ≡ r)
 row_cases rows i row within is place r stands =
     push_cases (take i rows) row r place (sym (ap (λ (xs : List Row). slice_get xs place)
-        (take_more rows i row within ∙ ap (λ (x : Row). take i rows ++ x ∷ []) (sym is))) ∙ stands)
+    (take_more rows i row within ∙ ap (λ (x : Row). take i rows ++ x ∷ []) (sym is))) ∙ stands)
 
 pub named_more : (rows : List Row) (i : ℕ) (row : Row) → i < length rows → row ≡ get_or rows i row → (old new : List ℕ → Bool) → AreNamed (take i rows) old
     → ((env : List ℕ) → old env ≡ true → new env ≡ true) → (row.by ≡ None → (env : List ℕ) → is_named row.decl.only env ≡ true → new env ≡ true)

@@ -1,7 +1,6 @@
 -- Rows and versions have a list of all divergences.
-use Rattle.std.proofs.Common.{◌≡◌, ◌≢◌, ℕ, zero, suc, ◌+◌, ◌<◌, ◌≤◌, Bool, true, false, ◌⊎◌, inl, inr, List, [], ◌∷◌, ◌++◌, length, get_or, Contains, replicate, sum_by, zero-add, sym, ◌∙◌, ap, subst, refl, arith, Option, Some, None, bytes_eq, IsTrue, IsFalse}
-use Rattle.std.specs.List.{slice_get, list_any, flat_map, range_with_len}
-use Rattle.std.proofs.lemmas.List.{length-replicate}
+use Rattle.std.proofs.Common.{◌≡◌, ◌≢◌, ℕ, zero, suc, ◌+◌, Bool, ◌⊎◌, inl, inr, List, [], ◌∷◌, ◌++◌, length, zero-add, sym, ◌∙◌, ap, subst, refl, arith, Option, Some, None, IsFalse}
+use Rattle.std.specs.List.{slice_get, range_with_len}
 use Rattle.std.proofs.lemmas.List.FromFn.{get_or-range_with_len, length-range_with_len}
 use Rattle.std.proofs.lemmas.Option.{none-some, slice_get_within}
 use Rattle.semver.specs.Identifiers.{parts_of}
@@ -14,12 +13,11 @@ use Rattle.dep_rows.specs.Rows.{winner_of}
 use Rattle.converger.specs.declared.divergence.Divergence.{Divergence}
 use Rattle.converger.specs.declared.divergence.Rule.{Rule}
 use Rattle.converger.specs.declared.divergence.Rule.TheVariants.{V1, V2, V3, V4}
-use Rattle.converger.specs.Cases.{AreBefore, IsUnderAt, turn_of}
+use Rattle.converger.specs.Cases.{AreBefore, turn_of}
 use Rattle.converger.specs.Divergence.{AreDivergences, Diverges, IsUnder, is_ignored, is_path}
-use Rattle.converger.specs.Divergence.Diverges.{source, compiled, version, environment}
-use Rattle.converger.specs.Reach.{IsReached}
+use Rattle.converger.specs.Divergence.Diverges.{source, compiled, version}
 use Rattle.converger.proofs.CaseLemmas.{under_at, none_diverges, not_diverging, stands_under}
-use Rattle.converger.proofs.Decided.{IsDecided, dec_map, dec_not, dec_or, dec_and, dec_isnt, dec_bool, dec_number, dec_text, dec_source, dec_compiler, dec_some, Some_of}
+use Rattle.converger.proofs.Decided.{IsDecided, dec_map, dec_not, dec_or, dec_and, dec_isnt, dec_bool, dec_number, dec_text, dec_source, dec_compiler, dec_some}
 use Rattle.converger.proofs.SomeStray.{dec_stray}
 use Rattle.converger.proofs.Turns.{before_found, before_none, before_first, before_same, before_all}
 use Rattle.converger.proofs.WebLemmas.{one_value}
@@ -82,13 +80,13 @@ module _ (rows : List Row) (winners : List ℕ) (versions : List (Option Version
     compiled_of : D V2 → CompiledDiffers winner row
     compiled_of (compiled w r also apart kept differs) =
         subst (λ (x : Row). CompiledDiffers winner x) (one_row w r also)
-            (subst (λ (x : Row). CompiledDiffers x r) (one_winner w r also) (apart, (kept, differs)))
+        (subst (λ (x : Row). CompiledDiffers x r) (one_winner w r also) (apart, (kept, differs)))
 
     dec_second : IsDecided (D V2)
     dec_second = dec_map (λ h. compiled winner row under h.0 h.1.0 h.1.1) compiled_of
         (dec_and (dec_not (dec_number other place)) (dec_and (dec_isnt (is_ignored winner row))
         (dec_or (dec_not (dec_bool row.decl.app_file winner.decl.app_file))
-            (dec_or (dec_not (dec_text row.decl.env winner.decl.env)) (dec_not (dec_compiler row.decl.compile winner.decl.compile))))))
+        (dec_or (dec_not (dec_text row.decl.env winner.decl.env)) (dec_not (dec_compiler row.decl.compile winner.decl.compile))))))
 
     record Asks (w r : Row) : Type 0 where
       kept : IsFalse (is_ignored w r)
@@ -99,8 +97,14 @@ module _ (rows : List Row) (winners : List ℕ) (versions : List (Option Version
 
     asks_of : D V3 → Asks winner row
     asks_of (version w r known requirement also kept (k, wins, has) asks fails) =
-        let a : Asks w r = record { kept = kept; requirement = requirement; asks = asks; k = k; missed =
-            record { known = known; wins = wins; has = has; fails = fails } } in
+        let a : Asks w r = record {
+          kept = kept;
+          requirement = requirement;
+          asks = asks;
+          k = k;
+          missed =
+              record { known = known; wins = wins; has = has; fails = fails };
+        } in
         subst (λ (x : Row). Asks winner x) (one_row w r also) (subst (λ (x : Row). Asks x r) (one_winner w r also) a)
 
     dec_asks : (o : Option Alternatives) → row.decl.requirement ≡ o → IsDecided (Asks winner row)
@@ -115,7 +119,7 @@ module _ (rows : List Row) (winners : List ℕ) (versions : List (Option Version
         let long = length-range_with_len 0 (length versions) in
         (a.kept, (a.k, (a.k, omega (arith, within, long), get_or-range_with_len 0 (length versions) a.k a.k within ∙ zero-add a.k), missed)))
         (dec_and (dec_isnt (is_ignored winner row)) (dec_some (IsMissed requirement (is_path winner.decl.source) place)
-            (dec_missed requirement (is_path winner.decl.source) place) (range_with_len 0 (length versions))))
+        (dec_missed requirement (is_path winner.decl.source) place) (range_with_len 0 (length versions))))
 
     dec_third : IsDecided (D V3)
     dec_third = dec_map

@@ -1,5 +1,5 @@
 -- The winners that rows bring in, as lists and as a graph.
-use Rattle.std.proofs.Common.{◌≡◌, ℕ, zero, suc, ◌+◌, ◌<◌, ◌≤◌, Bool, true, false, cond, ◌&&◌, eqb, List, [], ◌∷◌, ◌++◌, length, get_or, take, map, filter, filter_map, All, Contains, inl, inr, Option, Some, None, sym, ◌∙◌, ap, subst, refl, arith, append-nil}
+use Rattle.std.proofs.Common.{◌≡◌, ℕ, zero, suc, ◌+◌, ◌<◌, ◌≤◌, Bool, true, false, cond, ◌&&◌, eqb, List, [], ◌∷◌, ◌++◌, length, get_or, take, filter, filter_map, All, Contains, inl, inr, Option, Some, None, sym, ◌∙◌, ap, subst, refl, arith, append-nil}
 use Rattle.std.specs.List.{cons_option, slice_get}
 use Rattle.std.proofs.lemmas.List.{take_more, take_all, same_lists, get_or_default}
 use Rattle.std.proofs.lemmas.List.Elements.{filter-append, filter_map-append, Contains-get_or}
@@ -75,7 +75,7 @@ pub start_more : (rows : List Row) (env : List ℕ) (i : ℕ) (row : Row) (old n
     → new ≡ winners_among rows (is_wanted env) (take (i + 1) rows)
 start_more rows env i row old new within is so_far wanted added =
     let one : winners_among rows (is_wanted env) (row ∷ []) ≡ cons_option (winner_of rows row.app) [] = ap
-        (λ (b : Bool). filter_map (λ (r : Row). winner_of rows r.app) (cond b (row ∷ []) [])) wanted in
+    (λ (b : Bool). filter_map (λ (r : Row). winner_of rows r.app) (cond b (row ∷ []) [])) wanted in
     added
     ∙ ap (λ (l : List ℕ). l ++ cons_option (winner_of rows row.app) []) so_far
     ∙ ap (λ (l : List ℕ). winners_among rows (is_wanted env) (take i rows) ++ l) (sym one)
@@ -85,7 +85,7 @@ pub start_same : (rows : List Row) (env : List ℕ) (i : ℕ) (row : Row) (old :
     → old ≡ winners_among rows (is_wanted env) (take i rows) → is_wanted env row ≡ false → old ≡ winners_among rows (is_wanted env) (take (i + 1) rows)
 start_same rows env i row old within is so_far unwanted =
     let none : winners_among rows (is_wanted env) (row ∷ []) ≡ [] = ap (λ (b : Bool). filter_map (λ (r : Row). winner_of rows r.app) (cond b (row ∷ []) []))
-        unwanted in
+    unwanted in
     nothing_added old (winners_among rows (is_wanted env) (row ∷ [])) none
     ∙ ap (λ (l : List ℕ). l ++ winners_among rows (is_wanted env) (row ∷ [])) so_far
     ∙ sym (winners_more rows (is_wanted env) i row within is)
@@ -180,7 +180,7 @@ links_within rows k d within =
     let long = length-links_of rows in
     let inside : k < length rows = omega (arith, within, long) in
     let all : All (λ place. place < length rows) (get_or (links_of rows) k d) = subst (All (λ place. place < length rows)) (sym (links_at rows k d inside))
-        (winners_within rows (is_asked_by k) rows) in
+    (winners_within rows (is_asked_by k) rows) in
     subst (λ (n : ℕ). All (λ place. place < n) (get_or (links_of rows) k d)) (sym long) all
 
 pub starts_within : (rows : List Row) (env : List ℕ) → All (λ start. start < length (links_of rows)) (starts_of rows env)

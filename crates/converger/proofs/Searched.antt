@@ -54,7 +54,7 @@ module _ (places : List ℕ) (sorted : AllPairs (λ earlier later. earlier < lat
         λ h. (at, stands, rw h at has),
         λ other.
             let here : other.0 ≡ at = strictly other.0 at (slice_get_within places other.0 place other.1) found.0
-                (get_or_from_slice_get places other.0 place 0 other.1 ∙ sym found.1) in
+            (get_or_from_slice_get places other.0 place 0 other.1 ∙ sym found.1) in
             one_value (sym has ∙ rw here at other.2),
       )
 

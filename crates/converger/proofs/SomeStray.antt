@@ -1,5 +1,5 @@
 -- Whether there is an environment in which a row is a stray.
-use Rattle.std.proofs.Common.{◌≡◌, ◌≢◌, ℕ, zero, suc, ◌+◌, ◌<◌, ◌≤◌, Bool, true, false, ◌||◌, ◌⊎◌, inl, inr, List, [], ◌∷◌, ◌++◌, length, Contains, replicate, sum_by, sym, ◌∙◌, ap, subst, refl, arith, Option, Some, None, bytes_eq, IsTrue, IsFalse}
+use Rattle.std.proofs.Common.{◌≡◌, ℕ, zero, suc, ◌<◌, Bool, true, false, ◌||◌, inl, inr, List, [], ◌∷◌, ◌++◌, length, Contains, replicate, sum_by, sym, ◌∙◌, ap, subst, refl, arith, Option, Some, None, bytes_eq, IsTrue, IsFalse}
 use Rattle.std.specs.List.{slice_get, list_any}
 use Rattle.std.proofs.lemmas.List.{length-replicate}
 use Rattle.std.proofs.lemmas.List.Sums.{sum_by-cons}
@@ -17,9 +17,9 @@ use Rattle.converger.specs.Reach.{IsReached, admits, links_of, starts_of}
 use Rattle.converger.specs.Strays.{IsStray, AreNamed, IsUnnamed, is_named}
 use Rattle.converger.proofs.Decided.{IsDecided, dec_map, dec_and, dec_is, dec_isnt, dec_none, dec_contains, dec_some, Some_of}
 use Rattle.converger.proofs.EnvLemmas.{also_stray, also_place}
-use Rattle.converger.proofs.OneLemmas.{in_front, behind, front_or_behind}
+use Rattle.converger.proofs.OneLemmas.{in_front, behind}
 use Rattle.converger.proofs.Reached.{some_places}
-use Rattle.converger.proofs.WebLemmas.{one_value, same_bytes, bytes_same, not_same_bytes}
+use Rattle.converger.proofs.WebLemmas.{one_value, same_bytes, not_same_bytes}
 
 -- ---- the names, and a text that isn't one of them
 
@@ -53,7 +53,7 @@ longer_than [] env long = refl
 longer_than (name ∷ names) env long =
     let more = sum_by-cons length name names in
     let here : bytes_eq env name ≡ false = not_same_bytes env name (λ same.
-        let equal = ap (λ (t : List ℕ). length t) same in omega (arith, long, more, equal)) in
+    let equal = ap (λ (t : List ℕ). length t) same in omega (arith, long, more, equal)) in
     ap (λ (b : Bool). b || list_any (bytes_eq env) names) here ∙ longer_than names env (omega (arith, long, more))
 
 another : List (List ℕ) → List ℕ
@@ -168,20 +168,23 @@ module _ (rows : List Row) where
       stray_of : D → (env : List ℕ) × At env
       stray_of (environment by w r parent env also root barred required declared stands reached) = (
         env,
-        (record {
-          place = place;
-          by = by;
-          winner = w;
-          row = r;
-          parent = parent;
-          under = also;
-          root = root;
-          barred = barred;
-          required = required;
-          declared = declared;
-          stands = stands;
-          reached = reached;
-        }, refl),
+        (
+          record {
+            place = place;
+            by = by;
+            winner = w;
+            row = r;
+            parent = parent;
+            under = also;
+            root = root;
+            barred = barred;
+            required = required;
+            declared = declared;
+            stands = stands;
+            reached = reached;
+          },
+          refl,
+        ),
       )
 
       of_stray : (env : List ℕ) → At env → D

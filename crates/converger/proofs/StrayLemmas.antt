@@ -1,10 +1,10 @@
 -- Rows that are reached in an environment that their winner isn't for.
-use Rattle.std.proofs.Common.{◌≡◌, ◌↔◌, ℕ, ◌+◌, ◌<◌, ◌≤◌, Bool, true, false, not, ◌||◌, ◌&&◌, ◌⊎◌, inl, inr, Contains, List, length, get_or, set, sym, ◌∙◌, ap, subst, refl, arith, IsTrue, Option, Some, None, is_none}
+use Rattle.std.proofs.Common.{◌≡◌, ◌↔◌, ℕ, ◌+◌, ◌<◌, ◌≤◌, Bool, true, false, not, ◌&&◌, ◌⊎◌, inl, inr, Contains, List, length, set, sym, ◌∙◌, ap, subst, refl, arith, IsTrue, Option, Some, None, is_none}
 use Rattle.std.specs.List.{slice_get}
 use Rattle.std.proofs.lemmas.List.{get_or-set_same, get_or-set_other}
 use Rattle.std.proofs.lemmas.List.Elements.{All-contains}
-use Rattle.std.proofs.lemmas.Bool.{false≢true, and_parts, and_from, cases_eq, not-true, or_right}
-use Rattle.std.proofs.lemmas.Option.{slice_get_within, get_or_from_slice_get}
+use Rattle.std.proofs.lemmas.Bool.{false≢true, and_parts, and_from, cases_eq, not-true}
+use Rattle.std.proofs.lemmas.Option.{slice_get_within}
 use Rattle.dep_order.specs.Reach.{AreReachedFrom}
 use Rattle.dep_rows.specs.declared.row.Row.{Row}
 use Rattle.dep_rows.specs.Listed.{Listed, IsWithinLimit}
@@ -22,7 +22,7 @@ pub declared_by : (listed : Listed) → IsWithinLimit listed → (place by : ℕ
     → (by < place) × ((parent : Row) × IsWinner listed.rows by parent)
 declared_by listed within place by row stands declared =
     let h : IsDeclaredBy listed.winners place (Some by) = subst (IsDeclaredBy listed.winners place) declared
-        (within.well_formed.declared_by place row stands) in
+    (within.well_formed.declared_by place row stands) in
     (h.0, All-contains (λ (p : ℕ). (parent : Row) × IsWinner listed.rows p parent) listed.winners by within.well_formed.winning.only h.1)
 
 pub declared_within : (listed : Listed) → IsWithinLimit listed → (place by : ℕ) (row : Row) → slice_get listed.rows place ≡ Some row → row.by ≡ Some by
@@ -95,7 +95,7 @@ module _ (rows : List Row) (env reached : List ℕ) (are : AreReachedFrom (links
       let barred : admits winner.decl.only env ≡ false = rw same_winner at s.barred in
       let required : row.required ≡ true = rw same_row at s.required in
       and_from _ _ required (and_from _ _ (ap (λ (o : Option ℕ). is_none o) root)
-          (and_from _ _ (tell.1 ((are.each by).1 there)) (ap (λ (b : Bool). not b) barred)))
+      (and_from _ _ (tell.1 ((are.each by).1 there)) (ap (λ (b : Bool). not b) barred)))
 
   pub stray_is : IsTrue (is_stray_beside winner row has env) ↔ IsStray rows env other
   stray_is = (is_there, is_back)

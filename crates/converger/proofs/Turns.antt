@@ -65,9 +65,9 @@ module _ (listed : Listed) (versions : List (Option Version)) where
   one_a_turn d e same here there =
       let others = same_other d.other e.other d.rule e.rule same in
       let at : DivergesIn listed versions (made e.rule e.winner d.other) = subst (λ (o : ℕ). DivergesIn listed versions (made e.rule e.winner o))
-          (sym others) there in
+      (sym others) there in
       same_parts d e (same_rule d.other e.other d.rule e.rule same) (one_place listed.rows listed.winners versions d.rule e.rule d.winner e.winner d.other here
-          at) others
+      at) others
 
   later : (now : ℕ) (list : List Divergence) → All (IsEarlier now) list → All (IsEarlier (now + 1)) list
   later now list only = All-weaker (IsEarlier now) (IsEarlier (now + 1)) (λ d h. (omega (arith, h.0), h.1)) list only
@@ -93,7 +93,7 @@ module _ (listed : Listed) (versions : List (Option Version)) where
           let others = same_other e.other other e.rule rule same in
           let rules = same_rule e.other other e.rule rule same in
           let moved : DivergesIn listed versions (made rule e.winner other) = subst (λ (o : ℕ). DivergesIn listed versions (made rule e.winner o)) others
-              (subst (λ (r : Rule). DivergesIn listed versions (made r e.winner e.other)) rules diverges) in
+          (subst (λ (r : Rule). DivergesIn listed versions (made r e.winner e.other)) rules diverges) in
           absurd (none e.winner moved)
       | inr apart ↦ before.all e (omega (arith, less, apart)) diverges
     ];

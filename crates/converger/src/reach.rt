@@ -15,7 +15,7 @@ use std::alloc::{AllocError, Global};
 pub(crate) fn reach(alloc: Global, web: &Web<'_>, env: &str) -> Result<Vec<usize>, AllocError>
     ensures { IfOk result (λ places.
         AreReachedFrom (links_of web.now.rows.now.rows)
-            (starts_of web.now.rows.now.rows env.now) places.items) }
+        (starts_of web.now.rows.now.rows env.now) places.items) }
 {
     let starts = starts_of(alloc, web.rows, env)?;
     reached(alloc, &web.links, &starts)

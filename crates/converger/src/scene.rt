@@ -77,7 +77,7 @@ impl Scene<'_> {
         requires under { IsUnderAt self.now.rows.now.rows place other }
         ensures { (rule : Rule) →
             Meets rule result.winner.now result.row.now result.is_winner
-                (option_copied result.version) result.is_stray
+            (option_copied result.version) result.is_stray
             ↔ Diverges self.now.rows.now.rows self.now.rows.now.winners self.now.versions.now rule place other }
     {
         Case {

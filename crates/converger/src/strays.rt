@@ -42,7 +42,7 @@ fn add_strays(
     ensures long { length strays.new.items ≡ length strays.old.items }
     ensures marks { OnOk result ((other : ℕ) → IsTrue (is_marked strays.new.items other)
         ↔ (IsTrue (is_marked strays.old.items other)
-            ⊎ IsStray web.now.rows.now.rows env.now other)) }
+        ⊎ IsStray web.now.rows.now.rows env.now other)) }
 {
     let reached = reach(alloc, web, env)?;
     for other in 0..web.rows.rows().len() {
@@ -132,7 +132,7 @@ fn add_all<'a>(names: &mut BTreeSet<&'a str>, only: &'a [AppName]) -> Result<(),
     ensures names { OnOk result ((env : List ℕ) →
         contains_by (λ name. text_cmp env name.now) names.new
         ≡ (contains_by (λ name. text_cmp env name.now) names.old
-            || list_any (bytes_eq env) only.now)) }
+        || list_any (bytes_eq env) only.now)) }
     ensures not_empty { OnOk result (IsFalse (list_any (bytes_eq []) only.now)) }
 {
     for name in only {

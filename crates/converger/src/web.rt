@@ -53,7 +53,7 @@ fn add_link(links: &mut Vec<Places>, rows: &Rows, row: &Row) -> Result<(), Alloc
     ensures long { length links.new.items ≡ length links.old.items }
     ensures each { OnOk result ((place : ℕ) → needs_of links.new.items place
         ≡ needs_of links.old.items place ++ winners_among rows.now.rows (is_asked_by place)
-            (row.now ∷ [])) }
+        (row.now ∷ [])) }
 {
     match link_of(rows, row) {
         Some((by, winner)) => push_link(links, by, winner),

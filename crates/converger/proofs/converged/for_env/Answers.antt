@@ -12,7 +12,7 @@ narrowed-requires c =
     let env = c.args.env.now in
     let places = c.in_ok-places.places.items in
     let reached : AreReachedFrom (links_of rows) (starts_of rows env) places = rw
-        (c.in_ok-web.ensures.rows, c.as_str.ensures.value) at c.in_ok-places.ensures in
+    (c.in_ok-web.ensures.rows, c.as_str.ensures.value) at c.in_ok-places.ensures in
     rw c.deref.ensures.value (λ k d within.
     let at = (are_reached rows env places reached).only k d within in
     omega (arith, slice_get_within rows _ at.0 at.1.stands, c.in_ok-web.ensures.few))
@@ -23,6 +23,6 @@ returns c =
     let env = c.args.env.now in
     let places = c.in_ok-places.places.items in
     let reached : AreReachedFrom (links_of rows) (starts_of rows env) places = rw
-        (c.in_ok-web.ensures.rows, c.as_str.ensures.value) at c.in_ok-places.ensures in
+    (c.in_ok-web.ensures.rows, c.as_str.ensures.value) at c.in_ok-places.ensures in
     IfOk-weaker c.narrowed.result _ _ (λ list is. subst (AreReached rows env) (sym (is ∙ c.deref.ensures.value)) (are_reached rows env places reached))
-        c.narrowed.ensures
+    c.narrowed.ensures

@@ -15,7 +15,7 @@ loop-row-preserved c =
     elim c.if-is_wanted.branch [
       | then-is_wanted+in_ok-add_winner w ↦
           rw w.starts-is (start_more rows env i row old w.add_winner.new.winners.items within is c.loop-row.invariant
-              (sym c.is_wanted.ensures ∙ w.if-is_wanted.true) w.in_ok-add_winner.ensures)
+          (sym c.is_wanted.ensures ∙ w.if-is_wanted.true) w.in_ok-add_winner.ensures)
       | else-is_wanted w ↦ rw w.starts-is (start_same rows env i row old within is c.loop-row.invariant (sym c.is_wanted.ensures ∙ w.if-is_wanted.false))
     ]
 

@@ -28,7 +28,7 @@ pub returns-clause-marks : goal.returns-clause-marks
 returns-clause-marks c =
     let past = ap length c.rows-other-end.ensures.rows in
     stray_all c.args.web.now.rows.now.rows c.args.env.now c.args.strays.now.items c.loop-other.strays.items c.loop-other.other
-        (omega (arith, past)) c.loop-other.invariant.marks
+    (omega (arith, past)) c.loop-other.invariant.marks
 
 pub is_stray-requires-clause-reached : goal.is_stray-requires-clause-reached
 is_stray-requires-clause-reached c = rw c.deref.ensures.value c.in_ok-reached.ensures

@@ -47,4 +47,4 @@ returns c =
     let parent = (declared_by listed c.rows-list.ensures.within c.args.other by row stands declared).1 in
     rw c.is_stray_beside.ensures
     (stray_is rows c.args.env.now c.args.reached.now c.requires.reached c.args.other place by row winner parent.0 stands wins there declared parent.1
-        c.has_place-is_reached.result c.has_place-is_reached.ensures)
+    c.has_place-is_reached.result c.has_place-is_reached.ensures)

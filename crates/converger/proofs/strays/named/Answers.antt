@@ -41,7 +41,7 @@ pub returns-clause-named : goal.returns-clause-named
 returns-clause-named c =
     let rows = c.args.rows.now in
     let named : AreNamed rows (λ env. list_any (λ name. is_eq (text_cmp env name.now)) c.loop-row.names.keys) = named_all rows c.loop-row.row-index
-        (omega arith) _ c.loop-row.invariant.named in
+    (omega arith) _ c.loop-row.invariant.named in
     IfOk-weaker c.listed.result _ _ (λ names is. rw (← is) at named) c.listed.ensures
 
 pub returns-clause-unnamed : goal.returns-clause-unnamed

@@ -33,7 +33,7 @@ pub returns-clause-marks : goal.returns-clause-marks
 returns-clause-marks c =
     let names = c.deref-env-items.result.now in
     let named : AreNamed c.args.web.now.rows.now.rows (λ env. list_any (λ name. is_eq (text_cmp env name.now)) names) = subst
-        (λ l. AreNamed c.args.web.now.rows.now.rows (λ env. list_any (λ name. is_eq (text_cmp env name.now)) l)) (sym c.deref-env-items.ensures.value)
-        (rw c.rows-rows.ensures.rows at c.in_ok-names.ensures.named) in
+    (λ l. AreNamed c.args.web.now.rows.now.rows (λ env. list_any (λ name. is_eq (text_cmp env name.now)) l)) (sym c.deref-env-items.ensures.value)
+    (rw c.rows-rows.ensures.rows at c.in_ok-names.ensures.named) in
     tried_all c.args.web.now.rows.now.rows names named (rw c.rows-rows.ensures.rows at c.in_ok-names.ensures.unnamed) c.loop-env.env-index
-        (omega arith) c.loop-env.strays.items c.loop-env.invariant.marks
+    (omega arith) c.loop-env.strays.items c.loop-env.invariant.marks

@@ -7,9 +7,9 @@ returns-in_ok-push c =
     let winner = c.in-Some.winner in
     rw c.in_ok-push.ensures.ok
     (before_found c.args.self.now.rows.now c.args.self.now.versions.now
-        (record { rule = c.args.rule; winner = winner; other = c.args.other }) c.args.list.now c.requires.before ((c.in-Some.ensures winner).0 refl))
+    (record { rule = c.args.rule; winner = winner; other = c.args.other }) c.args.list.now c.requires.before ((c.in-Some.ensures winner).0 refl))
 
 pub returns-in_default : goal.returns-in_default
 returns-in_default c =
     before_none c.args.self.now.rows.now c.args.self.now.versions.now c.args.rule c.args.other c.args.list.now c.requires.before
-        (λ p d. let h = (c.diverging.ensures p).1 d in cc)
+    (λ p d. let h = (c.diverging.ensures p).1 d in cc)

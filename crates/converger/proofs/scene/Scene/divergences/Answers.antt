@@ -5,4 +5,4 @@ use Rattle.converger.proofs.scene.Scene.divergences.Goals as goal
 pub returns : goal.returns
 returns c =
     before_all c.args.self.now.rows.now c.args.self.now.versions.now c.loop-other.other c.loop-other.list
-        (omega (arith, ap length c.rows-other-end.ensures.rows)) c.loop-other.invariant
+    (omega (arith, ap length c.rows-other-end.ensures.rows)) c.loop-other.invariant

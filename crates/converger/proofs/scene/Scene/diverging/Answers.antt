@@ -11,7 +11,7 @@ returns-in_err-place c =
     let listed = c.args.self.now.rows.now in
     let row = c.index-rows-other.result in
     let stands : slice_get listed.rows c.args.other ≡ Some row = slice_get_read listed.rows (length listed.rows) c.args.other row refl c.requires.other
-        (rw c.rows.ensures.rows at c.index-rows-other.is) in
+    (rw c.rows.ensures.rows at c.index-rows-other.is) in
     let none : winner_of listed.rows row.app ≡ None = sym c.winner_of.ensures ∙ c.in_err-place.was in
     rw c.from_residual.ensures (none_diverges listed.rows listed.winners c.args.self.now.versions.now c.args.rule c.args.other row stands none)
 
@@ -20,7 +20,7 @@ case_at-requires-clause-under c =
     let rows = c.args.self.now.rows.now.rows in
     let row = c.index-rows-other.result in
     let stands : slice_get rows c.args.other ≡ Some row = slice_get_read rows (length rows) c.args.other row refl c.requires.other
-        (rw c.rows.ensures.rows at c.index-rows-other.is) in
+    (rw c.rows.ensures.rows at c.index-rows-other.is) in
     under_at rows c.in_ok-place.place c.args.other row stands (sym c.winner_of.ensures ∙ c.in_ok-place.was)
 
 pub returns-then-meets : goal.returns-then-meets
@@ -34,7 +34,7 @@ returns-else-meets c =
     let listed = c.args.self.now.rows.now in
     let row = c.index-rows-other.result in
     let stands : slice_get listed.rows c.args.other ≡ Some row = slice_get_read listed.rows (length listed.rows) c.args.other row refl c.requires.other
-        (rw c.rows.ensures.rows at c.index-rows-other.is) in
+    (rw c.rows.ensures.rows at c.index-rows-other.is) in
     not_diverging listed.rows listed.winners c.args.self.now.versions.now c.args.rule c.in_ok-place.place c.args.other row stands
-        (sym c.winner_of.ensures ∙ c.in_ok-place.was)
+    (sym c.winner_of.ensures ∙ c.in_ok-place.was)
     (λ d. both_ways c.meets.result c.if-meets.false (c.meets.ensures.1 ((c.case_at.ensures c.args.rule).1 d)))
