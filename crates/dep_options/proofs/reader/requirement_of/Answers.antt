@@ -1,6 +1,6 @@
 use Rattle.std.proofs.Common.{refl}
 use Rattle.dep_options.proofs.DeclLemmas.{bad_text}
-use Rattle.dep_options.proofs.reading.requirement_of.Goals as goal
+use Rattle.dep_options.proofs.reader.requirement_of.Goals as goal
 
 pub returns-in-Err-Refused-clause-err : goal.returns-in-Err-Refused-clause-err
 returns-in-Err-Refused-clause-err c = λ m.

@@ -1,5 +1,5 @@
 use Rattle.dep_options.proofs.DeclLemmas.{Kept, Stops}
-use Rattle.dep_options.proofs.reading.decls_in.Given as goal
+use Rattle.dep_options.proofs.reader.decls_in.Given as goal
 
 abbrev pub invariant-loop-index : goal.invariant-loop-index
 invariant-loop-index l = record {

@@ -3,7 +3,7 @@ use Rattle.mx_base.proofs.BlameLemmas.{answers_on}
 use Rattle.dep_options.specs.Blame.{cause_blame}
 use Rattle.dep_options.specs.Decls.{IsDecl}
 use Rattle.dep_options.proofs.DeclLemmas.{decl_shapeless, decl_bad, decl_fault, decl_lacks, decl_good}
-use Rattle.dep_options.proofs.reading.decl.Goals as goal
+use Rattle.dep_options.proofs.reader.decl.Goals as goal
 
 pub returns-in_default : goal.returns-in_default
 returns-in_default c = λ input. decl_shapeless c.args.base.now c.in_ok-stated.field-0 c.args.term.now c.in_default.is c.in_ok-stated.ensures

@@ -1,6 +1,6 @@
 use Rattle.std.proofs.Common.{◌<◌, length, arith}
 use Rattle.dep_options.proofs.DeclLemmas.{kept_next, stops_next, stops_here, kept_all}
-use Rattle.dep_options.proofs.reading.decls_in.Goals as goal
+use Rattle.dep_options.proofs.reader.decls_in.Goals as goal
 
 pub returns-in-Err : goal.returns-in-Err
 returns-in-Err c = λ m.
