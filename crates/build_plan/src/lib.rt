@@ -14,10 +14,13 @@ mod limits;
 mod lines;
 mod manifests;
 mod needs;
+mod opening;
 mod options;
 mod planning;
-mod posts;
+mod post;
+mod recipe;
 mod root;
+mod scene;
 mod sources;
 mod versions;
 

@@ -55,8 +55,16 @@ impl<S: Store> Manifests<'_, S> {
         ensures same_reference { self.new.store.ghost_name ≡ self.old.store.ghost_name }
         ensures store { self.new.store.now ≡ self.old.store.now }
     {
-        self.found.insert(found.dir.clone()?, found)?;
-        Ok(())
+        match found.dir.clone() {
+            Ok(dir) => {
+                self.found.insert(dir, found)?;
+                Ok(())
+            }
+            Err(error) => {
+                drop(found);
+                Err(error)
+            }
+        }
     }
 }
 
