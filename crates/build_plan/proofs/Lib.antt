@@ -13,6 +13,7 @@ pub mod PlanLemmas
 pub mod PlannedLemmas
 pub mod Positions
 pub mod PostLemmas
+pub mod Ranks
 pub mod ReadLemmas
 pub mod RootLemmas
 pub mod SceneLemmas

@@ -16,7 +16,10 @@ use Rattle.dep_options.specs.declared.decl.Manager.TheVariants.{Mix, Rebar3, Mak
 use Rattle.dep_rows.specs.declared.row.Row.{Row}
 use Rattle.project_file.specs.declared.settings.Settings.{Settings}
 use Rattle.project_file.specs.Files.{has_file, manager_by_files}
-use Rattle.build_plan.specs.Jobs.{manager_or, job_with}
+use Rattle.build_plan.specs.declared.post.Post.{Post}
+use Rattle.build_plan.specs.Dependencies.{version_by}
+use Rattle.build_plan.specs.Jobs.{Schedule, manager_or, job_with, places_in}
+use Rattle.build_plan.specs.Needs.{apps_of}
 use Rattle.build_plan.specs.Options.{options_text}
 use Rattle.build_plan.specs.Scenes.{job_from}
 use Rattle.build_plan.specs.Sources.{is_source, if_source, source_at, sources_of}
@@ -139,7 +142,9 @@ with_manager settings row dir version sources needs need_apps manager = record {
 }
 
 -- the job that is made of the sources of a dependency
-pub job_from_sources : (files : List File) (settings : Settings) (row : Row) (dir version : List ℕ) (sources : List File) (needs : List ℕ) (need_apps : List (List ℕ)) → sources ≡ sources_of dir files → job_from settings row dir version sources needs need_apps ≡ job_with files settings row dir version needs need_apps
-job_from_sources files settings row dir version sources needs need_apps are =
-    ap (λ (all : List File). job_from settings row dir version all needs need_apps) are
-    ∙ ap (with_manager settings row dir version (sources_of dir files) needs need_apps) (ap (manager_or row.decl.manager) (manager_among_sources dir files))
+pub job_from_sources : (files : List File) (schedule : Schedule) (post : Post) (sources : List File) → sources ≡ sources_of post.found.now.dir files → job_from schedule post sources ≡ job_with files schedule.settings post.row.now post.found.now.dir (version_by post.found.now.project) (places_in schedule.order post.reached.items) (apps_of schedule.rows schedule.places post.reached.items)
+job_from_sources files schedule post sources are =
+    let row = post.row.now in
+    let found = post.found.now in
+    ap (job_from schedule post) are
+    ∙ ap (with_manager schedule.settings row found.dir (version_by found.project) (sources_of found.dir files) (places_in schedule.order post.reached.items) (apps_of schedule.rows schedule.places post.reached.items)) (ap (manager_or row.decl.manager) (manager_among_sources found.dir files))

@@ -1,81 +1,25 @@
 -- Rows, and the graph of what their winners need.
-use Rattle.std.proofs.Common.{◌≡◌, ◌≢◌, ℕ, zero, suc, ◌+◌, ◌<◌, ◌≤◌, Bool, true, false, cond, eqb, List, [], ◌∷◌, ◌++◌, length, get_or, take, map, filter, filter_map, All, refl, sym, ◌∙◌, ap, ap₂, subst, arith, bytes_eq, Option, Some, None, append-nil}
+use Rattle.std.proofs.Common.{◌≡◌, ℕ, zero, suc, ◌+◌, ◌<◌, ◌≤◌, Bool, true, false, cond, eqb, List, [], ◌∷◌, ◌++◌, length, get_or, take, map, filter, filter_map, All, refl, sym, ◌∙◌, ap, ap₂, subst, arith, Option, Some, None, append-nil}
 use Rattle.std.specs.List.{position, slice_get, cons_option}
-use Rattle.std.specs.Option.{is_some, option_map, option_and_then}
-use Rattle.std.specs.BTreeMap.{BTreeMap, UpdatesBy}
-use Rattle.std.specs.Ordering.{is_eq}
-use Rattle.std.proofs.lemmas.Bool.{false≢true}
-use Rattle.std.proofs.lemmas.List.{take_more, take_all, length-take, length-map, get_or_default}
+use Rattle.std.specs.Option.{option_map, option_and_then}
+use Rattle.std.specs.Prelude.{nat_eq}
+use Rattle.std.proofs.lemmas.List.{take_more, take_all, length-map, get_or_default}
 use Rattle.std.proofs.lemmas.List.Elements.{filter-append, filter_map-append}
 use Rattle.std.proofs.lemmas.List.Quantifiers.{position-Some}
-use Rattle.std.proofs.lemmas.Option.{slice_get_read}
-use denote.Ref.{Bor}
-use Rattle.mx_base.specs.Order.{text_cmp}
 use Rattle.dep_order.specs.Graph.{needs_of, NeedsAreWithin}
 use Rattle.dep_rows.specs.declared.row.Row.{Row}
-use Rattle.converger.proofs.WebLemmas.{at_app, same_bytes, ties_bytes}
-use Rattle.build_plan.specs.Needs.{app_of, is_app_at, is_child_at, node_of, needs_from, direct_needs, graph_of, apps_of}
-use Rattle.build_plan.proofs.Positions.{or_else, or_else_none, position_push}
-
--- ---- the nodes of apps
-
-pub app_at_row : (rows : List Row) (place : ℕ) (row : Row) → slice_get rows place ≡ Some row → (app : List ℕ) → is_app_at rows app place ≡ bytes_eq app row.app
-app_at_row rows place row stands app = rw stands refl
-
-pub node_of_more : (rows : List Row) (places : List ℕ) (i place : ℕ) (row : Row) → i < length places → place ≡ get_or places i place → slice_get rows place ≡ Some row → (app : List ℕ) → node_of rows (take (i + 1) places) app ≡ or_else (node_of rows (take i places) app) (cond (bytes_eq app row.app) (Some i) None)
-node_of_more rows places i place row within is stands app =
-    let short : length (take i places) ≡ i = rw length-take (omega arith) in
-    ap (position (is_app_at rows app)) (take_more places i place within ∙ ap (λ (x : ℕ). take i places ++ x ∷ []) (sym is))
-    ∙ position_push (is_app_at rows app) (take i places) place
-    ∙ ap₂ (λ (b : Bool) (n : ℕ). or_else (node_of rows (take i places) app) (cond b (Some n) None)) (app_at_row rows place row stands app) short
-
-none_left : (o : Option ℕ) → is_some o ≡ false → o ≡ None
-none_left None h = refl
-none_left (Some x) h = absurd (false≢true (sym h))
-
-some_left : (o : Option ℕ) → is_some o ≡ true → (w : ℕ) × (o ≡ Some w)
-some_left None h = absurd (false≢true h)
-some_left (Some x) h = (x, refl)
-
--- an app that has a node keeps it
-same_node : (before : Option ℕ) (i : ℕ) (name app : List ℕ) → (app ≡ name → is_some before ≡ true) → or_else before (cond (bytes_eq app name) (Some i) None) ≡ before
-same_node (Some w) i name app had = refl
-same_node None i name app had = at (bytes_eq app name) refl
-  where
-    at : (b : Bool) → bytes_eq app name ≡ b → cond b (Some i) None ≡ None
-    at true e = absurd (false≢true (had (same_bytes app name e)))
-    at false e = refl
-
-new_node : (before : Option ℕ) (i : ℕ) (name app : List ℕ) → (app ≡ name → before ≡ None) → or_else before (cond (bytes_eq app name) (Some i) None) ≡ cond (is_eq (text_cmp name app)) (Some i) before
-new_node before i name app none = at (bytes_eq app name) refl ∙ ap (λ (b : Bool). cond b (Some i) before) (sym (ties_bytes name app))
-  where
-    at : (b : Bool) → bytes_eq app name ≡ b → or_else before (cond b (Some i) None) ≡ cond b (Some i) before
-    at true e = ap (λ (o : Option ℕ). or_else o (Some i)) (none (same_bytes app name e))
-    at false e = or_else_none before
-
-pub nodes_more_new : (rows : List Row) (places : List ℕ) (i place : ℕ) (row : Row) → i < length places → place ≡ get_or places i place → slice_get rows place ≡ Some row → (old new : BTreeMap (Bor (List ℕ)) ℕ) (name key : List ℕ) → name ≡ row.app → key ≡ row.app → UpdatesBy (λ (x y : Bor (List ℕ)). text_cmp x.now y.now) (λ (k : Bor (List ℕ)). text_cmp name k.now) old new (Some i) → ((app : List ℕ) → at_app old app ≡ node_of rows (take i places) app) → is_some (at_app old key) ≡ false → (app : List ℕ) → at_app new app ≡ node_of rows (take (i + 1) places) app
-nodes_more_new rows places i place row within is stands old new name key same_name same_key updates so_far fresh app =
-    updates.0 (record { ref_ptr = (0, 0); now = app })
-    ∙ ap (λ (n : List ℕ). cond (is_eq (text_cmp n app)) (Some i) (at_app old app)) same_name
-    ∙ ap (λ (o : Option ℕ). cond (is_eq (text_cmp row.app app)) (Some i) o) (so_far app)
-    ∙ sym (node_of_more rows places i place row within is stands app ∙ new_node (node_of rows (take i places) app) i row.app app (λ same.
-    sym (so_far app) ∙ ap (at_app old) (same ∙ sym same_key) ∙ none_left (at_app old key) fresh))
-
-pub nodes_more_same : (rows : List Row) (places : List ℕ) (i place : ℕ) (row : Row) → i < length places → place ≡ get_or places i place → slice_get rows place ≡ Some row → (old : BTreeMap (Bor (List ℕ)) ℕ) → ((app : List ℕ) → at_app old app ≡ node_of rows (take i places) app) → is_some (at_app old row.app) ≡ true → (app : List ℕ) → at_app old app ≡ node_of rows (take (i + 1) places) app
-nodes_more_same rows places i place row within is stands old so_far had app =
-    so_far app
-    ∙ sym (node_of_more rows places i place row within is stands app ∙ same_node (node_of rows (take i places) app) i row.app app (λ same.
-    ap is_some (sym (so_far app) ∙ ap (at_app old) same) ∙ had))
+use Rattle.dep_rows.specs.Rows.{winner_of}
+use Rattle.build_plan.specs.Needs.{app_of, is_child_at, node_of, needs_from, direct_needs, graph_of, apps_of}
 
 -- ---- the needs that rows say
 
-pub needs_from_more : (rows : List Row) (places : List ℕ) (i : ℕ) (row : Row) (place : ℕ) → i < length rows → row ≡ get_or rows i row → needs_from rows places (take (i + 1) rows) place ≡ needs_from rows places (take i rows) place ++ needs_from rows places (row ∷ []) place
-needs_from_more rows places i row place within is =
+pub needs_from_more : (rows : List Row) (places : List ℕ) (all : List Row) (i : ℕ) (row : Row) (place : ℕ) → i < length all → row ≡ get_or all i row → needs_from rows places (take (i + 1) all) place ≡ needs_from rows places (take i all) place ++ needs_from rows places (row ∷ []) place
+needs_from_more rows places all i row place within is =
     let child : Row → Bool = λ r. is_child_at place r.by in
     let node : Row → Option ℕ = λ r. node_of rows places r.app in
-    ap (λ (part : List Row). needs_from rows places part place) (take_more rows i row within ∙ ap (λ (r : Row). take i rows ++ r ∷ []) (sym is))
-    ∙ ap (filter_map node) (filter-append child (take i rows) (row ∷ []))
-    ∙ filter_map-append node (filter child (take i rows)) (filter child (row ∷ []))
+    ap (λ (part : List Row). needs_from rows places part place) (take_more all i row within ∙ ap (λ (r : Row). take i all ++ r ∷ []) (sym is))
+    ∙ ap (filter_map node) (filter-append child (take i all) (row ∷ []))
+    ∙ filter_map-append node (filter child (take i all)) (filter child (row ∷ []))
 
 -- a row that none of these declares, or whose app has no winner among these, says no need
 pub no_child : (rows : List Row) (places : List ℕ) (row : Row) (place : ℕ) → is_child_at place row.by ≡ false → needs_from rows places (row ∷ []) place ≡ []
@@ -120,13 +64,18 @@ first_within : (n node : ℕ) (nodes : List ℕ) → node < n → All (λ x. x <
 first_within n node nodes inside rest zero d within = inside
 first_within n node nodes inside rest (suc k) d within = rest k d (omega arith)
 
+-- a node is one of these
+node_within : (rows : List Row) (places : List ℕ) (app : List ℕ) (node : ℕ) (winner : Option ℕ) → option_and_then (λ w. position (nat_eq w) places) winner ≡ Some node → node < length places
+node_within rows places app node None is = cc
+node_within rows places app node (Some winner) is = (position-Some (nat_eq winner) places node 0 is).0
+
 nodes_within : (rows : List Row) (places : List ℕ) (part : List Row) → All (λ node. node < length places) (filter_map (λ (r : Row). node_of rows places r.app) part)
 nodes_within rows places [] = λ k d within. absurd (omega arith)
 nodes_within rows places (row ∷ part) = at (node_of rows places row.app) refl (nodes_within rows places part)
   where
     at : (o : Option ℕ) → node_of rows places row.app ≡ o → All (λ node. node < length places) (filter_map (λ (r : Row). node_of rows places r.app) part) → All (λ node. node < length places) (cons_option o (filter_map (λ (r : Row). node_of rows places r.app) part))
     at None e rest = rest
-    at (Some node) e rest = first_within (length places) node _ (position-Some (is_app_at rows row.app) places node 0 e).0 rest
+    at (Some node) e rest = first_within (length places) node _ (node_within rows places row.app node (winner_of rows row.app) e) rest
 
 pub graph_within : (rows : List Row) (places : List ℕ) → NeedsAreWithin (graph_of rows places)
 graph_within rows places k d within =
@@ -141,23 +90,15 @@ graph_within rows places k d within =
 pub nothing_added : (needs more : List ℕ) → more ≡ [] → needs ≡ needs ++ more
 nothing_added needs more none = sym (ap (λ (l : List ℕ). needs ++ l) none ∙ append-nil needs)
 
-pub node_row : (rows : List Row) (places : List ℕ) (i : ℕ) (row : Row) → i < length places → All (λ place. place < length rows) places → row ≡ get_or rows (get_or places i 0) row → slice_get rows (get_or places i 0) ≡ Some row
-node_row rows places i row within all is = slice_get_read rows (length rows) (get_or places i 0) row refl (all i 0 within) is
-
-pub same_place : (places : List ℕ) (i : ℕ) → i < length places → get_or places i 0 ≡ get_or places i (get_or places i 0)
-same_place places i within = get_or_default places i 0 (get_or places i 0) within
-
-pub row_added : (rows : List Row) (places known : List ℕ) (i : ℕ) (row : Row) (old new : List (List ℕ)) → known ≡ places → i < length rows → row ≡ get_or rows i row → ((node : ℕ) → node < length places → needs_of old node ≡ needs_from rows places (take i rows) (get_or places node 0)) → ((node : ℕ) → node < length known → needs_of new node ≡ needs_of old node ++ needs_from rows known (row ∷ []) (get_or known node 0)) → (node : ℕ) → node < length places → needs_of new node ≡ needs_from rows places (take (i + 1) rows) (get_or places node 0)
-row_added rows places known i row old new same within is so_far added node inside =
-    let here : needs_of new node ≡ needs_of old node ++ needs_from rows places (row ∷ []) (get_or places node 0) =
-    subst (λ (ps : List ℕ). (node : ℕ) → node < length ps → needs_of new node ≡ needs_of old node ++ needs_from rows ps (row ∷ []) (get_or ps node 0)) same added node inside in
-    here
+pub row_added : (rows : List Row) (places : List ℕ) (all : List Row) (i : ℕ) (row : Row) (old new : List (List ℕ)) → i < length all → row ≡ get_or all i row → ((node : ℕ) → node < length places → needs_of old node ≡ needs_from rows places (take i all) (get_or places node 0)) → ((node : ℕ) → node < length places → needs_of new node ≡ needs_of old node ++ needs_from rows places (row ∷ []) (get_or places node 0)) → (node : ℕ) → node < length places → needs_of new node ≡ needs_from rows places (take (i + 1) all) (get_or places node 0)
+row_added rows places all i row old new within is so_far added node inside =
+    added node inside
     ∙ ap (λ (l : List ℕ). l ++ needs_from rows places (row ∷ []) (get_or places node 0)) (so_far node inside)
-    ∙ sym (needs_from_more rows places i row (get_or places node 0) within is)
+    ∙ sym (needs_from_more rows places all i row (get_or places node 0) within is)
 
-pub graph_done : (rows : List Row) (places : List ℕ) (i : ℕ) (needs : List (List ℕ)) → length rows ≤ i → length needs ≡ length places → ((node : ℕ) → node < length places → needs_of needs node ≡ needs_from rows places (take i rows) (get_or places node 0)) → needs ≡ graph_of rows places
-graph_done rows places i needs past long each =
-    is_whole_graph rows places needs long (λ node inside. each node inside ∙ ap (λ (part : List Row). needs_from rows places part (get_or places node 0)) (take_all i rows past))
+pub graph_done : (rows : List Row) (places : List ℕ) (all : List Row) (i : ℕ) (needs : List (List ℕ)) → all ≡ rows → length all ≤ i → length needs ≡ length places → ((node : ℕ) → node < length places → needs_of needs node ≡ needs_from rows places (take i all) (get_or places node 0)) → needs ≡ graph_of rows places
+graph_done rows places all i needs same past long each =
+    is_whole_graph rows places needs long (λ node inside. each node inside ∙ ap (λ (part : List Row). needs_from rows places part (get_or places node 0)) (take_all i all past ∙ same))
 
 -- ---- the apps of nodes
 

@@ -19,35 +19,35 @@ use Rattle.project_file.specs.declared.settings.Settings.{Settings}
 use Rattle.build_plan.specs.declared.error.PlanError.{PlanError}
 use Rattle.build_plan.specs.declared.error.PlanError.TheVariants as refused
 use Rattle.build_plan.specs.Dependencies.{version_by}
-use Rattle.build_plan.specs.Jobs.{IsJobAt, AreFirstJobs, AllFit, is_too_large, job_with, places_in}
+use Rattle.build_plan.specs.Jobs.{Schedule, IsJobAt, AreFirstJobs, AllFit, is_too_large, job_with, places_in}
 use Rattle.build_plan.specs.Needs.{graph_of, apps_of}
 use Rattle.build_plan.specs.ChildLaws.{OneProject}
 use Rattle.build_plan.proofs.ListLemmas.{Agree, begins, one_at, same_filter, same_list}
 use Rattle.build_plan.proofs.OneRoot.{one_found}
-use Rattle.build_plan.specs.Stages.{MakesJobs}
+use Rattle.build_plan.specs.Stages.{MakesJobs, Schedules}
 use Rattle.build_plan.specs.Stages.MakesJobs.{passes_size, makes}
-use Rattle.build_plan.proofs.Stages.{Orders, circles, orders}
+use Rattle.build_plan.specs.Stages.Schedules.{circles, orders}
 use Rattle.build_plan.proofs.Steps.{HasOne}
 
-module _ (rows : List Row) (env : List ℕ) where
+module _ (settings : Settings) (rows : List Row) (env : List ℕ) where
   no_order : (places others order nodes : List ℕ) → AreReached rows env places → AreReached rows env others → IsOrderOf (graph_of rows places) order → IsCycleOf (graph_of rows others) nodes → ⊥
   no_order places others order nodes are also ordered around =
       order_or_cycle (graph_of rows places) order nodes ordered (subst (λ (ps : List ℕ). IsCycleOf (graph_of rows ps) nodes) (one_reach rows env others places also are) around)
 
-  order_same : {a b : Result (List ℕ × List ℕ) PlanError} → Orders rows env a → Orders rows env b → a ≡ b
-  order_same (circles places nodes are around) (circles others more also back) =
+  schedule_same : {a b : Result Schedule PlanError} → Schedules settings rows env a → Schedules settings rows env b → a ≡ b
+  schedule_same (circles places nodes are around) (circles others more also back) =
       let same : places ≡ others = one_reach rows env places others are also in
       ap₂ (λ (ps ns : List ℕ). Err (refused.Cycle (apps_of rows ps ns))) same
       (one_cycle (graph_of rows places) nodes more around (subst (λ (ps : List ℕ). IsCycleOf (graph_of rows ps) more) (sym same) back))
-  order_same (circles places nodes are around) (orders others order also ordered) = absurd (no_order others places order nodes also are ordered around)
-  order_same (orders places order are ordered) (circles others nodes also around) = absurd (no_order places others order nodes are also ordered around)
-  order_same (orders places order are ordered) (orders others more also same_ordered) =
+  schedule_same (circles places nodes are around) (orders others order also ordered) = absurd (no_order others places order nodes also are ordered around)
+  schedule_same (orders places order are ordered) (circles others nodes also around) = absurd (no_order places others order nodes are also ordered around)
+  schedule_same (orders places order are ordered) (orders others more also same_ordered) =
       let same : places ≡ others = one_reach rows env places others are also in
-      ap₂ (λ (ps ns : List ℕ). Ok (ps, ns)) same
+      ap₂ (λ (ps ns : List ℕ). Ok (record { settings = settings; rows = rows; places = ps; order = ns })) same
       (one_order (graph_of rows places) order more ordered (subst (λ (ps : List ℕ). IsOrderOf (graph_of rows ps) more) (sym same) same_ordered))
 
-  pub order_one : HasOne (Orders rows env)
-  order_one a b p q = order_same p q
+  pub schedule_one : HasOne (Schedules settings rows env)
+  schedule_one a b p q = schedule_same p q
 
 -- what a place reaches is one list
 one_closure : (graph : List (List ℕ)) (order : List ℕ) (node other : ℕ) (reached more : List ℕ) → node ≡ other → IsClosureOf graph order node reached → IsClosureOf graph order other more → reached ≡ more
@@ -59,20 +59,22 @@ one_closure graph order node other reached more same is also =
     at : IsClosureOf graph order node more
     at = subst (λ (n : ℕ). IsClosureOf graph order n more) (sym same) also
 
-module _ (one : OneProject) (files : List File) (settings : Settings) (rows : List Row) (places order : List ℕ) where
-  one_job : (k : ℕ) (job other : Job) → IsJobAt files settings rows places order k job → IsJobAt files settings rows places order k other → job ≡ other
+module _ (one : OneProject) (files : List File) (schedule : Schedule) where
+  one_job : (k : ℕ) (job other : Job) → IsJobAt files schedule k job → IsJobAt files schedule k other → job ≡ other
   one_job k job other is also =
-      let node = one_at order k k is.node also.node refl is.at also.at in
-      let place = one_at places is.node also.node is.place also.place node is.wins also.wins in
-      let row = one_at rows is.place also.place is.row also.row place is.stands also.stands in
+      let a = is.at in
+      let b = also.at in
+      let node = one_at schedule.order k k a.node b.node refl a.at b.at in
+      let place = one_at schedule.places a.node b.node a.place b.place node a.wins b.wins in
+      let row = one_at schedule.rows a.place b.place is.row also.row place a.stands b.stands in
       let found = one_found one files is.row.decl.source is.dir also.dir is.found also.found is.source (ap (λ (r : Row). r.decl.source) row ∙ also.source) is.loaded also.loaded in
-      let reached = one_closure (graph_of rows places) order is.node also.node is.reached also.reached node is.needs also.needs in
+      let reached = one_closure (graph_of schedule.rows schedule.places) schedule.order a.node b.node is.reached also.reached node a.closure b.closure in
       is.is
-      ∙ ap₂ (λ (r : Row) (d : List ℕ). job_with files settings r d (version_by is.found) (places_in order is.reached) (apps_of rows places is.reached)) row found.0
-      ∙ ap₂ (λ (f : Option Project) (ns : List ℕ). job_with files settings also.row also.dir (version_by f) (places_in order ns) (apps_of rows places ns)) found.1 reached
+      ∙ ap₂ (λ (r : Row) (d : List ℕ). job_with files schedule.settings r d (version_by is.found) (places_in schedule.order is.reached) (apps_of schedule.rows schedule.places is.reached)) row found.0
+      ∙ ap₂ (λ (f : Option Project) (ns : List ℕ). job_with files schedule.settings also.row also.dir (version_by f) (places_in schedule.order ns) (apps_of schedule.rows schedule.places ns)) found.1 reached
       ∙ sym also.is
 
-  agree : (jobs others : List Job) → AreFirstJobs files settings rows places order jobs → AreFirstJobs files settings rows places order others → Agree jobs others
+  agree : (jobs others : List Job) → AreFirstJobs files schedule jobs → AreFirstJobs files schedule others → Agree jobs others
   agree jobs others are also k job other stands there = one_job k job other (are.each k job stands) (also.each k other there)
 
   -- no job before the last one passes a limit
@@ -84,7 +86,7 @@ module _ (one : OneProject) (files : List File) (settings : Settings) (rows : Li
   front_agrees : (jobs others : List Job) (other : Job) → Agree jobs (others ++ other ∷ []) → Agree jobs others
   front_agrees jobs others other same k x y stands there = same k x y stands (get_longer others (other ∷ []) k y there)
 
-  one_too_large : (jobs others : List Job) (job other : Job) → AreFirstJobs files settings rows places order (jobs ++ job ∷ []) → AreFirstJobs files settings rows places order (others ++ other ∷ []) → AllFit jobs → AllFit others → IsTrue (is_too_large jobs job) → IsTrue (is_too_large others other) → job ≡ other
+  one_too_large : (jobs others : List Job) (job other : Job) → AreFirstJobs files schedule (jobs ++ job ∷ []) → AreFirstJobs files schedule (others ++ other ∷ []) → AllFit jobs → AllFit others → IsTrue (is_too_large jobs job) → IsTrue (is_too_large others other) → job ≡ other
   one_too_large jobs others job other are also fit also_fit large too =
       elim (cases_order (length jobs) (length others)) [
         | inl same ↦
@@ -96,13 +98,13 @@ module _ (one : OneProject) (files : List File) (settings : Settings) (rows : Li
         ]
       ]
 
-  not_both : (jobs others : List Job) (job : Job) → AreFirstJobs files settings rows places order (jobs ++ job ∷ []) → AreFirstJobs files settings rows places order others → length others ≡ length order → AllFit others → IsTrue (is_too_large jobs job) → ⊥
+  not_both : (jobs others : List Job) (job : Job) → AreFirstJobs files schedule (jobs ++ job ∷ []) → AreFirstJobs files schedule others → length others ≡ length schedule.order → AllFit others → IsTrue (is_too_large jobs job) → ⊥
   not_both jobs others job are also whole fit large =
       let few = are.few in
       let long = length_push jobs job in
       none_earlier jobs job others (omega (arith, few, long, whole)) (agree (jobs ++ job ∷ []) others are also) fit large
 
-  jobs_same : {a b : Result (List Job) PlanError} → MakesJobs files settings rows places order a → MakesJobs files settings rows places order b → a ≡ b
+  jobs_same : {a b : Result (List Job) PlanError} → MakesJobs files schedule a → MakesJobs files schedule b → a ≡ b
   jobs_same (passes_size jobs job are fit large) (passes_size others other also also_fit too) =
       ap (λ (j : Job). Err (refused.TooLarge j.app)) (one_too_large jobs others job other are also fit also_fit large too)
   jobs_same (passes_size jobs job are fit large) (makes {jobs = others} also whole also_fit) = absurd (not_both jobs others job are also whole also_fit large)
@@ -110,5 +112,5 @@ module _ (one : OneProject) (files : List File) (settings : Settings) (rows : Li
   jobs_same (makes {jobs = jobs} are whole fit) (makes {jobs = others} also also_whole also_fit) =
       ap (λ (js : List Job). Ok js) (same_list jobs others (whole ∙ sym also_whole) (agree jobs others are also))
 
-  pub jobs_one : HasOne (MakesJobs files settings rows places order)
+  pub jobs_one : HasOne (MakesJobs files schedule)
   jobs_one a b p q = jobs_same p q

@@ -2,6 +2,7 @@
 use Rattle.std.proofs.Common.{◌≡◌, ℕ, List, [], Result}
 use Rattle.mx_base.specs.declared.file.File.{File}
 use Rattle.compile_model.specs.declared.job.Job.{Job}
+use Rattle.dep_rows.specs.declared.row.Row.{Row}
 use Rattle.dep_rows.specs.Listed.{Listed}
 use Rattle.project_file.specs.declared.error.SettingsError.{SettingsError}
 use Rattle.project_file.specs.declared.project.Project.{Project}
@@ -10,10 +11,10 @@ use Rattle.project_file.specs.Files.{AreSettings, IsLoaded}
 use Rattle.build_plan.specs.declared.error.PlanError.{PlanError}
 use Rattle.build_plan.specs.Plan.{IsPlan}
 use Rattle.build_plan.specs.ChildLaws.{OneProject}
-use Rattle.build_plan.proofs.OneOrder.{jobs_one, order_one}
+use Rattle.build_plan.proofs.OneOrder.{jobs_one, schedule_one}
 use Rattle.build_plan.proofs.OneRoot.{rows_one, together_one}
-use Rattle.build_plan.specs.Stages.{ListsRows, LivesTogether, MakesJobs}
-use Rattle.build_plan.proofs.Stages.{FromOrder, FromRoot, FromRows, FromSettings, Orders, root_answer, settings_answer, staged}
+use Rattle.build_plan.specs.Stages.{ListsRows, LivesTogether, MakesJobs, Schedules, Then}
+use Rattle.build_plan.proofs.Stages.{FromRoot, FromRows, FromSettings, root_answer, settings_answer, staged}
 use Rattle.build_plan.proofs.Steps.{Becomes, HasOne, becomes_one, then_one}
 
 -- the settings say one thing
@@ -21,12 +22,11 @@ abbrev pub OneSettings : Type 0
 OneSettings = (files : List File) (answer other : Result Settings SettingsError) → AreSettings files answer → AreSettings files other → answer ≡ other
 
 module _ (one : OneProject) (files : List File) (env : List ℕ) (set : Settings) where
-  order_on : (listed : Listed) → HasOne (FromOrder files set listed env)
-  order_on listed =
-      then_one (Orders listed.rows env) (λ ordered. MakesJobs files set listed.rows ordered.0 ordered.1) (order_one listed.rows env) (λ ordered. jobs_one one files set listed.rows ordered.0 ordered.1)
+  jobs_on : (rows : List Row) → HasOne (Then (Schedules set rows env) (MakesJobs files))
+  jobs_on rows = then_one (Schedules set rows env) (MakesJobs files) (schedule_one set rows env) (jobs_one one files)
 
   rows_on : (listed : Listed) → HasOne (FromRows files set env listed)
-  rows_on listed = then_one (LivesTogether files listed) (λ live. FromOrder files set listed env) (together_one one files listed.rows listed.winners) (λ live. order_on listed)
+  rows_on listed = then_one (LivesTogether files listed) (λ live. Then (Schedules set listed.rows env) (MakesJobs files)) (together_one one files listed) (λ live. jobs_on listed.rows)
 
   root_on : (root : Project) → HasOne (FromRoot files env set root)
   root_on root = then_one (ListsRows files root.decls) (FromRows files set env) (rows_one one files root.decls) rows_on

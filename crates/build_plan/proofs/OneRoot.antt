@@ -27,9 +27,9 @@ use Rattle.build_plan.specs.Dependencies.{AreChildren, AreVersions, HasVersion, 
 use Rattle.build_plan.specs.Lines.{AreLines, IsLine, line_of}
 use Rattle.build_plan.specs.ChildLaws.{OneProject, once}
 use Rattle.build_plan.proofs.ListLemmas.{one_at, same_zip}
-use Rattle.build_plan.specs.Stages.{ListsRows, LivesTogether}
+use Rattle.build_plan.specs.Stages.{ListsRows, LivesTogether, LiveWith}
 use Rattle.build_plan.specs.Stages.ListsRows.{meets, passes, lists}
-use Rattle.build_plan.specs.Stages.LivesTogether.{diverges, lives}
+use Rattle.build_plan.specs.Stages.LiveWith.{diverges, lives}
 use Rattle.build_plan.proofs.Steps.{HasOne, same_ok}
 
 one_path : (source : DepSource) (dir other : List ℕ) → source ≡ Path dir → source ≡ Path other → dir ≡ other
@@ -96,13 +96,15 @@ module _ (one : OneProject) (files : List File) where
       clash versions others (d ∷ ds) known also are some none =
           none d.rule d.winner d.other (by_parts rows winners versions others (all_parts versions others known also) d.rule d.winner d.other (are.only 0 d (omega arith)))
 
-      together_same : {a b : Result Listed PlanError} → LivesTogether files (record { rows = rows; winners = winners }) a → LivesTogether files (record { rows = rows; winners = winners }) b → a ≡ b
-      together_same (diverges versions list {lines = lines} known are some said) (diverges others other_list {lines = other_lines} also_known also more tells) =
-          let same : list ≡ other_list = one_divergence_list rows winners versions list other_list are (also_divergences versions others other_list (all_parts versions others known also_known) also) in
-          ap (λ (ls : List DivergedLine). Err (refused.Diverged ls)) (same_lines list lines other_lines said (subst (λ (ds : List Divergence). AreLines rows ds other_lines) (sym same) tells))
-      together_same (diverges versions list known are some said) (lives others also_known none) = absurd (clash versions others list known also_known are some none)
-      together_same (lives versions known none) (diverges others list also_known are some said) = absurd (clash others versions list also_known known are some none)
-      together_same (lives versions known none) (lives others also_known also) = refl
+  together_same : (listed : Listed) {a b : Result Listed PlanError} → (versions others : List (Option Version)) → AreVersions files listed.rows listed.winners versions → AreVersions files listed.rows listed.winners others → LiveWith listed versions a → LiveWith listed others b → a ≡ b
+  together_same listed versions others known also_known (diverges list {lines = lines} are some said) (diverges other_list {lines = other_lines} also more tells) =
+      let rows = listed.rows in
+      let winners = listed.winners in
+      let same : list ≡ other_list = one_divergence_list rows winners versions list other_list are (also_divergences rows winners versions others other_list (all_parts rows winners versions others known also_known) also) in
+      ap (λ (ls : List DivergedLine). Err (refused.Diverged ls)) (same_lines rows winners list lines other_lines said (subst (λ (ds : List Divergence). AreLines rows ds other_lines) (sym same) tells))
+  together_same listed versions others known also_known (diverges list are some said) (lives none) = absurd (clash listed.rows listed.winners versions others list known also_known are some none)
+  together_same listed versions others known also_known (lives none) (diverges list are some said) = absurd (clash listed.rows listed.winners others versions list also_known known are some none)
+  together_same listed versions others known also_known (lives none) (lives also) = refl
 
-      pub together_one : HasOne (LivesTogether files (record { rows = rows; winners = winners }))
-      together_one a b p q = together_same p q
+  pub together_one : (listed : Listed) → HasOne (LivesTogether files listed)
+  together_one listed a b p q = together_same listed p.versions q.versions p.known q.known p.together q.together

@@ -1,7 +1,9 @@
 -- The plan of a project, from one stage after another.
 use Rattle.std.proofs.Common.{◌≡◌, ℕ, List, sym, subst, All, IfSome, Option, Some, None, Result, Ok, Err}
+use Rattle.semver.specs.declared.Version.{Version}
 use Rattle.mx_base.specs.declared.file.File.{File}
 use Rattle.compile_model.specs.declared.job.Job.{Job}
+use Rattle.dep_rows.specs.declared.row.Row.{Row}
 use Rattle.dep_rows.specs.Listed.{Listed}
 use Rattle.project_file.specs.declared.project.Project.{Project}
 use Rattle.project_file.specs.declared.settings.Settings.{Settings}
@@ -9,13 +11,16 @@ use Rattle.build_plan.specs.declared.error.PlanError.{PlanError}
 use Rattle.build_plan.specs.declared.error.PlanError.TheVariants as refused
 use Rattle.build_plan.specs.declared.found.Found.{Found}
 use Rattle.build_plan.specs.Found.{IsFound}
-use Rattle.build_plan.specs.Plan.{IsPlan, IsRoot}
+use Rattle.build_plan.specs.Dependencies.{AreVersions}
+use Rattle.build_plan.specs.Jobs.{Schedule}
+use Rattle.build_plan.specs.Plan.{Converge, IsPlan, IsRoot}
 use Rattle.build_plan.specs.Plan.IsPlan.{settings as by_settings, no_project as by_no_project, project as by_project, dependency as by_dependency, too_many as by_too_many, diverged as by_diverged, cycle as by_cycle, too_large as by_too_large, planned as by_planned}
-use Rattle.build_plan.specs.Stages.{SetsUp, HasRoot, ListsRows, LivesTogether, MakesJobs, HasJobs}
+use Rattle.build_plan.specs.Stages.{SetsUp, HasRoot, ListsRows, LivesTogether, LiveWith, MakesJobs, Schedules, Then}
 use Rattle.build_plan.specs.Stages.ListsRows.{meets, passes, lists}
-use Rattle.build_plan.specs.Stages.LivesTogether.{diverges, lives}
+use Rattle.build_plan.specs.Stages.LiveWith.{diverges, lives}
 use Rattle.build_plan.specs.Stages.MakesJobs.{passes_size, makes}
-use Rattle.build_plan.specs.Stages.HasJobs.{circles, orders}
+use Rattle.build_plan.specs.Stages.Schedules.{circles, orders}
+use Rattle.build_plan.specs.Stages.Then.{stops, goes_on}
 
 module _ (files : List File) (env : List ℕ) where
   settings_refused : (error : PlanError) → SetsUp files (Err error) → IsPlan files env (Err error)
@@ -34,17 +39,19 @@ module _ (files : List File) (env : List ℕ) where
       rows_refused (meets met) = by_dependency settings root is met
       rows_refused (passes many) = by_too_many settings root is many
 
-      diverged : {listed : Listed} {error : PlanError} → ListsRows files root.decls (Ok listed) → LivesTogether files listed (Err error) → IsPlan files env (Err error)
-      diverged (lists listed are few) (diverges versions divergences known apart some told) =
-          by_diverged settings root listed.rows listed.winners versions divergences is (record { listed = are; few = few; known = known }) apart some told
+      diverged : {listed : Listed} {error : PlanError} → ListsRows files root.decls (Ok listed) → (versions : List (Option Version)) → AreVersions files listed.rows listed.winners versions → LiveWith listed versions (Err error) → IsPlan files env (Err error)
+      diverged (lists listed are few) versions known (diverges divergences apart some told) =
+          by_diverged settings root listed versions divergences is (record { rows = are; few = few; known = known }) apart some told
 
-      jobs_made : {listed live : Listed} {answer : Result (List Job) PlanError} → ListsRows files root.decls (Ok listed) → LivesTogether files listed (Ok live) → HasJobs files settings listed.rows env answer → IsPlan files env answer
-      jobs_made (lists listed are few) (lives versions known together) (circles places nodes reached around) =
-          by_cycle settings root listed.rows places nodes is (record { winners = listed.winners; versions = versions; listed = record { listed = are; few = few; known = known }; together = together; reached = reached }) around
-      jobs_made (lists listed are few) (lives versions known together) (orders places order reached is_order (passes_size jobs job first fit large)) =
-          by_too_large settings root listed.rows places order jobs job is (record { winners = listed.winners; versions = versions; listed = record { listed = are; few = few; known = known }; together = together; reached = reached }) is_order first fit large
-      jobs_made (lists listed are few) (lives versions known together) (orders places order reached is_order (makes first all fit)) =
-          by_planned settings root listed.rows places order is (record { winners = listed.winners; versions = versions; listed = record { listed = are; few = few; known = known }; together = together; reached = reached }) is_order first all fit
+      live_rows : {listed : Listed} {live : Listed} → ListsRows files root.decls (Ok listed) → (versions : List (Option Version)) → AreVersions files listed.rows listed.winners versions → LiveWith listed versions (Ok live) → Converge files root.decls listed.rows
+      live_rows (lists listed are few) versions known (lives none) = record { winners = listed.winners; versions = versions; listed = record { rows = are; few = few; known = known }; together = none }
+
+      jobs_made : (rows : List Row) {answer : Result (List Job) PlanError} → Converge files root.decls rows → Then (Schedules settings rows env) (MakesJobs files) answer → IsPlan files env answer
+      jobs_made rows live (stops (circles places nodes reached around)) = by_cycle settings root rows places nodes is live reached around
+      jobs_made rows live (goes_on _ (orders places order reached is_order) (passes_size jobs job first fit large)) =
+          by_too_large root (record { settings = settings; rows = rows; places = places; order = order }) jobs job (record { is_root = is; converge = live; reached = reached; ordered = is_order }) first fit large
+      jobs_made rows live (goes_on _ (orders places order reached is_order) (makes first all fit)) =
+          by_planned root (record { settings = settings; rows = rows; places = places; order = order }) (record { is_root = is; converge = live; reached = reached; ordered = is_order }) first all fit
 
 -- ---- the same where the store may not tell its files
 
@@ -67,8 +74,8 @@ module _ (env : List ℕ) (settings : Settings) (root : Project) where
 
   pub if_diverged : (told : Option (List File)) (listed : Listed) (found : List Found) (error : PlanError) → IfSome told (λ files. ListsRows files root.decls (Ok listed)) → IfSome told (λ files. All (IsFound files) found) → ((files : List File) → All (IsFound files) found → LivesTogether files listed (Err error)) → IfSome told (λ files. IsRoot files settings root → IsPlan files env (Err error))
   if_diverged None listed found error are meant why = tt
-  if_diverged (Some files) listed found error are meant why = λ is. diverged files env settings root is are (why files meant)
+  if_diverged (Some files) listed found error are meant why = λ is. let live = why files meant in diverged files env settings root is are live.versions live.known live.together
 
-  pub if_jobs : (told : Option (List File)) (listed live : Listed) (found : List Found) (answer : Result (List Job) PlanError) → IfSome told (λ files. ListsRows files root.decls (Ok listed)) → IfSome told (λ files. All (IsFound files) found) → ((files : List File) → All (IsFound files) found → LivesTogether files listed (Ok live)) → IfSome told (λ files. HasJobs files settings listed.rows env answer) → IfSome told (λ files. IsRoot files settings root → IsPlan files env answer)
+  pub if_jobs : (told : Option (List File)) (listed live : Listed) (found : List Found) (answer : Result (List Job) PlanError) → IfSome told (λ files. ListsRows files root.decls (Ok listed)) → IfSome told (λ files. All (IsFound files) found) → ((files : List File) → All (IsFound files) found → LivesTogether files listed (Ok live)) → IfSome told (λ files. Then (Schedules settings listed.rows env) (MakesJobs files) answer) → IfSome told (λ files. IsRoot files settings root → IsPlan files env answer)
   if_jobs None listed live found answer are meant together made = tt
-  if_jobs (Some files) listed live found answer are meant together made = λ is. jobs_made files env settings root is are (together files meant) made
+  if_jobs (Some files) listed live found answer are meant together made = λ is. let live = together files meant in jobs_made files env settings root is listed.rows (live_rows files env settings root is are live.versions live.known live.together) made

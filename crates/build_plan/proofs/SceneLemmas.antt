@@ -1,54 +1,55 @@
--- What the environment reaches, and its jobs.
-use Rattle.std.proofs.Common.{◌≡◌, ℕ, ◌<◌, List, length, get_or, All, sym, ◌∙◌, ap, subst, arith, Option, Some, None, Result, Err, IfSome}
-use Rattle.std.specs.List.{AllZip}
+-- What an environment reaches, and what is known of its scene.
+use Rattle.std.proofs.Common.{◌≡◌, ℕ, List, length, sym, ◌∙◌, ap, subst, Option, Some, None, Result, Ok, Err, IfSome}
 use Rattle.std.proofs.lemmas.List.{length-map}
-use Rattle.std.proofs.lemmas.List.Elements.{Contains-get_or}
-use Rattle.std.proofs.lemmas.Option.{slice_get_within}
 use Rattle.mx_base.specs.declared.file.File.{File}
 use Rattle.compile_model.specs.declared.job.Job.{Job}
 use Rattle.converger.specs.Reach.{AreReached}
-use Rattle.dep_order.specs.Cycle.{IsCycleOf}
 use Rattle.dep_order.specs.Listing.{IsOrderOf}
-use Rattle.dep_order.proofs.Listings.{order_has_places}
+use Rattle.dep_order.specs.Ordered.{OrderedGraph}
 use Rattle.dep_rows.specs.declared.row.Row.{Row}
-use Rattle.dep_rows.specs.Rows.{AreWinners}
+use Rattle.dep_rows.specs.Listed.{Listed}
 use Rattle.project_file.specs.declared.settings.Settings.{Settings}
 use Rattle.build_plan.specs.declared.error.PlanError.{PlanError}
 use Rattle.build_plan.specs.declared.found.Found.{Found}
-use Rattle.build_plan.specs.Found.{IsFoundAt}
+use Rattle.build_plan.specs.Found.{AreFoundFor}
 use Rattle.build_plan.specs.Needs.{direct_needs, graph_of}
-use Rattle.build_plan.specs.Scenes.{AreStands, IsScene}
-use Rattle.build_plan.specs.Stages.{OrdersGraph, MakesJobs, HasJobs}
-use Rattle.build_plan.specs.Stages.HasJobs.{circles, orders}
+use Rattle.build_plan.specs.Scenes.{IsOrdered, IsScene}
+use Rattle.build_plan.specs.Jobs.{Schedule}
+use Rattle.build_plan.specs.Stages.{MakesJobs, OrdersGraph, Schedules, Then}
+use Rattle.build_plan.specs.Stages.Schedules.{circles}
+use Rattle.build_plan.specs.Stages.Then.{stops, goes_on}
 
-module _ (rows : List Row) (env places : List ℕ) (reached : AreReached rows env places) where
-  pub places_within : All (λ place. place < length rows) places
-  places_within k d within = let w = reached.only k d within in slice_get_within rows (get_or places k d) w.0 w.1.stands
+pub scene_is : (listed : Listed) (found : List Found) (env places : List ℕ) (ordered : OrderedGraph) → AreFoundFor listed found → AreReached listed.rows env places → ordered.graph ≡ graph_of listed.rows places → OrdersGraph listed.rows places (Ok ordered.order) → IsScene listed found places ordered
+scene_is listed found env places ordered are reached is is_order = record {
+  winning = are.within.well_formed.winning;
+  founds = are.at;
+  in_order = reached.in_order;
+  only = λ k d within. let w = reached.only k d within in (w.0, w.1);
+  is_graph = is;
+  is_order = subst (λ (g : List (List ℕ)). IsOrderOf g ordered.order) (sym is) is_order;
+}
 
-  pub order_within : (graph : List (List ℕ)) (order : List ℕ) → graph ≡ graph_of rows places → IsOrderOf graph order → All (λ node. node < length places) order
-  order_within graph order is is_order k d within =
-      let inside = (order_has_places graph order is_order (get_or order k d)).0 (Contains-get_or order k d within) in
-      let long : length graph ≡ length places = ap length is ∙ length-map places (direct_needs rows places) in
-      omega (arith, inside, long)
+pub scene_refused : (settings : Settings) (rows : List Row) (env places : List ℕ) (error : PlanError) → AreReached rows env places → OrdersGraph rows places (Err error) → Schedules settings rows env (Err error)
+scene_refused settings rows env places error reached (nodes, around, told) =
+    subst (λ (e : PlanError). Schedules settings rows env (Err e)) (sym told) (circles places nodes reached around)
 
-  pub scene_is : (winners : List ℕ) (found : List Found) (graph : List (List ℕ)) (order stands : List ℕ) → AreWinners rows winners → AllZip (IsFoundAt rows) winners found → graph ≡ graph_of rows places → IsOrderOf graph order → length stands ≡ length places → AreStands order stands → IsScene rows winners found places graph order stands
-  scene_is winners found graph order stands winning founds is is_order long known = record {
-    winning = winning;
-    founds = founds;
-    in_order = reached.in_order;
-    only = λ k d within. let w = reached.only k d within in (w.0, w.1);
-    is_graph = is;
-    is_order = is_order;
-    long = long;
-    known = known;
-  }
+module _ {listed : Listed} {found : List Found} {places : List ℕ} {ordered : OrderedGraph} (scene : IsScene listed found places ordered) where
+  pub order_known : IsOrderOf (graph_of listed.rows places) ordered.order
+  order_known = subst (λ (g : List (List ℕ)). IsOrderOf g ordered.order) scene.is_graph scene.is_order
 
-  pub if_made : (told : Option (List File)) (settings : Settings) (graph : List (List ℕ)) (order : List ℕ) (answer : Result (List Job) PlanError) → graph ≡ graph_of rows places → IsOrderOf graph order → IfSome told (λ files. MakesJobs files settings rows places order answer) → IfSome told (λ files. HasJobs files settings rows env answer)
-  if_made None settings graph order answer is is_order made = tt
-  if_made (Some files) settings graph order answer is is_order made =
-      orders places order reached (subst (λ (g : List (List ℕ)). IsOrderOf g order) is is_order) made
+  pub ordered_known : (settings : Settings) → IsOrdered (record { settings = settings; rows = listed.rows; places = places; order = ordered.order })
+  ordered_known settings = record { in_order = scene.in_order; only = scene.only; order = order_known }
 
-  pub if_cycle : (told : Option (List File)) (settings : Settings) (graph : List (List ℕ)) (error : PlanError) → graph ≡ graph_of rows places → OrdersGraph rows places graph (Err error) → IfSome told (λ files. HasJobs files settings rows env (Err error))
-  if_cycle None settings graph error is (nodes, around, told) = tt
-  if_cycle (Some files) settings graph error is (nodes, around, told) =
-      subst (λ (e : PlanError). HasJobs files settings rows env (Err e)) (sym told) (circles places nodes reached (subst (λ (g : List (List ℕ)). IsCycleOf g nodes) is around))
+  pub long_graph : length ordered.graph ≡ length places
+  long_graph = ap length scene.is_graph ∙ length-map places (direct_needs listed.rows places)
+
+-- ---- the jobs of the winners that are reached, where the store may not tell its files
+
+module _ (settings : Settings) (rows : List Row) (env : List ℕ) where
+  pub if_stops : (told : Option (List File)) (error : PlanError) → Schedules settings rows env (Err error) → IfSome told (λ files. Then (Schedules settings rows env) (MakesJobs files) (Err error))
+  if_stops None error why = tt
+  if_stops (Some files) error why = stops why
+
+  pub if_goes_on : (told : Option (List File)) (schedule : Schedule) (answer : Result (List Job) PlanError) → Schedules settings rows env (Ok schedule) → IfSome told (λ files. MakesJobs files schedule answer) → IfSome told (λ files. Then (Schedules settings rows env) (MakesJobs files) answer)
+  if_goes_on None schedule answer is made = tt
+  if_goes_on (Some files) schedule answer is made = goes_on schedule is made

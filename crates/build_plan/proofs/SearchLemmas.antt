@@ -5,13 +5,11 @@ use Rattle.std.specs.List.Sorted.{IsBinarySearchResult}
 use Rattle.std.specs.Ordering.{nat_cmp}
 use Rattle.std.specs.Prelude.{nat_eq}
 use Rattle.std.proofs.lemmas.Bool.{cases_order, cases_lt, cases_eq}
-use Rattle.std.proofs.lemmas.List.{get_or_default, get_or-set_same, get_or-set_other, get_or-take, length-take, take_more, take_all}
-use Rattle.std.proofs.lemmas.List.Quantifiers.{position-Some}
+use Rattle.std.proofs.lemmas.List.{get_or_default}
 use Rattle.std.proofs.lemmas.List.Sorted.{searched}
-use Rattle.std.proofs.lemmas.Option.{none-some}
+use Rattle.std.proofs.lemmas.Option.{none-some, slice_get_within, slice_get-get_or, get_or_from_slice_get}
 use Rattle.build_plan.specs.Needs.{is_child_at}
-use Rattle.build_plan.specs.Scenes.{AreStands}
-use Rattle.build_plan.proofs.Positions.{or_else, position_push}
+use Rattle.build_plan.proofs.Positions.{position_first, position_none}
 
 not_equal : (x y : ℕ) → x ≢ y → eqb x y ≡ false
 not_equal x y apart = at (eqb x y) refl
@@ -64,48 +62,28 @@ module _ (places : List ℕ) (in_order : AllPairs (λ a b. a < b) places) where
   is_there place at search_err has =
       not_there place at search_err has.0 has.1 (get_or_default places has.0 0 place has.1 ∙ has.2)
 
+  earlier_differs : (place at : ℕ) → (at < length places) × (get_or places at 0 ≡ place) → (j y : ℕ) → j < at → slice_get places j ≡ Some y → nat_eq place y ≡ false
+  earlier_differs place at found j y before stands =
+      let is : get_or places j 0 ≡ y = get_or_from_slice_get places j y 0 stands in
+      not_equal place y (λ same. omega (arith, same, is, found.1, in_order j at 0 before found.0))
+
+  -- where a search finds a place, the place stands first
+  pub position_found : (place at : ℕ) → IsBinarySearchResult (λ y. nat_cmp y place) places (Ok at) → position (nat_eq place) places ≡ Some at
+  position_found place at search_ok =
+      let found = found_there place at search_ok in
+      let stands : slice_get places at ≡ Some place = slice_get-get_or places at 0 found.0 ∙ ap (λ (n : ℕ). Some n) found.1 in
+      position_first (nat_eq place) places at place stands (eq-eqb place place refl) (earlier_differs place at found)
+
+  pub position_missing : (place at : ℕ) → IsBinarySearchResult (λ y. nat_cmp y place) places (Err at) → position (nat_eq place) places ≡ None
+  position_missing place at search_err =
+      position_none (nat_eq place) places (λ j y stands.
+      let within = slice_get_within places j y stands in
+      let is : get_or places j 0 ≡ y = get_or_from_slice_get places j y 0 stands in
+      not_equal place y (λ same. not_there place at search_err j within (is ∙ sym same)))
+
 -- items of two lists at one place
 pub zip_get : {A B : Type 0} (R : A → B → Type 0) (xs : List A) (ys : List B) (k : ℕ) (x : A) (y : B) → AllZip R xs ys → slice_get xs k ≡ Some x → slice_get ys k ≡ Some y → R x y
 zip_get R [] ys k x y all at_x at_y = absurd (none-some x at_x)
 zip_get R (a ∷ xs) [] k x y all at_x at_y = absurd all
 zip_get R (a ∷ xs) (b ∷ ys) zero x y all at_x at_y = let same_x : a ≡ x = cc in let same_y : b ≡ y = cc in subst (λ (v : _). R v y) same_x (subst (R a) same_y all.0)
 zip_get R (a ∷ xs) (b ∷ ys) (suc k) x y all at_x at_y = zip_get R xs ys k x y all.1 at_x at_y
-
--- ---- where each node stands
-
-pub KnownSoFar : List ℕ → ℕ → List ℕ → Type 0
-KnownSoFar order at stands = (node k : ℕ) → position (nat_eq node) (take at order) ≡ Some k → get_or stands node 0 ≡ k
-
-pub none_known : (order stands : List ℕ) → KnownSoFar order 0 stands
-unfolding KnownSoFar
-none_known order stands node k is = absurd (none-some k is)
-
-stands_here : (order stands : List ℕ) (at node x k : ℕ) (before : Option ℕ) (b : Bool) → AllPairs (λ a b. a ≢ b) order → at < length order → x ≡ get_or order at 0 → x < length stands → position (nat_eq node) (take at order) ≡ before → (before ≡ Some k → get_or stands node 0 ≡ k) → eqb node x ≡ b → or_else before (cond b (Some at) None) ≡ Some k → get_or (set stands x at) node 0 ≡ k
-stands_here order stands at node x k None false apart within is inside was known test h = absurd (none-some k h)
-stands_here order stands at node x k None true apart within is inside was known test h =
-    let same : node ≡ x = eqb-true node x test in
-    let here : at ≡ k = cc in
-    ap (λ (n : ℕ). get_or (set stands x at) n 0) same ∙ get_or-set_same stands x at 0 inside ∙ here
-stands_here order stands at node x k (Some j) b apart within is inside was known test h =
-    let here : j ≡ k = cc in
-    let first = position-Some (nat_eq node) (take at order) j 0 was in
-    let short : length (take at order) ≡ at = rw length-take (omega arith) in
-    let before : j < at = omega (arith, short, first.0) in
-    let there : node ≡ get_or order j 0 = eqb-true node (get_or (take at order) j 0) first.1 ∙ get_or-take at order j 0 before in
-    let differ : node ≢ x = λ e. apart j at 0 before within (sym there ∙ e ∙ is) in
-    get_or-set_other stands x node at 0 differ ∙ known (ap (λ (n : ℕ). Some n) here)
-
-pub known_more : (order stands : List ℕ) (at x : ℕ) → AllPairs (λ a b. a ≢ b) order → at < length order → x ≡ get_or order at 0 → x < length stands → KnownSoFar order at stands → KnownSoFar order (at + 1) (set stands x at)
-unfolding KnownSoFar
-known_more order stands at x apart within is inside so_far node k h =
-    let short : length (take at order) ≡ at = rw length-take (omega arith) in
-    let pushed : position (nat_eq node) (take (at + 1) order) ≡ or_else (position (nat_eq node) (take at order)) (cond (eqb node x) (Some at) None) =
-    ap (position (nat_eq node)) (take_more order at 0 within)
-    ∙ position_push (nat_eq node) (take at order) (get_or order at 0)
-    ∙ ap (λ (n : ℕ). or_else (position (nat_eq node) (take at order)) (cond (eqb node n) (Some (length (take at order))) None)) (sym is)
-    ∙ ap (λ (n : ℕ). or_else (position (nat_eq node) (take at order)) (cond (eqb node x) (Some n) None)) short in
-    stands_here order stands at node x k (position (nat_eq node) (take at order)) (eqb node x) apart within is inside refl (so_far node k) refl (sym pushed ∙ h)
-
-pub all_known : (order stands : List ℕ) (at : ℕ) → length order ≤ at → KnownSoFar order at stands → AreStands order stands
-unfolding KnownSoFar
-all_known order stands at past so_far node k is = so_far node k (ap (position (nat_eq node)) (take_all at order past) ∙ is)

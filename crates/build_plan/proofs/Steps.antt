@@ -1,5 +1,7 @@
 -- Steps that have one answer each have one answer together.
 use Rattle.std.proofs.Common.{◌≡◌, Result, Ok, Err, sym, ◌∙◌, ap, subst}
+use Rattle.build_plan.specs.Stages.{Then}
+use Rattle.build_plan.specs.Stages.Then.{stops, goes_on}
 
 -- only one thing is an answer
 abbrev pub HasOne : {A : Type 0} → (A → Type 0) → Type 0
@@ -8,11 +10,6 @@ HasOne {A = A} Answers = (one other : A) → Answers one → Answers other → o
 -- what an answer becomes
 abbrev pub Becomes : {A B : Type 0} → (A → Type 0) → (A → B) → B → Type 0
 Becomes {A = A} Answers become b = (a : A) × Answers a × (b ≡ become a)
-
--- the first step's error, or what the next step answers of its value
-pub data Then {X Y E : Type 0} (First : Result X E → Type 0) (Next : X → Result Y E → Type 0) : Result Y E → Type 0 where
-  stops : {error : E} → First (Err error) → Then First Next (Err error)
-  goes_on : (x : X) {answer : Result Y E} → First (Ok x) → Next x answer → Then First Next answer
 
 pub same_ok : {X E : Type 0} (x y : X) → ◌≡◌ {A = Result X E} (Ok x) (Ok y) → x ≡ y
 same_ok x y same = cc

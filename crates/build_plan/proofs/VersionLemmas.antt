@@ -1,12 +1,15 @@
 -- The versions of what was found.
-use Rattle.std.proofs.Common.{◌≡◌, ℕ, List, [], ◌∷◌, Option, Some, Ok, refl, sym, ◌∙◌, subst, Bool, true, false, ◌&&◌, is_ok, IsTrue, length, take, get_or, suc, ap, ◌≤◌, ◌<◌, ◌+◌, ◌++◌}
+use Rattle.std.proofs.Common.{◌≡◌, ℕ, List, [], ◌∷◌, Option, Some, None, Ok, codes, refl, sym, ◌∙◌, subst, Bool, true, false, ◌&&◌, is_ok, IsTrue, length, take, get_or, suc, ap, ◌≤◌, ◌<◌, ◌+◌, ◌++◌}
 use Rattle.std.specs.Prelude.{IsSome}
 use Rattle.std.specs.List.{All, AllZip}
-use Rattle.std.specs.Str.{is_utf8, IsUtf8}
+use Rattle.std.specs.Str.{is_utf8, chars, IsUtf8}
+use lib.Utf8.{encode}
 use Rattle.std.proofs.lemmas.List.{take_all, take_more}
+use Rattle.project_file.specs.declared.project.Project.{Project}
 use Rattle.project_file.specs.Version.{is_version}
 use Rattle.project_file.proofs.VersionLemmas.{no_text}
 use Rattle.std.proofs.lemmas.List.Elements.{All-nil, All-cons, All-head, All-tail}
+use Rattle.semver.proofs.OnLiterals.{semver_on_literals}
 use Rattle.semver.specs.Identifiers.{parts_of}
 use Rattle.semver.specs.Parse.{version_parts}
 use Rattle.semver.specs.declared.Version.{Version}
@@ -77,3 +80,12 @@ length_zip R [] [] all = refl
 length_zip R [] (y ∷ ys) all = absurd all
 length_zip R (x ∷ xs) [] all = absurd all
 length_zip R (x ∷ xs) (y ∷ ys) all = ap suc (length_zip R xs ys all.1)
+
+-- the version without a manifest
+pub no_version : IsTrue (is_version (codes "0.0.0"))
+unfolding semver_on_literals is_utf8 chars encode
+no_version = refl
+
+pub version_is : (project : Option Project) → IsTrue (is_version (version_by project))
+version_is None = no_version
+version_is (Some project) = project.versioned

@@ -1,21 +1,23 @@
 -- Versions of winners, and the rows of divergences.
-use Rattle.std.proofs.Common.{◌≡◌, ℕ, zero, suc, ◌<◌, List, [], ◌∷◌, length, get_or, All, sym, subst, arith, Option, Some, None, IsSome}
-use Rattle.std.specs.List.{AllZip}
+use Rattle.std.proofs.Common.{◌≡◌, ℕ, ◌<◌, Bool, true, false, eqb, List, [], ◌∷◌, length, get_or, All, sym, ◌∙◌, ap, subst, arith, Option, Some, None, Ok, IsSome}
 use Rattle.std.proofs.lemmas.Option.{slice_get_within, get_or_from_slice_get}
+use Rattle.std.proofs.lemmas.Bool.{eqb-true, eqb-false}
 use Rattle.semver.specs.declared.Version.{Version}
 use Rattle.dep_rows.specs.declared.row.Row.{Row}
+use Rattle.dep_rows.specs.Listed.{Listed}
 use Rattle.converger.specs.declared.divergence.Divergence.{Divergence}
 use Rattle.converger.specs.declared.divergence.Rule.{Rule}
+use Rattle.converger.specs.Converged.{NoneDiverges}
 use Rattle.converger.specs.Divergence.{AreDivergences, Diverges, IsUnder, IsWithoutVersion}
 use Rattle.converger.specs.Divergence.Diverges.{source, compiled, version, environment}
-use Rattle.build_plan.specs.declared.found.Found.{Found}
-use Rattle.build_plan.specs.Found.{IsFoundAt, IsSound}
+use Rattle.build_plan.specs.Stages.{LiveWith}
+use Rattle.build_plan.specs.Stages.LiveWith.{lives}
 
-pub sounds : (rows : List Row) (winners : List ℕ) (found : List Found) → AllZip (IsFoundAt rows) winners found → All IsSound found
-sounds rows winners [] all k d within = absurd (omega arith)
-sounds rows [] (f ∷ found) all k d within = absurd all
-sounds rows (w ∷ winners) (f ∷ found) all zero d within = all.0.sound
-sounds rows (w ∷ winners) (f ∷ found) all (suc k) d within = sounds rows winners found all.1 k d (omega arith)
+-- where no divergence is listed there is none
+pub none_diverges : (rows : List Row) (winners : List ℕ) (versions : List (Option Version)) (list : List Divergence) → length list ≡ 0 → AreDivergences rows winners versions list → NoneDiverges rows winners versions
+none_diverges rows winners versions list none are rule place other diverging =
+    let has = are.all rule place other diverging in
+    omega (arith, none, has.1)
 
 under_within : (rows : List Row) (place other : ℕ) (winner row : Row) → IsUnder rows place winner other row → (place < length rows) × (other < length rows)
 under_within rows place other winner row under =
@@ -42,3 +44,21 @@ none_missing rows winners versions app known without =
     is_none : (o : Option Version) → o ≡ None → IsSome o → ⊥
     is_none None e some = cc
     is_none (Some v) e some = cc
+
+-- the test whether there are any
+pub none_left : (list shown : List Divergence) (empty : Bool) → shown ≡ list → empty ≡ eqb (length shown) 0 → empty ≡ true → length list ≡ 0
+none_left list shown empty same is nothing = ap length (sym same) ∙ eqb-true (length shown) 0 (sym is ∙ nothing)
+
+pub some_left : (list shown : List Divergence) (empty : Bool) → shown ≡ list → empty ≡ eqb (length shown) 0 → empty ≡ false → 0 < length list
+some_left list shown empty same is some =
+    let differ : length shown ≡ 0 → ⊥ = eqb-false (length shown) 0 (sym is ∙ some) in
+    let long : length shown ≡ length list = ap length same in
+    omega (arith, differ, long)
+
+-- so nothing stands against the rows but want of memory
+pub some_diverges : (rows : List Row) (winners : List ℕ) (versions : List (Option Version)) (list : List Divergence) → NoneDiverges rows winners versions → AreDivergences rows winners versions list → 0 < length list → ⊥
+some_diverges rows winners versions [] none are some = omega (arith, some)
+some_diverges rows winners versions (d ∷ list) none are some = none d.rule d.winner d.other (are.only 0 d (omega arith))
+
+pub live_none : (listed : Listed) (versions : List (Option Version)) {live : Listed} → LiveWith listed versions (Ok live) → NoneDiverges listed.rows listed.winners versions
+live_none listed versions (lives none) = none

@@ -1,11 +1,10 @@
 -- What the files say of a dependency: its version, and what it declares in turn.
-use Rattle.std.specs.Prelude.{◌≡◌, ℕ, Bool, true, false, not, ◌&&◌, List, [], ◌∷◌, filter, Option, Some, None, Result, Ok, Err, IsTrue, IsFalse, slice_get, codes, bytes_eq}
+use Rattle.std.specs.Prelude.{◌≡◌, ℕ, Bool, true, false, not, List, [], ◌∷◌, filter, Option, Some, None, Result, Ok, Err, IsTrue, IsFalse, slice_get, codes}
 use Rattle.std.specs.List.{AllZip}
 use Rattle.semver.specs.Identifiers.{parts_of}
 use Rattle.semver.specs.Parse.{version_parts}
 use Rattle.semver.specs.declared.Version.{Version}
 use Rattle.mx_base.specs.declared.file.File.{File}
-use Rattle.mx_base.specs.Layout.{is_in_build}
 use Rattle.tree_store.specs.Files.{paths_below}
 use Rattle.dep_options.specs.declared.decl.Decl.{Decl}
 use Rattle.dep_options.specs.declared.decl.DepSource.TheVariants.{Hex, Path}
@@ -26,17 +25,13 @@ abbrev pub declared_by : Option Project → List Decl
 declared_by None = []
 declared_by (Some project) = project.decls
 
--- a folder that a dependency can have: neither the root nor in `_build`
-abbrev pub is_apart : List ℕ → Bool
-is_apart dir = not (bytes_eq dir []) && not (is_in_build dir)
-
 abbrev pub is_empty : List (List ℕ) → Bool
 is_empty [] = true
 is_empty (path ∷ paths) = false
 
 -- some file lies below the folder of a dependency
 abbrev pub has_files : List File → List ℕ → Bool
-has_files files dir = is_apart dir && not (is_empty (paths_below dir files))
+has_files files dir = not (is_empty (paths_below dir files))
 
 -- what an app with this winner declares in turn, or why that isn't known: the declarations of its manifest
 -- that are for the winner's environment

@@ -5,22 +5,20 @@ use Rattle.mx_base.specs.declared.file.File.{File}
 use Rattle.mx_base.specs.Order.{ArePathsInOrder, bytes_at}
 use Rattle.mx_base.specs.Layout.{is_in_build}
 use Rattle.tree_store.specs.Files.{paths_below}
+use Rattle.dep_options.specs.Options.{is_dep_folder}
 use Rattle.dep_options.specs.declared.decl.DepSource.TheVariants.{Path}
 use Rattle.dep_rows.specs.declared.row.Row.{Row}
 use Rattle.dep_rows.specs.Listed.{Listed, IsWithinLimit}
 use Rattle.project_file.specs.Files.{IsLoaded, manifest_at}
-use Rattle.project_file.specs.Version.{is_version}
 use Rattle.build_plan.specs.declared.found.Found.{Found}
-use Rattle.build_plan.specs.Dependencies.{is_apart, version_by}
 use Rattle.build_plan.specs.Sources.{sources_of, bytes_in}
 use Rattle.build_plan.specs.Jobs.{most_files}
 
 -- what holds of it, whether the store tells its files or not
 pub record IsSound (found : Found) : Type 0 where
-  pub apart : IsTrue (is_apart found.dir)
+  pub placed : IsTrue (is_dep_folder found.dir)
   pub in_order : ArePathsInOrder found.paths.items
   pub outside : All (λ path. IsFalse (is_in_build path)) found.paths.items
-  pub version : IsTrue (is_version (version_by found.project))
 
 -- it is what the files say
 pub record IsFound (files : List File) (found : Found) : Type 0 where

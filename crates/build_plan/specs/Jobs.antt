@@ -45,30 +45,41 @@ job_with files settings row dir version needs need_apps = record {
   need_apps = need_apps;
 }
 
+-- what jobs are made of: the settings, all rows, the winners that are reached, and the order of their graph
+pub record Schedule : Type 0 where
+  pub settings : Settings
+  pub rows : List Row
+  pub places : List ℕ
+  pub order : List ℕ
+
 -- where these places of the graph stand in its order
 abbrev pub places_in : List ℕ → List ℕ → List ℕ
 places_in order nodes = filter_map (λ node. position (nat_eq node) order) nodes
 
--- the job at a place of the order: that of the winner there, whose needs are all that it reaches
-pub record IsJobAt (files : List File) (settings : Settings) (rows : List Row) (places order : List ℕ) (k : ℕ) (job : Job) : Type 0 where
+-- at a place of the order stands a winner, which reaches these
+pub record StandsAt (schedule : Schedule) (k : ℕ) (row : Row) (reached : List ℕ) : Type 0 where
   pub node : ℕ
   pub place : ℕ
+  pub at : slice_get schedule.order k ≡ Some node
+  pub wins : slice_get schedule.places node ≡ Some place
+  pub stands : slice_get schedule.rows place ≡ Some row
+  pub closure : IsClosureOf (graph_of schedule.rows schedule.places) schedule.order node reached
+
+-- the job at a place of the order: that of the winner there, whose needs are all that it reaches
+pub record IsJobAt (files : List File) (schedule : Schedule) (k : ℕ) (job : Job) : Type 0 where
   pub row : Row
   pub reached : List ℕ
   pub dir : List ℕ
   pub found : Option Project
-  pub at : slice_get order k ≡ Some node
-  pub wins : slice_get places node ≡ Some place
-  pub stands : slice_get rows place ≡ Some row
-  pub needs : IsClosureOf (graph_of rows places) order node reached
+  pub at : StandsAt schedule k row reached
   pub source : row.decl.source ≡ Path dir
   pub loaded : IsLoaded files dir (Ok found)
-  pub is : job ≡ job_with files settings row dir (version_by found) (places_in order reached) (apps_of rows places reached)
+  pub is : job ≡ job_with files schedule.settings row dir (version_by found) (places_in schedule.order reached) (apps_of schedule.rows schedule.places reached)
 
 -- the jobs of the first places of the order
-pub record AreFirstJobs (files : List File) (settings : Settings) (rows : List Row) (places order : List ℕ) (jobs : List Job) : Type 0 where
-  pub few : length jobs ≤ length order
-  pub each : (k : ℕ) (job : Job) → slice_get jobs k ≡ Some job → IsJobAt files settings rows places order k job
+pub record AreFirstJobs (files : List File) (schedule : Schedule) (jobs : List Job) : Type 0 where
+  pub few : length jobs ≤ length schedule.order
+  pub each : (k : ℕ) (job : Job) → slice_get jobs k ≡ Some job → IsJobAt files schedule k job
 
 -- the limits on sources: 64 MiB and 20,000 files of a dependency, 512 MiB of a plan
 abbrev pub most_bytes : ℕ

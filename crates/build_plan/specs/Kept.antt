@@ -1,34 +1,33 @@
 -- What is found in folders, and what is kept of it.
-use Rattle.std.specs.Prelude.{◌≡◌, ℕ, not, List, Option, Some, Result, Ok, Err, IfSome, IsTrue, IsFalse, slice_get}
+use Rattle.std.specs.Prelude.{◌≡◌, ℕ, List, Option, Some, Result, Ok, Err, IfSome, IsTrue, slice_get}
 use Rattle.std.specs.BTreeMap.{BTreeMap, get}
 use Rattle.std.specs.List.{All, Contains}
 use Rattle.mx_base.specs.declared.file.File.{File}
-use Rattle.mx_base.specs.Order.{ArePathsInOrder, text_cmp}
-use Rattle.mx_base.specs.Layout.{is_in_build}
-use Rattle.tree_store.specs.Files.{paths_below}
+use Rattle.mx_base.specs.Order.{bytes_at, text_cmp}
 use Rattle.tree_store.specs.Known.{Known}
 use Rattle.dep_options.specs.declared.decl.Decl.{Decl}
 use Rattle.dep_options.specs.declared.decl.DepSource.TheVariants.{Path}
 use Rattle.dep_rows.specs.declared.row.Row.{Row}
 use Rattle.dep_rows.specs.Listed.{Listed}
+use Rattle.project_file.specs.declared.error.ProjectError.{ProjectError}
+use Rattle.project_file.specs.Files.{IsLoaded, manifest_at}
 use Rattle.build_plan.specs.declared.error.PlanError.{PlanError}
+use Rattle.build_plan.specs.declared.error.PlanError.TheVariants.{Project as Refused}
 use Rattle.build_plan.specs.declared.found.Found.{Found}
-use Rattle.build_plan.specs.Dependencies.{AreChildren, has_files, is_apart, is_empty}
+use Rattle.build_plan.specs.declared.found.Manifest.{Manifest}
+use Rattle.build_plan.specs.Dependencies.{AreChildren, has_files}
 use Rattle.build_plan.specs.Found.{IsFound, IsSound}
-
--- the files below a folder that a dependency can have, none in any other
-pub record ArePathsIn (told : Option (List File)) (dir : List ℕ) (paths : List (List ℕ)) : Type 0 where
-  pub apart : IsFalse (is_empty paths) → IsTrue (is_apart dir)
-  pub has : IfSome told (λ files. has_files files dir ≡ not (is_empty paths))
-  pub all : IsTrue (is_apart dir) → IfSome told (λ files. paths ≡ paths_below dir files)
-  pub in_order : ArePathsInOrder paths
-  pub outside : All (λ path. IsFalse (is_in_build path)) paths
 
 -- it was found in this folder, and is what the files say where they are told
 pub record IsFoundIn (told : Option (List File)) (dir : List ℕ) (found : Found) : Type 0 where
   pub at : found.dir ≡ dir
   pub sound : IsSound found
   pub says : IfSome told (λ files. IsTrue (has_files files dir) × IsFound files found)
+
+-- what the manifest in a folder says, with its text, or why it is refused
+abbrev pub HasManifest : List File → List ℕ → Result Manifest PlanError → Type 0
+HasManifest files dir (Ok manifest) = (manifest.text ≡ bytes_at (manifest_at dir) files) × IsLoaded files dir (Ok manifest.project)
+HasManifest files dir (Err error) = (fault : ProjectError) × IsLoaded files dir (Err fault) × (error ≡ Refused (manifest_at dir) fault)
 
 -- what is found in the folder of an app, or why the app is refused
 abbrev pub FindsIn : Option (List File) → List ℕ → List ℕ → Result Found PlanError → Type 0

@@ -8,6 +8,7 @@ pub mod Lines
 pub mod Needs
 pub mod Options
 pub mod Plan
+pub mod Recipes
 pub mod Refusals
 pub mod Said
 pub mod Scenes

@@ -1,6 +1,7 @@
 -- What the apps that are reached need directly.
-use Rattle.std.specs.Prelude.{◌≡◌, ℕ, Bool, false, List, map, filter, filter_map, position, Option, Some, None, option_map, option_and_then, slice_get, nat_eq, bytes_eq}
+use Rattle.std.specs.Prelude.{ℕ, Bool, false, List, map, filter, filter_map, position, Option, Some, None, option_map, option_and_then, slice_get, nat_eq}
 use Rattle.dep_rows.specs.declared.row.Row.{Row}
+use Rattle.dep_rows.specs.Rows.{winner_of}
 
 -- the row is a child of the winner at this place
 abbrev pub is_child_at : ℕ → Option ℕ → Bool
@@ -11,29 +12,17 @@ is_child_at place (Some by) = nat_eq place by
 abbrev pub app_of : List Row → ℕ → Option (List ℕ)
 app_of rows place = option_map (λ row. row.app) (slice_get rows place)
 
--- the app stands at the place
-abbrev pub is_app_at : List Row → List ℕ → ℕ → Bool
-is_app_at rows app place = is_app app (app_of rows place)
-  where
-    is_app : List ℕ → Option (List ℕ) → Bool
-    is_app app None = false
-    is_app app (Some other) = bytes_eq app other
-
 -- which of these winners is the app's, from 0
 abbrev pub node_of : List Row → List ℕ → List ℕ → Option ℕ
-node_of rows places app = position (is_app_at rows app) places
+node_of rows places app = option_and_then (λ winner. position (nat_eq winner) places) (winner_of rows app)
 
 -- the nodes of the apps of these rows that are children of the winner at a place, and have a winner among these
 abbrev pub needs_from : List Row → List ℕ → List Row → ℕ → List ℕ
 needs_from rows places part place = filter_map (λ row. node_of rows places row.app) (filter (λ row. is_child_at place row.by) part)
 
--- each app's node is known
-abbrev pub AreNodes : List Row → List ℕ → (List ℕ → Option ℕ) → Type 0
-AreNodes rows places known = (app : List ℕ) → known app ≡ node_of rows places app
-
 -- what the winner at a place needs directly: the apps among its children, optional or not, that have a winner among these
 abbrev pub direct_needs : List Row → List ℕ → ℕ → List ℕ
-direct_needs rows places place = filter_map (λ row. node_of rows places row.app) (filter (λ row. is_child_at place row.by) rows)
+direct_needs rows places place = needs_from rows places rows place
 
 -- the graph of these winners
 abbrev pub graph_of : List Row → List ℕ → List (List ℕ)

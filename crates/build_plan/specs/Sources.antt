@@ -1,14 +1,14 @@
 -- The source files of a dependency.
-use Rattle.std.specs.Prelude.{ℕ, Bool, not, ◌&&◌, List, map, sum, filter_map, length, Option, Some, None, option_map, option_and_then, if◌then◌else◌, codes, bytes_eq}
+use Rattle.std.specs.Prelude.{ℕ, Bool, not, ◌&&◌, List, map, sum, filter_map, length, Option, Some, None, option_map, option_and_then, if◌then◌else◌, bytes_eq}
 use Rattle.mx_base.specs.declared.file.File.{File}
+use Rattle.mx_base.specs.Layout.{is_kept_apart, lock_name}
 use Rattle.mx_base.specs.Order.{bytes_at}
-use Rattle.mx_base.specs.Path.{path_from, first_segment}
+use Rattle.mx_base.specs.Path.{path_from}
 use Rattle.tree_store.specs.Files.{paths_below}
-use Rattle.dep_options.specs.Options.{is_kept_apart}
 
 -- a path in a dependency's folder that is one of its sources
 abbrev pub is_source : List ℕ → Bool
-is_source path = not (is_kept_apart (first_segment path)) && not (bytes_eq path (codes "mix.lock"))
+is_source path = not (is_kept_apart path) && not (bytes_eq path lock_name)
 
 abbrev pub if_source : List ℕ → Option (List ℕ)
 if_source path = if is_source path then Some path else None

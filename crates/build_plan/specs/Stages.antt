@@ -20,7 +20,7 @@ use Rattle.build_plan.specs.declared.error.DivergedLine.{DivergedLine}
 use Rattle.build_plan.specs.declared.error.PlanError.{PlanError}
 use Rattle.build_plan.specs.declared.error.PlanError.TheVariants as refused
 use Rattle.build_plan.specs.Dependencies.{AreChildren, AreVersions}
-use Rattle.build_plan.specs.Jobs.{AreFirstJobs, AllFit, is_too_large}
+use Rattle.build_plan.specs.Jobs.{Schedule, AreFirstJobs, AllFit, is_too_large}
 use Rattle.build_plan.specs.Lines.{AreLines}
 use Rattle.build_plan.specs.Needs.{graph_of, apps_of}
 
@@ -43,22 +43,33 @@ pub data ListsRows (files : List File) (root : List Decl) : Result Listed PlanEr
   passes : PassesLimit (AreChildren files) root → ListsRows files root (Err refused.TooManyRows)
   lists : (listed : Listed) → AreRows (AreChildren files) root listed.rows listed.winners → length listed.rows ≤ most_rows → ListsRows files root (Ok listed)
 
--- the rows live together
-pub data LivesTogether (files : List File) (listed : Listed) : Result Listed PlanError → Type 0 where
-  diverges : (versions : List (Option Version)) (divergences : List Divergence) {lines : List DivergedLine} → AreVersions files listed.rows listed.winners versions → AreDivergences listed.rows listed.winners versions divergences → 0 < length divergences → AreLines listed.rows divergences lines → LivesTogether files listed (Err (refused.Diverged lines))
-  lives : (versions : List (Option Version)) → AreVersions files listed.rows listed.winners versions → NoneDiverges listed.rows listed.winners versions → LivesTogether files listed (Ok listed)
+-- rows with these versions live together, or there is a line of each divergence
+pub data LiveWith (listed : Listed) (versions : List (Option Version)) : Result Listed PlanError → Type 0 where
+  diverges : (divergences : List Divergence) {lines : List DivergedLine} → AreDivergences listed.rows listed.winners versions divergences → 0 < length divergences → AreLines listed.rows divergences lines → LiveWith listed versions (Err (refused.Diverged lines))
+  lives : NoneDiverges listed.rows listed.winners versions → LiveWith listed versions (Ok listed)
+
+-- the same with the versions that the files say
+pub record LivesTogether (files : List File) (listed : Listed) (answer : Result Listed PlanError) : Type 0 where
+  pub versions : List (Option Version)
+  pub known : AreVersions files listed.rows listed.winners versions
+  pub together : LiveWith listed versions answer
 
 -- the order of the graph of these winners
-abbrev pub OrdersGraph : List Row → List ℕ → List (List ℕ) → Result (List ℕ) PlanError → Type 0
-OrdersGraph rows places graph (Ok order) = IsOrderOf graph order
-OrdersGraph rows places graph (Err error) = (nodes : List ℕ) × IsCycleOf graph nodes × (error ≡ refused.Cycle (apps_of rows places nodes))
+abbrev pub OrdersGraph : List Row → List ℕ → Result (List ℕ) PlanError → Type 0
+OrdersGraph rows places (Ok order) = IsOrderOf (graph_of rows places) order
+OrdersGraph rows places (Err error) = (nodes : List ℕ) × IsCycleOf (graph_of rows places) nodes × (error ≡ refused.Cycle (apps_of rows places nodes))
+
+-- the winners that an environment reaches, and their order
+pub data Schedules (settings : Settings) (rows : List Row) (env : List ℕ) : Result Schedule PlanError → Type 0 where
+  circles : (places nodes : List ℕ) → AreReached rows env places → IsCycleOf (graph_of rows places) nodes → Schedules settings rows env (Err (refused.Cycle (apps_of rows places nodes)))
+  orders : (places order : List ℕ) → AreReached rows env places → IsOrderOf (graph_of rows places) order → Schedules settings rows env (Ok (record { settings = settings; rows = rows; places = places; order = order }))
 
 -- the jobs in an order, or the first one past a limit
-pub data MakesJobs (files : List File) (settings : Settings) (rows : List Row) (places order : List ℕ) : Result (List Job) PlanError → Type 0 where
-  passes_size : (jobs : List Job) (job : Job) → AreFirstJobs files settings rows places order (jobs ++ job ∷ []) → AllFit jobs → IsTrue (is_too_large jobs job) → MakesJobs files settings rows places order (Err (refused.TooLarge job.app))
-  makes : {jobs : List Job} → AreFirstJobs files settings rows places order jobs → length jobs ≡ length order → AllFit jobs → MakesJobs files settings rows places order (Ok jobs)
+pub data MakesJobs (files : List File) (schedule : Schedule) : Result (List Job) PlanError → Type 0 where
+  passes_size : (jobs : List Job) (job : Job) → AreFirstJobs files schedule (jobs ++ job ∷ []) → AllFit jobs → IsTrue (is_too_large jobs job) → MakesJobs files schedule (Err (refused.TooLarge job.app))
+  makes : {jobs : List Job} → AreFirstJobs files schedule jobs → length jobs ≡ length schedule.order → AllFit jobs → MakesJobs files schedule (Ok jobs)
 
--- the jobs of what an environment reaches
-pub data HasJobs (files : List File) (settings : Settings) (rows : List Row) (env : List ℕ) : Result (List Job) PlanError → Type 0 where
-  circles : (places nodes : List ℕ) → AreReached rows env places → IsCycleOf (graph_of rows places) nodes → HasJobs files settings rows env (Err (refused.Cycle (apps_of rows places nodes)))
-  orders : (places order : List ℕ) {answer : Result (List Job) PlanError} → AreReached rows env places → IsOrderOf (graph_of rows places) order → MakesJobs files settings rows places order answer → HasJobs files settings rows env answer
+-- the first step's error, or what the next step answers of its value
+pub data Then {X Y E : Type 0} (First : Result X E → Type 0) (Next : X → Result Y E → Type 0) : Result Y E → Type 0 where
+  stops : {error : E} → First (Err error) → Then First Next (Err error)
+  goes_on : (x : X) {answer : Result Y E} → First (Ok x) → Next x answer → Then First Next answer

@@ -3,25 +3,23 @@ ghost use Rattle.std.specs.Prelude.{◌≡◌, List, IfOk, IsTrue, IsFalse, filt
 ghost use Rattle.mx_base.specs.declared.file.File.{File};
 ghost use Rattle.mx_base.specs.Blame.{Answers, fails};
 ghost use Rattle.mx_base.specs.Order.{bytes_at};
-ghost use Rattle.tree_store.specs.Blame.{blame_of as store_blame};
-ghost use Rattle.tree_store.specs.Known.{OnlyReads};
+ghost use Rattle.tree_store.specs.Known.{OnlyReads, Told};
+ghost use Rattle.dep_options.specs.Options.{is_dep_folder};
 ghost use Rattle.converger.specs.Reach.{admits};
 ghost use Rattle.project_file.specs.Blame.{project_blame};
 ghost use Rattle.project_file.specs.Files.{IsLoaded, manifest_at};
 ghost use Rattle.project_file.specs.Version.{is_version};
 ghost use Rattle.build_plan.specs.Blame.{blame_of};
-ghost use Rattle.build_plan.specs.Dependencies.{declared_by, is_apart, version_by};
-ghost use Rattle.build_plan.specs.Kept.{ArePathsIn, FindsIn};
+ghost use Rattle.build_plan.specs.Dependencies.{declared_by, version_by};
+ghost use Rattle.build_plan.specs.Kept.{FindsIn, HasManifest};
 
 use crate::error::{PlanError, of_project};
 use converger::admits;
 use dep_options::Decl;
-use mx_base::{AppName, Bytes, RelPath};
+use mx_base::{AppName, Bytes, MANIFEST, RelPath};
 use project_file::{Project, ProjectError, project_of_text};
 use std::alloc::{AllocError, Global};
-use tree_store::{Store, StoreFault};
-
-pub(crate) const MANIFEST: &str = "project.exs";
+use tree_store::Store;
 
 /// What was found in the folder of a dependency.
 #[derive(Drop)]
@@ -36,6 +34,17 @@ pub(crate) struct Found {
 }
 
 impl Found {
+    /// The version that the manifest gives, 0.0.0 without one.
+    pub(crate) fn version(&self) -> &[u8]
+        ensures version { result.now ≡ version_by self.now.project }
+        ensures is { IsTrue (is_version (version_by self.now.project)) }
+    {
+        match &self.project {
+            Some(project) => project.version.as_slice(),
+            None => b"0.0.0",
+        }
+    }
+
     /// The declarations of the manifest that are for an environment.
     pub(crate) fn declared(&self, alloc: Global, env: &AppName) -> Result<Vec<Decl>, AllocError>
         ensures { IfOk result (λ decls. decls.items ≡ filter (λ decl. admits decl.only env.now) (declared_by self.now.project)) }
@@ -66,49 +75,62 @@ pub(crate) fn find<S: Store>(
     app: &AppName,
     dir: &RelPath,
 ) -> Result<Found, PlanError>
+    requires { IsTrue (is_dep_folder dir.now) }
     ensures answer { Answers blame_of result (FindsIn (S.known store.old).sources app.now dir.now) }
     ensures reads { OnlyReads (S.known store.old) (S.known store.new) (fails blame_of result) }
 {
-    let paths = paths_in(alloc, store, dir)?;
+    let paths = store.list(alloc, dir)?;
     if paths.is_empty() {
-        return Err(PlanError::PathMissing {
-            app: app.clone()?,
-            dir: dir.clone()?,
-        });
+        drop(paths);
+        return Err(missing(app, dir)?);
     }
-    let path = dir.child(alloc, MANIFEST)?;
-    let text = store.get(alloc, &path)?;
-    match project_in(alloc, dir, &text) {
-        Ok(project) => Ok(Found {
-            dir: dir.clone()?,
-            paths,
-            text,
-            project,
-        }),
-        Err(fault) => Err(of_project(path, fault)),
-    }
+    let manifest = read_manifest(alloc, store, dir)?;
+    let dir = dir.clone()?;
+    let Manifest { text, project } = manifest;
+    Ok(Found {
+        dir,
+        paths,
+        text,
+        project,
+    })
 }
 
-/// The files below a folder that a dependency can have.
-fn paths_in<S: Store>(
+/// The refusal of an app in whose folder no file lies.
+fn missing(app: &AppName, dir: &RelPath) -> Result<PlanError, AllocError>
+    ensures { IfOk result (λ error. error ≡ PlanError.PathMissing app.now dir.now) }
+{
+    Ok(PlanError::PathMissing {
+        app: app.clone()?,
+        dir: dir.clone()?,
+    })
+}
+
+/// The text of a manifest, and what it says.
+#[derive(Drop)]
+pub(crate) struct Manifest {
+    text: Option<Bytes>,
+    project: Option<Project>,
+}
+
+/// Reads the manifest in a folder.
+fn read_manifest<S: Store>(
     alloc: Global,
     store: &mut S,
     dir: &RelPath,
-) -> Result<Vec<RelPath>, StoreFault>
-    ensures paths { IfOk result (λ paths. ArePathsIn (S.known store.old).sources dir.now paths.items) }
-    ensures reads { OnlyReads (S.known store.old) (S.known store.new) (fails store_blame result) }
+) -> Result<Manifest, PlanError>
+    requires { IsTrue (is_dep_folder dir.now) }
+    ensures answer { Answers blame_of result (Told (S.known store.old) (λ files. HasManifest files dir.now)) }
+    ensures reads { OnlyReads (S.known store.old) (S.known store.new) (fails blame_of result) }
 {
-    if is_apart(dir) {
-        store.list(alloc, dir)
-    } else {
-        Ok(Vec::new(alloc))
+    let path = dir.child(alloc, MANIFEST)?;
+    let text = store.get(alloc, &path)?;
+    match project_in(alloc, dir, &text) {
+        Ok(project) => Ok(Manifest { text, project }),
+        Err(fault) => {
+            drop(text);
+            Err(of_project(path, fault))
+        }
     }
-}
-
-fn is_apart(dir: &RelPath) -> bool
-    ensures { result ≡ is_apart dir.now }
-{
-    !dir.as_str().is_empty() && !dir.is_in_build()
 }
 
 /// What the text of a manifest says, where there is one.
@@ -117,8 +139,8 @@ fn project_in(
     dir: &RelPath,
     text: &Option<Bytes>,
 ) -> Result<Option<Project>, ProjectError>
-    ensures answer { (files : List File) → text.now ≡ bytes_at (manifest_at dir.now) files → Answers project_blame result (IsLoaded files dir.now) }
-    ensures version { IfOk result (λ found. IsTrue (is_version (version_by found))) }
+    ensures answer { (files : List File) → text.now ≡ bytes_at (manifest_at dir.now) files →
+        Answers project_blame result (IsLoaded files dir.now) }
     ensures alone { IsFalse (fails project_blame result) }
 {
     match text {

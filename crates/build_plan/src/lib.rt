@@ -14,11 +14,14 @@ mod limits;
 mod lines;
 mod manifests;
 mod needs;
+mod opening;
 mod options;
 mod planning;
-mod posts;
+mod post;
+mod recipe;
 mod root;
 mod said;
+mod scene;
 mod sources;
 mod versions;
 

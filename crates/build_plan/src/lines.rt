@@ -60,14 +60,3 @@ fn app_of(rows: &[Row], place: u32) -> Result<Option<AppName>, AllocError>
         None => Ok(None),
     }
 }
-
-/// Copies of rows.
-pub(crate) fn rows_copied(alloc: Global, rows: &[Row]) -> Result<Vec<Row>, AllocError>
-    ensures { IfOk result (λ copies. copies.items ≡ rows.now) }
-{
-    let mut copies = Vec::new(alloc);
-    for row in rows {
-        copies.push(row.clone()?)?;
-    }
-    Ok(copies)
-}

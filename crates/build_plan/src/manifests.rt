@@ -59,8 +59,16 @@ impl<S: Store> Manifests<'_, S> {
         ensures store { self.new.store.now ≡ self.old.store.now }
         ensures tally { self.new.tally ≡ self.old.tally }
     {
-        self.found.insert(found.dir.clone()?, found)?;
-        Ok(())
+        match found.dir.clone() {
+            Ok(dir) => {
+                self.found.insert(dir, found)?;
+                Ok(())
+            }
+            Err(error) => {
+                drop(found);
+                Err(error)
+            }
+        }
     }
 }
 

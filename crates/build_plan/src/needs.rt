@@ -1,34 +1,54 @@
 // What the apps that are reached need directly.
-ghost use Rattle.std.specs.Prelude.{◌≡◌, ◌==◌, ◌<◌, ◌++◌, [], ◌∷◌, ℕ, List, length, replicate, IfOk, OnOk, IfNone, IfSome, slice_index, if◌then◌else◌, nat_eq, false};
+ghost use Rattle.std.specs.Prelude.{◌≡◌, ◌==◌, ◌<◌, ◌++◌, [], ◌∷◌, ℕ, length, replicate, IfOk, OnOk, IfNone, IfSome, IsFalse, slice_index, if◌then◌else◌, nat_eq, false};
 ghost use Rattle.std.specs.List.{All, AllPairs};
-ghost use Rattle.std.specs.BTreeMap.{get_by};
-ghost use Rattle.mx_base.specs.Order.{text_cmp};
+ghost use Rattle.mx_base.specs.Blame.{AnswersBy, fails, is_outside};
+ghost use Rattle.mx_base.specs.Blame.Blame.{Input};
 ghost use Rattle.dep_order.specs.Graph.{needs_of};
-ghost use Rattle.build_plan.specs.Needs.{apps_of, graph_of, is_child_at, node_of, needs_from, AreNodes};
+ghost use Rattle.build_plan.specs.Blame.{blame_of};
+ghost use Rattle.build_plan.specs.Needs.{apps_of, graph_of, is_child_at, node_of, needs_from};
+ghost use Rattle.build_plan.specs.Stages.{OrdersGraph};
 
-use dep_order::{Graph, Places};
-use dep_rows::Row;
+use crate::error::PlanError;
+use dep_order::{Graph, OrderError, Ordered, Places, order};
+use dep_rows::{Row, Rows};
 use mx_base::Names;
 use std::alloc::{AllocError, Global};
-use std::collections::BTreeMap;
 
-/// Winners, and which of them each app's is.
-#[derive(Drop)]
-struct Nodes<'a> {
-    places: &'a [u32],
-    by_app: BTreeMap<&'a str, usize>,
+/// The graph of these winners in its order.
+pub(crate) fn ordered_of(alloc: Global, rows: &Rows, places: &[u32]) -> Result<Ordered, PlanError>
+    requires { AllPairs (λ earlier later. earlier < later) places.now }
+    ensures graph { IfOk result (λ ordered. ordered.graph ≡ graph_of rows.now.rows places.now) }
+    ensures answer { AnswersBy (λ ordered. ordered.order) blame_of result
+        (OrdersGraph rows.now.rows places.now) }
+    ensures alone { IsFalse (fails blame_of result) }
+{
+    let graph = graph_of(alloc, rows, places)?;
+    match order(alloc, &graph) {
+        Ok(order) => Ok(Ordered::of(alloc, graph, order)?),
+        Err(OrderError::Cycle(nodes)) => Err(cycle(alloc, rows.rows(), places, nodes.as_slice())),
+        Err(OrderError::OutOfMemory) => Err(PlanError::OutOfMemory),
+    }
+}
+
+/// The apps of a cycle, as a refusal.
+fn cycle(alloc: Global, rows: &[Row], places: &[u32], nodes: &[usize]) -> PlanError
+    ensures apps { blame_of result ≡ Input → result ≡ PlanError.Cycle (apps_of rows.now places.now nodes.now) }
+    ensures alone { IsFalse (is_outside (blame_of result)) }
+{
+    match apps_of(alloc, rows, places, nodes) {
+        Ok(apps) => PlanError::Cycle(apps),
+        Err(_) => PlanError::OutOfMemory,
+    }
 }
 
 /// For each of these winners which of them it needs directly.
-pub(crate) fn graph_of(alloc: Global, rows: &[Row], places: &[u32]) -> Result<Graph, AllocError>
-    requires in_order { AllPairs (λ earlier later. earlier < later) places.now }
-    requires within { All (λ place. place < length rows.now) places.now }
-    ensures { IfOk result (λ graph. graph ≡ graph_of rows.now places.now) }
+fn graph_of(alloc: Global, rows: &Rows, places: &[u32]) -> Result<Graph, AllocError>
+    requires { AllPairs (λ earlier later. earlier < later) places.now }
+    ensures { IfOk result (λ graph. graph ≡ graph_of rows.now.rows places.now) }
 {
-    let nodes = nodes_of(alloc, rows, places)?;
     let mut needs = without_needs(alloc, places.len())?;
-    for row in rows {
-        add_row(&mut needs, rows, &nodes, row)?;
+    for row in rows.rows() {
+        add_row(&mut needs, rows, places, row)?;
     }
     Ok(Graph::of(needs))
 }
@@ -43,36 +63,22 @@ fn without_needs(alloc: Global, count: usize) -> Result<Vec<Places>, AllocError>
     Ok(needs)
 }
 
-fn nodes_of<'a>(alloc: Global, rows: &'a [Row], places: &'a [u32]) -> Result<Nodes<'a>, AllocError>
-    requires { All (λ place. place < length rows.now) places.now }
-    ensures places { IfOk result (λ nodes. nodes.places.now ≡ places.now) }
-    ensures nodes { IfOk result (λ nodes. AreNodes rows.now places.now (λ app. get_by (λ key. text_cmp app key.now) nodes.by_app)) }
-{
-    let mut by_app = BTreeMap::new(alloc);
-    for (node, place) in places.iter().enumerate() {
-        let app = rows[*place as usize].app.as_str();
-        if !by_app.contains_key(app) {
-            by_app.insert(app, node)?;
-        }
-    }
-    Ok(Nodes { places, by_app })
-}
-
 /// Adds what a row says of the needs of the winner that declares it.
 #[tactic(auto, using(crate::proofs::NeedLemmas::nothing_added))]
 fn add_row(
     needs: &mut Vec<Places>,
-    rows: &[Row],
-    nodes: &Nodes<'_>,
+    rows: &Rows,
+    places: &[u32],
     row: &Row,
 ) -> Result<(), AllocError>
-    requires in_order { AllPairs (λ earlier later. earlier < later) nodes.now.places.now }
-    requires nodes { AreNodes rows.now nodes.now.places.now (λ app. get_by (λ key. text_cmp app key.now) nodes.now.by_app) }
-    requires long { length needs.old.items ≡ length nodes.now.places.now }
+    requires in_order { AllPairs (λ earlier later. earlier < later) places.now }
+    requires long { length needs.old.items ≡ length places.now }
     ensures long { length needs.new.items ≡ length needs.old.items }
-    ensures each { OnOk result ((node : ℕ) → node < length nodes.now.places.now → needs_of needs.new.items node ≡ needs_of needs.old.items node ++ needs_from rows.now nodes.now.places.now (row.now ∷ []) (slice_index nodes.now.places.now node)) }
+    ensures each { OnOk result ((node : ℕ) → node < length places.now →
+        needs_of needs.new.items node ≡ needs_of needs.old.items node
+        ++ needs_from rows.now.rows places.now (row.now ∷ []) (slice_index places.now node)) }
 {
-    match need_of(rows, nodes, row) {
+    match need_of(rows, places, row) {
         Some((node, need)) => add_need(needs, node, need),
         None => Ok(()),
     }
@@ -89,15 +95,17 @@ fn add_need(needs: &mut Vec<Places>, node: usize, need: usize) -> Result<(), All
 
 /// Which winner declares a row, and which one it needs by that.
 #[tactic(auto, using(crate::proofs::NeedLemmas::no_child, crate::proofs::NeedLemmas::no_node, crate::proofs::NeedLemmas::one_need))]
-fn need_of(rows: &[Row], nodes: &Nodes<'_>, row: &Row) -> Option<(usize, usize)>
-    requires in_order { AllPairs (λ earlier later. earlier < later) nodes.now.places.now }
-    requires nodes { AreNodes rows.now nodes.now.places.now (λ app. get_by (λ key. text_cmp app key.now) nodes.now.by_app) }
-    ensures none { IfNone result ((node : ℕ) → node < length nodes.now.places.now → needs_from rows.now nodes.now.places.now (row.now ∷ []) (slice_index nodes.now.places.now node) ≡ []) }
-    ensures within { IfSome result (λ need. need.0 < length nodes.now.places.now) }
-    ensures some { IfSome result (λ need. (node : ℕ) → node < length nodes.now.places.now → needs_from rows.now nodes.now.places.now (row.now ∷ []) (slice_index nodes.now.places.now node) ≡ (if node == need.0 then need.1 ∷ [] else [])) }
+fn need_of(rows: &Rows, places: &[u32], row: &Row) -> Option<(usize, usize)>
+    requires { AllPairs (λ earlier later. earlier < later) places.now }
+    ensures none { IfNone result ((node : ℕ) → node < length places.now →
+        needs_from rows.now.rows places.now (row.now ∷ []) (slice_index places.now node) ≡ []) }
+    ensures within { IfSome result (λ need. need.0 < length places.now) }
+    ensures some { IfSome result (λ need. (node : ℕ) → node < length places.now →
+        needs_from rows.now.rows places.now (row.now ∷ []) (slice_index places.now node)
+        ≡ (if node == need.0 then need.1 ∷ [] else [])) }
 {
-    let node = declarer(nodes.places, row)?;
-    let need = node_of(rows, nodes, row)?;
+    let node = declarer(places, row)?;
+    let need = node_of(rows, places, row)?;
     Some((node, need))
 }
 
@@ -115,12 +123,16 @@ fn declarer(places: &[u32], row: &Row) -> Option<usize>
     }
 }
 
-/// Which of the winners a row's app has.
-fn node_of(rows: &[Row], nodes: &Nodes<'_>, row: &Row) -> Option<usize>
-    requires { AreNodes rows.now nodes.now.places.now (λ app. get_by (λ key. text_cmp app key.now) nodes.now.by_app) }
-    ensures { result ≡ node_of rows.now nodes.now.places.now row.now.app }
+/// Which of the winners is that of a row's app.
+fn node_of(rows: &Rows, places: &[u32], row: &Row) -> Option<usize>
+    requires { AllPairs (λ earlier later. earlier < later) places.now }
+    ensures { result ≡ node_of rows.now.rows places.now row.now.app }
 {
-    nodes.by_app.get(row.app.as_str()).copied()
+    let winner = rows.winner_of(&row.app)?;
+    match places.binary_search(&winner) {
+        Ok(node) => Some(node),
+        Err(_) => None,
+    }
 }
 
 /// The apps of these nodes.

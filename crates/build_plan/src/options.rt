@@ -49,27 +49,30 @@ fn add_names(
 ) -> Result<(), AllocError>
     ensures { OnOk result (parts.new ≡ parts.old ++ names_terms version.now decl.now manager) }
 {
-    parts.push(keyword(alloc, "app", atom(alloc, decl.app.as_str())?)?)?;
-    let version = string(alloc, version.as_slice())?;
-    parts.push(keyword(alloc, "version", version)?)?;
-    parts.push(keyword(alloc, "env", atom(alloc, decl.env.as_str())?)?)?;
-    let manager = atom(alloc, manager_name(manager))?;
-    parts.push(keyword(alloc, "manager", manager)?)
+    add(alloc, parts, "app", atom(alloc, decl.app.as_str())?)?;
+    add(alloc, parts, "version", string(alloc, version.as_slice())?)?;
+    add(alloc, parts, "env", atom(alloc, decl.env.as_str())?)?;
+    add(alloc, parts, "manager", atom(alloc, manager_name(manager))?)?;
+    Ok(())
 }
 
 /// Adds how it is compiled.
 fn add_compiler(alloc: Global, parts: &mut Terms, decl: &Decl, how: &How) -> Result<(), AllocError>
     ensures { OnOk result (parts.new ≡ parts.old ++ compiler_terms decl.now how.now) }
 {
-    let compile = compile_term(alloc, &decl.compile)?;
-    parts.push(keyword(alloc, "compile", compile)?)?;
-    let compiler = compiler_term(alloc, how)?;
-    parts.push(keyword(alloc, "compiler", compiler)?)?;
-    let app_file = truth(alloc, decl.app_file)?;
-    parts.push(keyword(alloc, "app_file", app_file)?)?;
+    add(alloc, parts, "compile", compile_term(alloc, &decl.compile)?)?;
+    add(alloc, parts, "compiler", compiler_term(alloc, how)?)?;
+    add(alloc, parts, "app_file", truth(alloc, decl.app_file)?)?;
     let variables = variables_term(alloc, &decl.system_env)?;
-    parts.push(keyword(alloc, "system_env", variables)?)?;
+    add(alloc, parts, "system_env", variables)?;
     Ok(())
+}
+
+/// Adds a value under a name.
+fn add(alloc: Global, parts: &mut Terms, name: &str, value: Term) -> Result<(), AllocError>
+    ensures { OnOk result (parts.new ≡ parts.old ++ keyword name.now value ∷ []) }
+{
+    parts.push(keyword(alloc, name, value)?)
 }
 
 fn atom(alloc: Global, name: &str) -> Result<Term, AllocError>
@@ -156,9 +159,20 @@ fn pairs_term(alloc: Global, variables: &[Variable]) -> Result<Term, AllocError>
 {
     let mut parts = Terms::new(alloc);
     for variable in variables {
-        let name = string(alloc, variable.name.as_slice())?;
-        let value = string(alloc, variable.value.as_slice())?;
-        parts.push(pair(alloc, name, value)?)?;
+        parts.push(variable_term(alloc, variable)?)?;
     }
     Ok(Term::List(parts))
+}
+
+fn variable_term(alloc: Global, variable: &Variable) -> Result<Term, AllocError>
+    ensures { IfOk result (λ made. made ≡ variable_term variable.now) }
+{
+    let name = string(alloc, variable.name.as_slice())?;
+    match string(alloc, variable.value.as_slice()) {
+        Ok(value) => pair(alloc, name, value),
+        Err(error) => {
+            drop(name);
+            Err(error)
+        }
+    }
 }

@@ -1,5 +1,5 @@
 // The plan of a project.
-ghost use Rattle.std.specs.Prelude.{◌≡◌, List, IfOk, IfSome, IsFalse};
+ghost use Rattle.std.specs.Prelude.{◌≡◌, List, length, IfOk, IsFalse};
 ghost use Rattle.std.specs.List.{All};
 ghost use Rattle.mx_base.specs.Blame.{AnswersBy, fails};
 ghost use Rattle.mx_base.specs.declared.file.File.{File};
@@ -9,23 +9,22 @@ ghost use Rattle.build_plan.specs.Blame.{blame_of};
 ghost use Rattle.build_plan.specs.Found.{AreFoundFor, IsFound};
 ghost use Rattle.build_plan.specs.Jobs.{AllFit};
 ghost use Rattle.build_plan.specs.Plan.{IsPlan, IsRoot};
-ghost use Rattle.build_plan.specs.Stages.{HasJobs, LivesTogether, OrdersGraph};
+ghost use Rattle.build_plan.specs.Stages.{LiveWith, LivesTogether, MakesJobs, Schedules, Then};
 
 use crate::dependencies::dependencies;
 use crate::error::PlanError;
 use crate::found::Found;
 use crate::jobs::jobs;
-use crate::lines::{lines, rows_copied};
-use crate::needs::{apps_of, graph_of};
-use crate::posts::{Scene, stands_of};
+use crate::lines::lines;
 use crate::root::{root, settings};
+use crate::scene::Scene;
 use crate::versions::versions;
 use compile_model::{Job, Jobs, Plan};
-use converger::{ConvergeError, Converged, converge, for_env};
-use dep_order::{Graph, OrderError, order};
-use dep_rows::{Row, Rows};
+use converger::{ConvergeError, Converged, converge, divergences};
+use dep_rows::Rows;
 use mx_base::AppName;
 use project_file::{Project, Settings};
+use semver::Version;
 use std::alloc::Global;
 use tree_store::Store;
 
@@ -61,7 +60,8 @@ fn jobs_of_root<S: Store>(
     root: &Project,
     env: &AppName,
 ) -> Result<Vec<Job>, PlanError>
-    ensures answer { AnswersBy (λ jobs. jobs.items) blame_of result (Told (S.known store.old) (λ files answer. IsRoot files settings.now root.now → IsPlan files env.now answer)) }
+    ensures answer { AnswersBy (λ jobs. jobs.items) blame_of result (Told (S.known store.old)
+        (λ files answer. IsRoot files settings.now root.now → IsPlan files env.now answer)) }
     ensures planned { IfOk result (λ jobs. ArePlanned jobs.items) }
     ensures fit { IfOk result (λ jobs. AllFit jobs.items) }
     ensures reads { OnlyReads (S.known store.old) (S.known store.new) (fails blame_of result) }
@@ -75,21 +75,32 @@ fn jobs_of_root<S: Store>(
 fn converged(alloc: Global, rows: Rows, found: &[Found]) -> Result<Converged, PlanError>
     requires { AreFoundFor rows found.now }
     ensures rows { IfOk result (λ converged. converged.rows ≡ rows) }
-    ensures answer { (files : List File) → All (IsFound files) found.now → AnswersBy (λ converged. converged.rows) blame_of result (LivesTogether files rows) }
+    ensures answer { (files : List File) → All (IsFound files) found.now →
+        AnswersBy (λ converged. converged.rows) blame_of result (LivesTogether files rows) }
     ensures alone { IsFalse (fails blame_of result) }
 {
     let versions = versions(alloc, found)?;
-    let copies = rows_copied(alloc, rows.rows())?;
+    judge(alloc, &rows, versions.as_slice())?;
     match converge(alloc, rows, versions) {
         Ok(converged) => Ok(converged),
-        Err(ConvergeError::Diverged(divergences)) => Err(PlanError::Diverged(lines(
-            alloc,
-            &copies,
-            divergences.as_slice(),
-        )?)),
-        Err(ConvergeError::NoVersion { .. }) => unreachable!(),
         Err(ConvergeError::OutOfMemory) => Err(PlanError::OutOfMemory),
+        Err(ConvergeError::Diverged(_)) => unreachable!(),
+        Err(ConvergeError::NoVersion { .. }) => unreachable!(),
     }
+}
+
+/// Refuses rows that can't live together.
+fn judge(alloc: Global, rows: &Rows, versions: &[Option<Version>]) -> Result<(), PlanError>
+    requires { length versions.now ≡ length rows.now.winners }
+    ensures answer { AnswersBy (λ _. rows.now) blame_of result (LiveWith rows.now versions.now) }
+    ensures alone { IsFalse (fails blame_of result) }
+{
+    let list = divergences(alloc, rows, versions)?;
+    if list.as_slice().is_empty() {
+        return Ok(());
+    }
+    let lines = lines(alloc, rows.rows(), list.as_slice())?;
+    Err(PlanError::Diverged(lines))
 }
 
 /// The jobs of the winners that the environment reaches.
@@ -102,48 +113,13 @@ fn jobs_for<S: Store>(
     env: &AppName,
 ) -> Result<Vec<Job>, PlanError>
     requires found { AreFoundFor converged.now.rows found.now }
-    requires meant { IfSome (S.known store.old).sources (λ files. All (IsFound files) found.now) }
-    ensures answer { AnswersBy (λ jobs. jobs.items) blame_of result (Told (S.known store.old) (λ files. HasJobs files settings.now converged.now.rows.rows env.now)) }
+    requires meant { Told (S.known store.old) (λ files. All (IsFound files)) found.now }
+    ensures answer { AnswersBy (λ jobs. jobs.items) blame_of result (Told (S.known store.old)
+        (λ files. Then (Schedules settings.now converged.now.rows.rows env.now) (MakesJobs files))) }
     ensures planned { IfOk result (λ jobs. ArePlanned jobs.items) }
     ensures fit { IfOk result (λ jobs. AllFit jobs.items) }
     ensures reads { OnlyReads (S.known store.old) (S.known store.new) (fails blame_of result) }
 {
-    let rows = converged.rows().rows();
-    let places = for_env(alloc, converged, env)?;
-    let graph = graph_of(alloc, rows, &places)?;
-    let order = order_of(alloc, rows, &places, &graph)?;
-    let stands = stands_of(alloc, &order, places.len())?;
-    let scene = Scene {
-        settings,
-        rows,
-        winners: converged.rows().winners(),
-        found,
-        places: &places,
-        graph: &graph,
-        order: &order,
-        stands: &stands,
-    };
+    let scene = Scene::of(alloc, settings, converged, found, env)?;
     jobs(alloc, store, &scene)
-}
-
-/// The order of the graph of these winners.
-fn order_of(
-    alloc: Global,
-    rows: &[Row],
-    places: &[u32],
-    graph: &Graph,
-) -> Result<Vec<usize>, PlanError>
-    ensures answer { AnswersBy (λ order. order.items) blame_of result (OrdersGraph rows.now places.now graph.now) }
-    ensures alone { IsFalse (fails blame_of result) }
-{
-    match order(alloc, graph) {
-        Ok(order) => Ok(order),
-        Err(OrderError::Cycle(nodes)) => Err(PlanError::Cycle(apps_of(
-            alloc,
-            rows,
-            places,
-            nodes.as_slice(),
-        )?)),
-        Err(OrderError::OutOfMemory) => Err(PlanError::OutOfMemory),
-    }
 }

@@ -5,8 +5,7 @@ ghost use Rattle.build_plan.specs.Blame.{blame_of};
 ghost use Rattle.build_plan.specs.Stages.{HasRoot, SetsUp};
 
 use crate::error::{PlanError, of_project, of_settings};
-use crate::found::MANIFEST;
-use mx_base::RelPath;
+use mx_base::{MANIFEST, RelPath};
 use project_file::{Project, Settings, load_project, load_settings};
 use std::alloc::Global;
 use tree_store::Store;

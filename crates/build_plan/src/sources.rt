@@ -10,9 +10,8 @@ ghost use Rattle.build_plan.specs.Found.{AreSources, IsFound, IsSound};
 ghost use Rattle.build_plan.specs.Jobs.{most_files};
 ghost use Rattle.build_plan.specs.Sources.{bytes_in, is_source, source_at};
 
-use crate::found::{Found, MANIFEST};
-use dep_options::is_kept_apart;
-use mx_base::{Bytes, File, Files, RelPath};
+use crate::found::Found;
+use mx_base::{Bytes, File, Files, LOCK, MANIFEST, RelPath};
 use std::alloc::Global;
 use tree_store::{Store, StoreFault};
 
@@ -95,5 +94,5 @@ fn bytes<S: Store>(
 fn is_source(path: &RelPath) -> bool
     ensures { result ≡ is_source path.now }
 {
-    !is_kept_apart(path) && path.as_str() != "mix.lock"
+    !path.is_kept_apart() && path.as_str() != LOCK
 }

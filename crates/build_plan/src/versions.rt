@@ -6,40 +6,25 @@ ghost use Rattle.semver.specs.Parse.{version_parts};
 ghost use Rattle.mx_base.specs.declared.file.File.{File};
 ghost use Rattle.project_file.specs.Version.{is_version};
 ghost use Rattle.dep_rows.specs.declared.row.Row.{Row};
-ghost use Rattle.build_plan.specs.Dependencies.{AreVersions, version_by};
-ghost use Rattle.build_plan.specs.Found.{IsFound, IsFoundAt, IsSound};
+ghost use Rattle.build_plan.specs.Dependencies.{AreVersions};
+ghost use Rattle.build_plan.specs.Found.{IsFound, IsFoundAt};
 
 use crate::found::Found;
 use converger::Versions;
-use project_file::Project;
 use semver::Version;
 use std::alloc::{AllocError, Global};
 
-/// The version of a dependency without a manifest.
-const NO_VERSION: &[u8] = b"0.0.0";
-
 /// The versions of the winners in whose folders this was found.
 pub(crate) fn versions(alloc: Global, found: &[Found]) -> Result<Versions, AllocError>
-    requires { All IsSound found.now }
     ensures long { IfOk result (λ versions. length versions ≡ length found.now) }
     ensures known { IfOk result (λ versions. All (λ version. IsSome version) versions) }
     ensures told { IfOk result (λ versions. (files : List File) (rows : List Row) (winners : List ℕ) → All (IsFound files) found.now → AllZip (IsFoundAt rows) winners found.now → AreVersions files rows winners versions) }
 {
     let mut versions = Versions::new(alloc);
     for folder in found {
-        versions.push(Some(version(alloc, &folder.project)?))?;
+        versions.push(Some(parsed(alloc, folder.version())?))?;
     }
     Ok(versions)
-}
-
-fn version(alloc: Global, project: &Option<Project>) -> Result<Version, AllocError>
-    requires { IsTrue (is_version (version_by project.now)) }
-    ensures { IfOk result (λ version. version_parts (version_by project.now) ≡ Ok (parts_of version)) }
-{
-    match project {
-        Some(project) => parsed(alloc, project.version.as_slice()),
-        None => parsed(alloc, NO_VERSION),
-    }
 }
 
 fn parsed(alloc: Global, text: &[u8]) -> Result<Version, AllocError>

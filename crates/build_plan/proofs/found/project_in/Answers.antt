@@ -3,7 +3,6 @@ use Rattle.mx_base.proofs.BlameLemmas.{answers_on}
 use Rattle.project_file.specs.Blame.{project_blame}
 use Rattle.project_file.specs.Files.{IsLoaded, SaysProject}
 use Rattle.project_file.proofs.ProjectLemmas.{found_manifest, found_absent}
-use Rattle.build_plan.proofs.FolderLemmas.{no_version, manifest_version}
 use Rattle.build_plan.proofs.found.project_in.Goals as goal
 
 pub returns-in_err-project_of_text-in-Some-clause-answer : goal.returns-in_err-project_of_text-in-Some-clause-answer
@@ -23,12 +22,6 @@ returns-in_ok-project_of_text-in-Some-clause-answer c =
     λ files at. subst (λ (text : Option (List ℕ)). SaysProject dir text (Ok (Some project))) at
     (found_manifest dir c.args.text.now c.in-Some.text c.as_slice.result.now (Ok project) c.in-Some.is c.as_slice.ensures says)
 
-pub returns-in_ok-project_of_text-in-Some-clause-version : goal.returns-in_ok-project_of_text-in-Some-clause-version
-returns-in_ok-project_of_text-in-Some-clause-version c = manifest_version c.in_ok-project_of_text-in-Some.ensures.answer
-
 pub returns-in-None-clause-answer : goal.returns-in-None-clause-answer
 returns-in-None-clause-answer c =
     λ files at. subst (λ (text : Option (List ℕ)). SaysProject c.args.dir.now text (Ok None)) at (found_absent c.args.dir.now c.args.text.now c.in-None.is)
-
-pub returns-in-None-clause-version : goal.returns-in-None-clause-version
-returns-in-None-clause-version c = no_version

@@ -10,7 +10,7 @@ use Rattle.build_plan.specs.declared.found.Found.{Found}
 use Rattle.build_plan.specs.Blame.{blame_of}
 use Rattle.build_plan.specs.Found.{IsFound}
 use Rattle.build_plan.specs.Plan.{IsPlan, IsRoot}
-use Rattle.build_plan.specs.Stages.{HasJobs, ListsRows, LivesTogether}
+use Rattle.build_plan.specs.Stages.{ListsRows, LivesTogether, MakesJobs, Schedules, Then}
 use Rattle.build_plan.proofs.PlanLemmas.{if_rows_refused, if_diverged, if_jobs}
 use Rattle.build_plan.proofs.ReadLemmas.{answers_by_as, same_sources}
 use Rattle.build_plan.proofs.planning.jobs_of_root.Goals as goal
@@ -47,12 +47,12 @@ returns-clause-answer g c =
     let live = c.in_ok-converged.converged.rows in
     let are = subst (λ (decls : List Decl). IfSome told (λ files. ListsRows files decls (Ok listed))) c.as_slice.ensures c.in_ok-all.ensures.answer in
     answers_by_as (λ (jobs : Vec Job Global). jobs.items) blame_of
-    (λ answer. IfSome (g.S.Store.known c.dependencies.new.store).sources (λ files. HasJobs files settings live.rows env answer))
+    (λ answer. IfSome (g.S.Store.known c.dependencies.new.store).sources (λ files. Then (Schedules settings live.rows env) (MakesJobs files) answer))
     (λ answer. IfSome told (λ files. IsRoot files settings root → IsPlan files env answer))
     c.jobs_for.result
     (λ answer made.
     if_jobs env settings root told listed live c.in_ok-all.all.found.items answer are c.in_ok-all.ensures.found
     (λ files meant. c.in_ok-converged.ensures.answer files (subst (λ (all : List Found). All (IsFound files) all) (sym c.deref.ensures.value) meant))
-    (subst (λ (o : Option (List File)). IfSome o (λ files. HasJobs files settings listed.rows env answer)) (same_sources c.in_ok-all.ensures.reads)
-    (subst (λ (l : Listed). IfSome (g.S.Store.known c.dependencies.new.store).sources (λ files. HasJobs files settings l.rows env answer)) c.in_ok-converged.ensures.rows made)))
+    (subst (λ (o : Option (List File)). IfSome o (λ files. Then (Schedules settings listed.rows env) (MakesJobs files) answer)) (same_sources c.in_ok-all.ensures.reads)
+    (subst (λ (l : Listed). IfSome (g.S.Store.known c.dependencies.new.store).sources (λ files. Then (Schedules settings l.rows env) (MakesJobs files) answer)) c.in_ok-converged.ensures.rows made)))
     c.jobs_for.ensures.answer

@@ -1,0 +1,53 @@
+// How a dependency is compiled.
+ghost use Rattle.std.specs.Prelude.{◌≡◌, IfOk};
+ghost use Rattle.build_plan.specs.Recipes.{IsRecipe, how_among, manager_among};
+
+use crate::options::options_text;
+use crate::post::Post;
+use compile_model::How;
+use compiler_drive::command;
+use dep_options::{Decl, Manager};
+use mx_base::{Bytes, File, Text, Variables};
+use project_file::{Settings, manager_by_files};
+use std::alloc::{AllocError, Global};
+
+/// What a job says of how its dependency is compiled.
+#[derive(Drop)]
+pub(crate) struct Recipe {
+    pub version: Text,
+    pub how: How,
+    pub options: Bytes,
+    pub system_env: Variables,
+}
+
+/// How a winner with these sources is compiled.
+pub(crate) fn recipe_of(
+    alloc: Global,
+    settings: &Settings,
+    post: &Post<'_>,
+    sources: &[File],
+) -> Result<Recipe, AllocError>
+    ensures { IfOk result (IsRecipe settings.now post.now sources.now) }
+{
+    let decl = &post.row.decl;
+    let manager = manager_of(decl, sources);
+    let how = command(alloc, settings, manager, &decl.compile)?;
+    let version = Text::from_slice(alloc, post.found.version())?;
+    let options = options_text(alloc, &version, decl, manager, &how)?;
+    Ok(Recipe {
+        version,
+        how,
+        options,
+        system_env: decl.system_env.clone()?,
+    })
+}
+
+/// The manager that is written, or else the one that the sources say.
+fn manager_of(decl: &Decl, sources: &[File]) -> Manager
+    ensures { result ≡ manager_among decl.now sources.now }
+{
+    match decl.manager {
+        Some(manager) => manager,
+        None => manager_by_files(sources),
+    }
+}
