@@ -31,9 +31,11 @@ pub(crate) fn dependencies<S: Store>(
     store: &mut S,
     root: &[Decl],
 ) -> Result<Inventory, PlanError>
-    ensures answer { AnswersBy (λ all. all.rows) blame_of result (Told (S.known store.old) (λ files. ListsRows files root.now)) }
+    ensures answer { AnswersBy (λ all. all.rows) blame_of result
+        (Told (S.known store.old) (λ files. ListsRows files root.now)) }
     ensures whole { IfOk result (λ all. AreFoundFor all.rows all.found.items) }
-    ensures found { IfOk result (λ all. Told (S.known store.old) (λ files. All (IsFound files)) all.found.items) }
+    ensures found { IfOk result (λ all. Told (S.known store.old) (λ files. All (IsFound files))
+        all.found.items) }
     ensures reads { OnlyReads (S.known store.old) (S.known store.new) (fails blame_of result) }
 {
     let mut found = BTreeMap::new(alloc);
@@ -52,11 +54,14 @@ fn take_stock<S: Store>(
     root: &[Decl],
 ) -> Result<Inventory, PlanError>
     requires { AreKept (S.known manifests.old.store.now).sources manifests.old.found.now }
-    ensures answer { AnswersBy (λ all. all.rows) blame_of result (Told (S.known manifests.old.store.now) (λ files. ListsRows files root.now)) }
+    ensures answer { AnswersBy (λ all. all.rows) blame_of result
+        (Told (S.known manifests.old.store.now) (λ files. ListsRows files root.now)) }
     ensures whole { IfOk result (λ all. AreFoundFor all.rows all.found.items) }
-    ensures found { IfOk result (λ all. Told (S.known manifests.old.store.now) (λ files. All (IsFound files)) all.found.items) }
+    ensures found { IfOk result (λ all. Told (S.known manifests.old.store.now)
+        (λ files. All (IsFound files)) all.found.items) }
     ensures same_reference { manifests.new.store.ghost_name ≡ manifests.old.store.ghost_name }
-    ensures reads { OnlyReads (S.known manifests.old.store.now) (S.known manifests.new.store.now) (fails blame_of result) }
+    ensures reads { OnlyReads (S.known manifests.old.store.now) (S.known manifests.new.store.now)
+        (fails blame_of result) }
 {
     one_project();
     let rows = rows(alloc, root, manifests)?;
@@ -71,10 +76,12 @@ fn found_for<S: Store>(
     rows: &Rows,
 ) -> Result<Vec<Found>, PlanError>
     requires { AreKept (S.known manifests.old.store.now).sources manifests.old.found.now }
-    ensures answer { AnswersBy (λ all. all.items) blame_of result (Told (S.known manifests.old.store.now) (λ files. FindsAll files rows.now)) }
+    ensures answer { AnswersBy (λ all. all.items) blame_of result
+        (Told (S.known manifests.old.store.now) (λ files. FindsAll files rows.now)) }
     ensures at { IfOk result (λ all. AllZip (IsFoundAt rows.now.rows) rows.now.winners all.items) }
     ensures same_reference { manifests.new.store.ghost_name ≡ manifests.old.store.ghost_name }
-    ensures reads { OnlyReads (S.known manifests.old.store.now) (S.known manifests.new.store.now) (fails blame_of result) }
+    ensures reads { OnlyReads (S.known manifests.old.store.now) (S.known manifests.new.store.now)
+        (fails blame_of result) }
 {
     let all = rows.rows();
     let mut found = Vec::new(alloc);

@@ -47,7 +47,8 @@ impl Found {
 
     /// The declarations of the manifest that are for an environment.
     pub(crate) fn declared(&self, alloc: Global, env: &AppName) -> Result<Vec<Decl>, AllocError>
-        ensures { IfOk result (λ decls. decls.items ≡ filter (λ decl. admits decl.only env.now) (declared_by self.now.project)) }
+        ensures { IfOk result (λ decls. decls.items
+            ≡ filter (λ decl. admits decl.only env.now) (declared_by self.now.project)) }
     {
         match &self.project {
             Some(project) => admitted(alloc, project.decls.as_slice(), env.as_str()),
@@ -57,7 +58,8 @@ impl Found {
 }
 
 fn admitted(alloc: Global, decls: &[Decl], env: &str) -> Result<Vec<Decl>, AllocError>
-    ensures { IfOk result (λ admitted. admitted.items ≡ filter (λ decl. admits decl.only env.now) decls.now) }
+    ensures { IfOk result (λ admitted. admitted.items
+        ≡ filter (λ decl. admits decl.only env.now) decls.now) }
 {
     let mut admitted = Vec::new(alloc);
     for decl in decls {
@@ -119,7 +121,8 @@ fn read_manifest<S: Store>(
     dir: &RelPath,
 ) -> Result<Manifest, PlanError>
     requires { IsTrue (is_dep_folder dir.now) }
-    ensures answer { Answers blame_of result (Told (S.known store.old) (λ files. HasManifest files dir.now)) }
+    ensures answer { Answers blame_of result (Told (S.known store.old)
+        (λ files. HasManifest files dir.now)) }
     ensures reads { OnlyReads (S.known store.old) (S.known store.new) (fails blame_of result) }
 {
     let path = dir.child(alloc, MANIFEST)?;

@@ -108,7 +108,8 @@ fn job_of<S: Store>(
 
 /// The job, where what is sent of it is within the limit.
 fn if_sent(job: Job) -> Option<Job>
-    ensures { MatchOption result (most_sent < sent_size job) (λ same. (same ≡ job) × (sent_size job ≤ most_sent)) }
+    ensures { MatchOption result (most_sent < sent_size job)
+        (λ same. (same ≡ job) × (sent_size job ≤ most_sent)) }
 {
     if can_be_sent(&job) { Some(job) } else { None }
 }

@@ -9,7 +9,8 @@ use project_file::{one_project, one_settings};
 
 /// The files of a project have one plan in an environment, or one refusal that is met first.
 pub fn one_plan()
-    ensures { (files : List File) (env : List ℕ) (one other : Result (List Job) PlanError) → IsPlan files env one → IsPlan files env other → one ≡ other }
+    ensures { (files : List File) (env : List ℕ) (one other : Result (List Job) PlanError)
+        → IsPlan files env one → IsPlan files env other → one ≡ other }
 {
     one_settings();
     one_project();

@@ -16,7 +16,8 @@ pub(crate) fn lines(
     rows: &[Row],
     divergences: &[Divergence],
 ) -> Result<DivergedLines, AllocError>
-    requires { All (λ d. (d.winner < length rows.now) × (d.other < length rows.now)) divergences.now }
+    requires { All (λ d. (d.winner < length rows.now) × (d.other < length rows.now))
+        divergences.now }
     ensures { IfOk result (λ lines. AreLines rows.now divergences.now lines) }
 {
     let mut lines = DivergedLines::new(alloc);

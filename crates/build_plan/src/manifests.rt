@@ -35,10 +35,12 @@ impl<S: Store> Manifests<'_, S> {
         winner: &Decl,
     ) -> Result<Found, PlanError>
         requires { AreKept (S.known self.old.store.now).sources self.old.found.now }
-        ensures answer { Answers blame_of result (Finds (S.known self.old.store.now).sources app.now winner.now) }
+        ensures answer { Answers blame_of result
+            (Finds (S.known self.old.store.now).sources app.now winner.now) }
         ensures kept { AreKept (S.known self.old.store.now).sources self.new.found.now }
         ensures same_reference { self.new.store.ghost_name ≡ self.old.store.ghost_name }
-        ensures reads { OnlyReads (S.known self.old.store.now) (S.known self.new.store.now) (fails blame_of result) }
+        ensures reads { OnlyReads (S.known self.old.store.now) (S.known self.new.store.now)
+            (fails blame_of result) }
         ensures tally { self.new.tally ≡ self.old.tally }
     {
         match &winner.source {

@@ -32,7 +32,8 @@ pub(crate) fn ordered_of(alloc: Global, rows: &Rows, places: &[u32]) -> Result<O
 
 /// The apps of a cycle, as a refusal.
 fn cycle(alloc: Global, rows: &[Row], places: &[u32], nodes: &[usize]) -> PlanError
-    ensures apps { blame_of result ≡ Input → result ≡ PlanError.Cycle (apps_of rows.now places.now nodes.now) }
+    ensures apps { blame_of result ≡ Input → result
+        ≡ PlanError.Cycle (apps_of rows.now places.now nodes.now) }
     ensures alone { IsFalse (is_outside (blame_of result)) }
 {
     match apps_of(alloc, rows, places, nodes) {
@@ -87,7 +88,8 @@ fn add_row(
 fn add_need(needs: &mut Vec<Places>, node: usize, need: usize) -> Result<(), AllocError>
     requires { node < length needs.old.items }
     ensures long { length needs.new.items ≡ length needs.old.items }
-    ensures each { OnOk result ((other : ℕ) → needs_of needs.new.items other ≡ needs_of needs.old.items other ++ (if other == node then need ∷ [] else [])) }
+    ensures each { OnOk result ((other : ℕ) → needs_of needs.new.items other
+        ≡ needs_of needs.old.items other ++ (if other == node then need ∷ [] else [])) }
 {
     needs[node].push(need)?;
     Ok(())
@@ -112,9 +114,11 @@ fn need_of(rows: &Rows, places: &[u32], row: &Row) -> Option<(usize, usize)>
 /// Which of these winners declares a row.
 fn declarer(places: &[u32], row: &Row) -> Option<usize>
     requires { AllPairs (λ earlier later. earlier < later) places.now }
-    ensures none { IfNone result ((node : ℕ) → node < length places.now → is_child_at (slice_index places.now node) row.now.by ≡ false) }
+    ensures none { IfNone result ((node : ℕ) → node < length places.now
+        → is_child_at (slice_index places.now node) row.now.by ≡ false) }
     ensures within { IfSome result (λ at. at < length places.now) }
-    ensures some { IfSome result (λ at. (node : ℕ) → node < length places.now → is_child_at (slice_index places.now node) row.now.by ≡ nat_eq node at) }
+    ensures some { IfSome result (λ at. (node : ℕ) → node < length places.now
+        → is_child_at (slice_index places.now node) row.now.by ≡ nat_eq node at) }
 {
     let by = row.by?;
     match places.binary_search(&by) {

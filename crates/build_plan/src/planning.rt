@@ -39,7 +39,8 @@ pub fn plan<S: Store>(alloc: Global, store: &mut S, env: &AppName) -> Result<Pla
     ensures env { IfOk result (λ plan. plan.env ≡ env.now) }
     ensures planned { IfOk result (λ plan. ArePlanned plan.jobs) }
     ensures fit { IfOk result (λ plan. AllFit plan.jobs) }
-    ensures answer { AnswersBy (λ plan. plan.jobs) blame_of result (Told (S.known store.old) (λ files. IsPlan files env.now)) }
+    ensures answer { AnswersBy (λ plan. plan.jobs) blame_of result
+        (Told (S.known store.old) (λ files. IsPlan files env.now)) }
     // Nothing is written.
     ensures reads { OnlyReads (S.known store.old) (S.known store.new) (fails blame_of result) }
 {

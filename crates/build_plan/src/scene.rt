@@ -66,7 +66,8 @@ impl<'a> Scene<'a> {
         env: &AppName,
     ) -> Result<Scene<'a>, PlanError>
         requires { AreFoundFor converged.now.rows found.now }
-        ensures answer { AnswersBy (λ scene. scene.schedule) blame_of result (Schedules settings.now converged.now.rows.rows env.now) }
+        ensures answer { AnswersBy (λ scene. scene.schedule) blame_of result
+            (Schedules settings.now converged.now.rows.rows env.now) }
         ensures found { IfOk result (λ scene. scene.found ≡ found.now) }
         ensures alone { IsFalse (fails blame_of result) }
     {
@@ -114,8 +115,10 @@ impl<'a> Scene<'a> {
     /// Where the nodes stand in the order, and their apps.
     pub(crate) fn needs_of(&self, alloc: Global, nodes: &[usize]) -> Result<Needs, AllocError>
         requires { All (StandsBefore self.now.schedule.order most_jobs) nodes.now }
-        ensures places { IfOk result (λ needs. needs.places ≡ places_in self.now.schedule.order nodes.now) }
-        ensures apps { IfOk result (λ needs. needs.apps ≡ apps_of self.now.schedule.rows self.now.schedule.places nodes.now) }
+        ensures places { IfOk result (λ needs. needs.places
+            ≡ places_in self.now.schedule.order nodes.now) }
+        ensures apps { IfOk result (λ needs. needs.apps
+            ≡ apps_of self.now.schedule.rows self.now.schedule.places nodes.now) }
     {
         let apps = apps_of(alloc, self.rows.rows(), &self.places, nodes)?;
         let places = self.places_of(alloc, nodes)?;

@@ -27,8 +27,10 @@ pub(crate) fn sources<S: Store>(
     room: usize,
 ) -> Result<Option<Files>, StoreFault>
     requires { IsSound found.now }
-    ensures read { IfOk result (λ sources. IfSome (S.known store.old).sources (λ files. IsFound files found.now → AreSources files found.now.dir room sources)) }
-    ensures fits { IfOk result (λ sources. IfSome sources (λ all. (length all ≤ most_files) × (bytes_in all ≤ room))) }
+    ensures read { IfOk result (λ sources. IfSome (S.known store.old).sources
+        (λ files. IsFound files found.now → AreSources files found.now.dir room sources)) }
+    ensures fits { IfOk result (λ sources. IfSome sources
+        (λ all. (length all ≤ most_files) × (bytes_in all ≤ room))) }
     ensures reads { OnlyReads (S.known store.old) (S.known store.new) (fails blame_of result) }
 {
     let mut sources = Vec::new(alloc);
@@ -55,8 +57,10 @@ fn source<S: Store>(
     path: &RelPath,
 ) -> Result<Option<File>, StoreFault>
     requires { IsFalse (is_in_build path.now) }
-    ensures source { IfOk result (λ source. IfSome (S.known store.old).sources (λ files. IsFound files found.now → source ≡ source_at found.now.dir files path.now)) }
-    ensures place { IfOk result (λ source. IfSome source (λ file. path.now ≡ child_of found.now.dir file.path)) }
+    ensures source { IfOk result (λ source. IfSome (S.known store.old).sources
+        (λ files. IsFound files found.now → source ≡ source_at found.now.dir files path.now)) }
+    ensures place { IfOk result (λ source. IfSome source
+        (λ file. path.now ≡ child_of found.now.dir file.path)) }
     ensures reads { OnlyReads (S.known store.old) (S.known store.new) (fails blame_of result) }
 {
     let Some(rest) = path.from_folder(alloc, &found.dir)? else {
@@ -81,7 +85,8 @@ fn bytes<S: Store>(
 ) -> Result<Option<Bytes>, StoreFault>
     requires outside { IsFalse (is_in_build path.now) }
     requires place { path.now ≡ child_of found.now.dir rest.now }
-    ensures bytes { IfOk result (λ bytes. IfSome (S.known store.old).sources (λ files. IsFound files found.now → bytes ≡ bytes_at path.now files)) }
+    ensures bytes { IfOk result (λ bytes. IfSome (S.known store.old).sources
+        (λ files. IsFound files found.now → bytes ≡ bytes_at path.now files)) }
     ensures reads { OnlyReads (S.known store.old) (S.known store.new) (fails blame_of result) }
 {
     if rest.as_str() == MANIFEST {

@@ -18,7 +18,9 @@ use std::alloc::{AllocError, Global};
 pub(crate) fn versions(alloc: Global, found: &[Found]) -> Result<Versions, AllocError>
     ensures long { IfOk result (λ versions. length versions ≡ length found.now) }
     ensures known { IfOk result (λ versions. All (λ version. IsSome version) versions) }
-    ensures told { IfOk result (λ versions. (files : List File) (rows : List Row) (winners : List ℕ) → All (IsFound files) found.now → AllZip (IsFoundAt rows) winners found.now → AreVersions files rows winners versions) }
+    ensures told { IfOk result (λ versions. (files : List File) (rows : List Row)
+        (winners : List ℕ) → All (IsFound files) found.now
+        → AllZip (IsFoundAt rows) winners found.now → AreVersions files rows winners versions) }
 {
     let mut versions = Versions::new(alloc);
     for folder in found {

@@ -71,7 +71,9 @@ fn answer<S: Store, C: Compiler>(
     compiler: &mut C,
 ) -> Result<Answer, Stop>
     requires { AllHere (S.known store.old).slot }
-    ensures comes { Comes C.compile_of (map (λ word. string_bytes word) words.now) (site_of (S.known store.old) (C.deaths compiler.old)) (site_of (S.known store.new) (C.deaths compiler.new)) (status_in result) (text_in result) }
+    ensures comes { Comes C.compile_of (map (λ word. string_bytes word) words.now)
+        (site_of (S.known store.old) (C.deaths compiler.old))
+        (site_of (S.known store.new) (C.deaths compiler.new)) (status_in result) (text_in result) }
     ensures keeps { Keeps (S.known store.old) (S.known store.new) }
 {
     match read_words(alloc, words) {
@@ -89,7 +91,9 @@ fn answer_to<S: Store, C: Compiler>(
     compiler: &mut C,
 ) -> Result<Answer, Stop>
     requires { AllHere (S.known store.old).slot }
-    ensures does { Does C.compile_of command.now (site_of (S.known store.old) (C.deaths compiler.old)) (site_of (S.known store.new) (C.deaths compiler.new)) (status_in result) (text_in result) }
+    ensures does { Does C.compile_of command.now
+        (site_of (S.known store.old) (C.deaths compiler.old))
+        (site_of (S.known store.new) (C.deaths compiler.new)) (status_in result) (text_in result) }
     ensures keeps { Keeps (S.known store.old) (S.known store.new) }
 {
     match command {
@@ -113,7 +117,8 @@ fn misread(alloc: Global, at: u64) -> Result<Answer, Stop>
 
 // Writes the text of an answer, with which its status goes.
 fn say<K: Sink>(out: &mut K, answer: &Result<Answer, Stop>) -> Status
-    ensures { Says (status_in answer.now) (text_in answer.now) (K.known out.old) (K.known out.new) result }
+    ensures { Says (status_in answer.now) (text_in answer.now) (K.known out.old) (K.known out.new)
+        result }
 {
     match out.write(text_in(answer)) {
         Ok(()) => status_in(answer),

@@ -18,7 +18,8 @@ use tree_store::{Folder, Store};
 #[tactic(auto, using(crate::proofs::TreeLemmas::elsewhere_more, crate::proofs::PartLemmas::part_more))]
 pub(crate) fn clear_env<S: Store>(alloc: Global, env: &AppName, store: &mut S) -> Result<(), Stop>
     requires { AllHere (S.known store.old).slot }
-    ensures cleared { OnOk result (ClearsEnv env.now (S.known store.old).slot (S.known store.new).slot) }
+    ensures cleared { OnOk result (ClearsEnv env.now (S.known store.old).slot
+        (S.known store.new).slot) }
     ensures part { EachLeavesPart (S.known store.old).slot (S.known store.new).slot }
     ensures elsewhere { StaysElsewhere env.now (S.known store.old).slot (S.known store.new).slot }
     ensures keeps { Keeps (S.known store.old) (S.known store.new) }
@@ -38,9 +39,11 @@ fn clear_app<S: Store>(
     store: &mut S,
 ) -> Result<(), Stop>
     requires { AllHere (S.known store.old).slot }
-    ensures cleared { OnOk result (ChangesSlot (record { env = env.now; app = app.now }) emptied_slot (S.known store.old).slot (S.known store.new).slot) }
+    ensures cleared { OnOk result (ChangesSlot (record { env = env.now; app = app.now })
+        emptied_slot (S.known store.old).slot (S.known store.new).slot) }
     ensures part { EachLeavesPart (S.known store.old).slot (S.known store.new).slot }
-    ensures others { (q : BuildKey) → is_same_build (record { env = env.now; app = app.now }) q ≡ false → (S.known store.new).slot q ≡ (S.known store.old).slot q }
+    ensures others { (q : BuildKey) → is_same_build (record { env = env.now; app = app.now }) q
+        ≡ false → (S.known store.new).slot q ≡ (S.known store.old).slot q }
     ensures keeps { Keeps (S.known store.old) (S.known store.new) }
     ensures fails { Fails result (S.known store.old) (S.known store.new) }
 {

@@ -31,7 +31,8 @@ pub enum WordsError {
 ///
 /// `Refused` exactly where the words are no command's. `OutOfMemory` says nothing of them.
 pub fn read_words(alloc: Global, words: &[String]) -> Result<Command, WordsError>
-    ensures { Answers blame_of result (λ answer. answer ≡ command_of (map (λ word. string_bytes word) words.now)) }
+    ensures { Answers blame_of result (λ answer. answer
+        ≡ command_of (map (λ word. string_bytes word) words.now)) }
 {
     let Some((first, rest)) = words.split_first() else {
         return Err(WordsError::Refused { at: 0 });
@@ -44,7 +45,8 @@ pub fn read_words(alloc: Global, words: &[String]) -> Result<Command, WordsError
 }
 
 fn compile_alone(alloc: Global, rest: &[String]) -> Result<Command, WordsError>
-    ensures { Answers blame_of result (λ answer. answer ≡ alone (Command.Compile dev) (map (λ word. string_bytes word) rest.now)) }
+    ensures { Answers blame_of result (λ answer. answer
+        ≡ alone (Command.Compile dev) (map (λ word. string_bytes word) rest.now)) }
 {
     match AppName::of(alloc, b"dev") {
         Ok(env) => alone(Command::Compile { env }, rest),

@@ -30,7 +30,9 @@ pub(crate) fn compile<S: Store, C: Compiler>(
     compiler: &mut C,
 ) -> Result<Answer, Stop>
     requires { AllHere (S.known store.old).slot }
-    ensures ends { Compiles C.compile_of env.now (site_of (S.known store.old) (C.deaths compiler.old)) (site_of (S.known store.new) (C.deaths compiler.new)) (status_in result) (text_in result) }
+    ensures ends { Compiles C.compile_of env.now
+        (site_of (S.known store.old) (C.deaths compiler.old))
+        (site_of (S.known store.new) (C.deaths compiler.new)) (status_in result) (text_in result) }
     ensures keeps { Keeps (S.known store.old) (S.known store.new) }
 {
     match plan(alloc, store, env) {
@@ -49,8 +51,11 @@ fn build<S: Store, C: Compiler>(
 ) -> Result<Answer, Stop>
     requires here { AllHere (S.known store.old).slot }
     requires planned { ArePlanned plan.now.jobs }
-    ensures ends { Builds C.compile_of env.now plan.now.jobs (site_of (S.known store.old) (C.deaths compiler.old)) (site_of (S.known store.new) (C.deaths compiler.new)) (status_in result) (text_in result) }
-    ensures stands { Stands C.compile_of env.now plan.now.jobs (S.known store.old).slot (S.known store.new).slot }
+    ensures ends { Builds C.compile_of env.now plan.now.jobs
+        (site_of (S.known store.old) (C.deaths compiler.old))
+        (site_of (S.known store.new) (C.deaths compiler.new)) (status_in result) (text_in result) }
+    ensures stands { Stands C.compile_of env.now plan.now.jobs (S.known store.old).slot
+        (S.known store.new).slot }
     ensures elsewhere { StaysElsewhere env.now (S.known store.old).slot (S.known store.new).slot }
     ensures keeps { Keeps (S.known store.old) (S.known store.new) }
 {

@@ -29,8 +29,11 @@ pub(crate) fn fill_env<S: Store>(
 ) -> Result<(), Stop>
     requires lengths { length fates.now ≡ length jobs.now }
     requires here { AllHere (S.known store.old).slot }
-    ensures filled { OnOk result ((q : BuildKey) → (S.known store.new).slot q ≡ filled_by env.now q jobs.now fates.now ((S.known store.old).slot q)) }
-    ensures begun { OnErr result (BeginsEnv env.now jobs.now fates.now (S.known store.old).slot (S.known store.new).slot) }
+    ensures filled { OnOk result ((q : BuildKey)
+        → (S.known store.new).slot q ≡ filled_by env.now q jobs.now fates.now
+        ((S.known store.old).slot q)) }
+    ensures begun { OnErr result (BeginsEnv env.now jobs.now fates.now (S.known store.old).slot
+        (S.known store.new).slot) }
     ensures elsewhere { StaysElsewhere env.now (S.known store.old).slot (S.known store.new).slot }
     ensures keeps { Keeps (S.known store.old) (S.known store.new) }
     ensures fails { Fails result (S.known store.old) (S.known store.new) }
@@ -50,9 +53,15 @@ fn fill_job<S: Store>(
     store: &mut S,
 ) -> Result<(), Stop>
     requires { AllHere (S.known store.old).slot }
-    ensures filled { OnOk result ((q : BuildKey) → (S.known store.new).slot q ≡ filled_once (is_same_build (record { env = env.now; app = job.now.app }) q) fate.now ((S.known store.old).slot q)) }
-    ensures begun { OnErr result (BeginsSlot (files_of fate.now) ((S.known store.old).slot (record { env = env.now; app = job.now.app })) ((S.known store.new).slot (record { env = env.now; app = job.now.app }))) }
-    ensures others { (q : BuildKey) → is_same_build (record { env = env.now; app = job.now.app }) q ≡ false → (S.known store.new).slot q ≡ (S.known store.old).slot q }
+    ensures filled { OnOk result ((q : BuildKey)
+        → (S.known store.new).slot q ≡ filled_once
+        (is_same_build (record { env = env.now; app = job.now.app }) q) fate.now
+        ((S.known store.old).slot q)) }
+    ensures begun { OnErr result (BeginsSlot (files_of fate.now)
+        ((S.known store.old).slot (record { env = env.now; app = job.now.app }))
+        ((S.known store.new).slot (record { env = env.now; app = job.now.app }))) }
+    ensures others { (q : BuildKey) → is_same_build (record { env = env.now; app = job.now.app }) q
+        ≡ false → (S.known store.new).slot q ≡ (S.known store.old).slot q }
     ensures keeps { Keeps (S.known store.old) (S.known store.new) }
     ensures fails { Fails result (S.known store.old) (S.known store.new) }
 {
@@ -72,9 +81,13 @@ fn fill_app<S: Store>(
     store: &mut S,
 ) -> Result<(), Stop>
     requires { AllHere (S.known store.old).slot }
-    ensures filled { OnOk result (ChangesSlot (record { env = env.now; app = app.now }) (filled_slot files.now) (S.known store.old).slot (S.known store.new).slot) }
-    ensures begun { OnErr result (BeginsSlot files.now ((S.known store.old).slot (record { env = env.now; app = app.now })) ((S.known store.new).slot (record { env = env.now; app = app.now }))) }
-    ensures others { (q : BuildKey) → is_same_build (record { env = env.now; app = app.now }) q ≡ false → (S.known store.new).slot q ≡ (S.known store.old).slot q }
+    ensures filled { OnOk result (ChangesSlot (record { env = env.now; app = app.now })
+        (filled_slot files.now) (S.known store.old).slot (S.known store.new).slot) }
+    ensures begun { OnErr result (BeginsSlot files.now
+        ((S.known store.old).slot (record { env = env.now; app = app.now }))
+        ((S.known store.new).slot (record { env = env.now; app = app.now }))) }
+    ensures others { (q : BuildKey) → is_same_build (record { env = env.now; app = app.now }) q
+        ≡ false → (S.known store.new).slot q ≡ (S.known store.old).slot q }
     ensures keeps { Keeps (S.known store.old) (S.known store.new) }
     ensures fails { Fails result (S.known store.old) (S.known store.new) }
 {

@@ -26,7 +26,8 @@ fn push_jobs(
     fates: &[Fate],
 ) -> Result<(), AllocError>
     requires { length fates.now ≡ length jobs.now }
-    ensures { OnOk result (text.new.items ≡ text.old.items ++ jobs_text jobs.now jobs.now fates.now) }
+    ensures { OnOk result (text.new.items ≡ text.old.items
+        ++ jobs_text jobs.now jobs.now fates.now) }
 {
     for (place, job) in jobs.iter().enumerate() {
         push_job(alloc, text, jobs, job, &fates[place])?;
@@ -65,7 +66,8 @@ fn push_fate(alloc: Global, text: &mut Vec<u8>, jobs: &[Job], fate: &Fate) -> Re
 }
 
 fn push_failed(alloc: Global, text: &mut Vec<u8>, outcome: &Outcome) -> Result<(), AllocError>
-    ensures { OnOk result (text.new.items ≡ text.old.items ++ failed_text outcome.now.status outcome.now.text) }
+    ensures { OnOk result (text.new.items ≡ text.old.items
+        ++ failed_text outcome.now.status outcome.now.text) }
 {
     text.extend_from_slice(b" failed with status ")?;
     push_decimal(alloc, text, outcome.status as u64)?;
