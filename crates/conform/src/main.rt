@@ -1,0 +1,92 @@
+//! The program `conform`: it reads cases from its standard input, one a line, asks the public calls of the libraries,
+//! and prints each answer on one line. A line that begins with `#` is printed as it is.
+//!
+//! A case is the name of its kind and then texts, with one space before each. `docs/TESTING.md` has the kinds, how
+//! texts are written and what is answered.
+#![tactic(auto)]
+
+mod compilers;
+mod fields;
+mod graphs;
+mod manifests;
+mod messages;
+mod mortal;
+mod projects;
+mod rows;
+mod shown;
+mod stores;
+mod terms;
+mod units;
+mod writable;
+
+use compilers::{command_case, manager_case, settings_case};
+use fields::{Fault, fields_of};
+use graphs::{closure_case, order_case};
+use manifests::{decls_case, manifest_case, project_case};
+use messages::{message_case, write_case};
+use projects::{plan_case, run_case};
+use rows::{converge_case, reach_case, rows_case};
+use std::alloc::{AllocError, Global};
+use std::io;
+use std::io::{BufRead, BufReader, BufWriter, Write};
+use terms::{
+    join_case, match_case, name_case, print_case, requirement_case, term_case, version_case,
+};
+use units::unit_case;
+
+fn main(rt: HostRuntime) -> io::Result<()> {
+    let alloc = rt.alloc();
+    let mut out = BufWriter::new(alloc, io::writer(&rt))?;
+    for line in BufReader::new(alloc, rt.reader())?.lines(alloc) {
+        let line = line?;
+        let told = told(alloc, line.as_str())?;
+        writeln!(out, "{}", told.as_str())?;
+    }
+    out.flush()
+}
+
+/// What is printed for a line.
+fn told(alloc: Global, line: &str) -> Result<String, AllocError> {
+    if line.starts_with('#') {
+        return String::from_str(alloc, line);
+    }
+    let mut out = String::new(alloc);
+    match answer(alloc, &mut out, line) {
+        Ok(()) => Ok(out),
+        Err(Fault::Form) => String::from_str(alloc, "refused"),
+        Err(Fault::Memory) => Err(AllocError),
+    }
+}
+
+/// Answers a case.
+fn answer(alloc: Global, out: &mut String, line: &str) -> Result<(), Fault> {
+    let (kind, rest) = line.split_once(' ').ok_or(Fault::Form)?;
+    let texts = fields_of(alloc, rest)?;
+    let texts = texts.as_slice();
+    match kind {
+        "term" => term_case(alloc, out, texts),
+        "print" => print_case(alloc, out, texts),
+        "name" => name_case(alloc, out, texts),
+        "join" => join_case(alloc, out, texts),
+        "version" => version_case(alloc, out, texts),
+        "requirement" => requirement_case(alloc, out, texts),
+        "match" => match_case(alloc, out, texts),
+        "message" => message_case(alloc, out, texts),
+        "write" => write_case(alloc, out, texts),
+        "unit" => unit_case(alloc, out, texts),
+        "decls" => decls_case(alloc, out, texts),
+        "project" => project_case(alloc, out, texts),
+        "manifest" => manifest_case(alloc, out, texts),
+        "settings" => settings_case(alloc, out, texts),
+        "manager" => manager_case(alloc, out, texts),
+        "command" => command_case(alloc, out, texts),
+        "order" => order_case(alloc, out, texts),
+        "closure" => closure_case(alloc, out, texts),
+        "rows" => rows_case(alloc, out, texts),
+        "converge" => converge_case(alloc, out, texts),
+        "reach" => reach_case(alloc, out, texts),
+        "plan" => plan_case(alloc, out, texts),
+        "run" => run_case(alloc, out, texts),
+        _ => Err(Fault::Form),
+    }
+}

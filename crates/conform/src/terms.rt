@@ -1,0 +1,186 @@
+// Cases of terms, names, paths, versions and requirements.
+
+use crate::fields::{Fault, word};
+use crate::shown::{push_after, refused, say};
+use elixir_terms::{Feature, Term, TermCause, TermError, print, read};
+use mx_base::{AppName, NameError, PathError, RelPath};
+use semver::Version;
+use std::alloc::Global;
+use std::cmp::Ordering;
+use version_req::{ReqError, Requirement, compare, matches};
+
+/// A text: what its term is printed as.
+pub(crate) fn term_case(alloc: Global, out: &mut String, texts: &[Vec<u8>]) -> Result<(), Fault> {
+    let [text] = texts else {
+        return Err(Fault::Form);
+    };
+    push_read(alloc, out, text.as_slice())
+}
+
+fn push_read(alloc: Global, out: &mut String, text: &[u8]) -> Result<(), Fault> {
+    match read(alloc, text) {
+        Ok(term) => push_printed(alloc, out, &term),
+        Err(error) => refused_term(out, error),
+    }
+}
+
+fn push_printed(alloc: Global, out: &mut String, term: &Term) -> Result<(), Fault> {
+    let printed = print(alloc, term)?;
+    push_after(alloc, out, "ok ", printed.as_slice())
+}
+
+pub(crate) fn refused_term(out: &mut String, error: TermError) -> Result<(), Fault> {
+    refused(out, error.at, term_cause(error.cause))
+}
+
+fn term_cause(cause: TermCause) -> &'static str {
+    match cause {
+        TermCause::Unsupported(Feature::Charlist) => "Unsupported(Charlist)",
+        TermCause::Unsupported(Feature::Sigil) => "Unsupported(Sigil)",
+        TermCause::Unsupported(Feature::Heredoc) => "Unsupported(Heredoc)",
+        TermCause::Unsupported(Feature::Interpolation) => "Unsupported(Interpolation)",
+        TermCause::Unsupported(Feature::Float) => "Unsupported(Float)",
+        TermCause::Unsupported(Feature::Alias) => "Unsupported(Alias)",
+        TermCause::Unsupported(Feature::Bits) => "Unsupported(Bits)",
+        TermCause::BadEscape => "BadEscape",
+        TermCause::BadUtf8 => "BadUtf8",
+        TermCause::NumberTooBig => "NumberTooBig",
+        TermCause::TooDeep => "TooDeep",
+        TermCause::DuplicateKey => "DuplicateKey",
+        TermCause::TrailingText => "TrailingText",
+        TermCause::Unclosed => "Unclosed",
+        TermCause::Unexpected => "Unexpected",
+        TermCause::TooLong => "TooLong",
+        TermCause::OutOfMemory => "OutOfMemory",
+    }
+}
+
+/// A text: what is printed of the term that is read back from its printing.
+pub(crate) fn print_case(alloc: Global, out: &mut String, texts: &[Vec<u8>]) -> Result<(), Fault> {
+    let [text] = texts else {
+        return Err(Fault::Form);
+    };
+    match read(alloc, text.as_slice()) {
+        Ok(term) => push_printed_again(alloc, out, &term),
+        Err(error) => refused_term(out, error),
+    }
+}
+
+fn push_printed_again(alloc: Global, out: &mut String, term: &Term) -> Result<(), Fault> {
+    let printed = print(alloc, term)?;
+    push_read(alloc, out, printed.as_slice())
+}
+
+/// A text: the name of an app that it is.
+pub(crate) fn name_case(alloc: Global, out: &mut String, texts: &[Vec<u8>]) -> Result<(), Fault> {
+    let [text] = texts else {
+        return Err(Fault::Form);
+    };
+    match AppName::of(alloc, text.as_slice()) {
+        Ok(name) => push_after(alloc, out, "ok ", name.as_str().as_bytes()),
+        Err(NameError::Empty) => say(out, "refused - Empty"),
+        Err(NameError::TooLong) => say(out, "refused - TooLong"),
+        Err(NameError::BadByte { at }) => refused(out, at, "BadByte"),
+        Err(NameError::OutOfMemory) => Err(Fault::Memory),
+    }
+}
+
+/// A folder and a text: the path to which they join.
+pub(crate) fn join_case(alloc: Global, out: &mut String, texts: &[Vec<u8>]) -> Result<(), Fault> {
+    let [base, text] = texts else {
+        return Err(Fault::Form);
+    };
+    let base = folder(alloc, base.as_slice())?;
+    push_joined(alloc, out, &RelPath::join(alloc, &base, text.as_slice()))
+}
+
+fn push_joined(
+    alloc: Global,
+    out: &mut String,
+    answer: &Result<RelPath, PathError>,
+) -> Result<(), Fault> {
+    match answer {
+        Ok(path) => push_after(alloc, out, "ok ", path.as_str().as_bytes()),
+        Err(PathError::BadByte { at }) => refused(out, *at, "BadByte"),
+        Err(PathError::AboveRoot) => say(out, "refused - AboveRoot"),
+        Err(PathError::Empty) => say(out, "refused - Empty"),
+        Err(PathError::OutOfMemory) => Err(Fault::Memory),
+    }
+}
+
+/// The folder of this path, where the empty text is the root.
+pub(crate) fn folder(alloc: Global, text: &[u8]) -> Result<RelPath, Fault> {
+    let root = RelPath::root(alloc);
+    if text.is_empty() {
+        return Ok(root);
+    }
+    match RelPath::join(alloc, &root, text) {
+        Ok(path) => Ok(path),
+        Err(PathError::OutOfMemory) => Err(Fault::Memory),
+        Err(_) => Err(Fault::Form),
+    }
+}
+
+pub(crate) fn app_name(alloc: Global, text: &[u8]) -> Result<AppName, Fault> {
+    match AppName::of(alloc, text) {
+        Ok(name) => Ok(name),
+        Err(NameError::OutOfMemory) => Err(Fault::Memory),
+        Err(_) => Err(Fault::Form),
+    }
+}
+
+/// Two versions: how the first stands to the second.
+pub(crate) fn version_case(
+    alloc: Global,
+    out: &mut String,
+    texts: &[Vec<u8>],
+) -> Result<(), Fault> {
+    let [left, right] = texts else {
+        return Err(Fault::Form);
+    };
+    let left = version(alloc, left.as_slice())?;
+    let right = version(alloc, right.as_slice())?;
+    match compare(&left, &right) {
+        Ordering::Less => say(out, "ok less"),
+        Ordering::Equal => say(out, "ok equal"),
+        Ordering::Greater => say(out, "ok greater"),
+    }
+}
+
+pub(crate) fn version(alloc: Global, text: &[u8]) -> Result<Version, Fault> {
+    match Version::parse(alloc, word(text)?) {
+        Ok(version) => Ok(version),
+        Err(_) => Err(Fault::Form),
+    }
+}
+
+/// A text: whether it is a requirement.
+pub(crate) fn requirement_case(
+    alloc: Global,
+    out: &mut String,
+    texts: &[Vec<u8>],
+) -> Result<(), Fault> {
+    let [text] = texts else {
+        return Err(Fault::Form);
+    };
+    match Requirement::parse(alloc, text.as_slice()) {
+        Ok(_) => say(out, "ok"),
+        Err(ReqError::Refused { at }) => refused(out, at, "Refused"),
+        Err(ReqError::OutOfMemory) => Err(Fault::Memory),
+    }
+}
+
+/// A requirement and a version: whether it takes it with pre-releases allowed, and without.
+pub(crate) fn match_case(alloc: Global, out: &mut String, texts: &[Vec<u8>]) -> Result<(), Fault> {
+    let [text, version_text] = texts else {
+        return Err(Fault::Form);
+    };
+    let version = version(alloc, version_text.as_slice())?;
+    let Ok(requirement) = Requirement::parse(alloc, text.as_slice()) else {
+        return Err(Fault::Form);
+    };
+    let allowed = matches(&requirement, &version, true);
+    let other = matches(&requirement, &version, false);
+    say(out, if allowed { "ok yes" } else { "ok no" })?;
+    say(out, if other { " yes" } else { " no" })
+}

@@ -1,0 +1,155 @@
+// What a store over a real folder answers.
+
+use crate::given::{failed, long_name, name, path, same, told, write_files};
+use mx_base::Bytes;
+use std::alloc::Global;
+use std::os::unix::fs::{PermissionsExt, symlink};
+use std::test::Fail;
+use std::{fs, str};
+use tree_host::HostStore;
+use tree_store::{Store, StoreFault};
+
+// Adds the listed paths, with a blank after each, and a semicolon.
+fn push_listed(
+    store: &mut HostStore<HostRuntime>,
+    alloc: Global,
+    text: &mut String,
+    dir: &str,
+) -> Result<(), Fail> {
+    let dir = path(alloc, dir)?;
+    if dir.is_in_build() {
+        return Err(Fail::new("a folder of builds"));
+    }
+    for path in &told(store.list(alloc, &dir))? {
+        text.push_str(path.as_str())?;
+        text.push(' ')?;
+    }
+    text.push(';')?;
+    Ok(())
+}
+
+#[test]
+fn a_store_lists_files_in_byte_order(rt: HostRuntime) -> Result<(), Fail> {
+    let alloc = rt.alloc();
+    let files = ["a/b", "a-b", "a/c/d", "project.exs", "_build/x", "z/_build"];
+    write_files(rt, "listed", &files)?;
+    symlink(&rt, "a/b", "listed/file_link")?;
+    symlink(&rt, "a", "listed/folder_link")?;
+    symlink(&rt, "nowhere", "listed/empty_link")?;
+    symlink(&rt, "circle", "listed/circle")?;
+    let mut text = String::new(alloc);
+    let mut store = HostStore::new(rt, alloc, "listed")?;
+    for dir in &[
+        "",
+        "a",
+        "a/c",
+        "folder_link",
+        "folder_link/c",
+        "a/b",
+        "missing",
+    ] {
+        push_listed(&mut store, alloc, &mut text, *dir)?;
+    }
+    let mut missing = HostStore::new(rt, alloc, "missing")?;
+    push_listed(&mut missing, alloc, &mut text, "")?;
+    same(
+        text.as_str(),
+        "a-b a/b a/c/d file_link project.exs z/_build ;a/b a/c/d ;a/c/d ;;;;;;",
+    )
+}
+
+fn answer(
+    store: &mut HostStore<HostRuntime>,
+    alloc: Global,
+    file: &str,
+) -> Result<Result<Option<Bytes>, StoreFault>, Fail> {
+    let file = path(alloc, file)?;
+    if file.is_in_build() {
+        return Err(Fail::new("a folder of builds"));
+    }
+    Ok(store.get(alloc, &file))
+}
+
+// Adds the bytes of a file, or a hyphen where there is none, and a semicolon.
+fn push_read(
+    store: &mut HostStore<HostRuntime>,
+    alloc: Global,
+    text: &mut String,
+    file: &str,
+) -> Result<(), Fail> {
+    match told(answer(store, alloc, file)?)? {
+        Some(bytes) => text.push_str(str::from_utf8(bytes.as_slice())?)?,
+        None => text.push('-')?,
+    }
+    text.push(';')?;
+    Ok(())
+}
+
+#[test]
+fn a_store_reads_files(rt: HostRuntime) -> Result<(), Fail> {
+    let alloc = rt.alloc();
+    write_files(rt, "read", &["a/b"])?;
+    symlink(&rt, "a/b", "read/file_link")?;
+    symlink(&rt, "circle", "read/circle")?;
+    let mut text = String::new(alloc);
+    let mut store = HostStore::new(rt, alloc, "read")?;
+    for file in &["a/b", "file_link", "circle", "missing", "a/b/c"] {
+        push_read(&mut store, alloc, &mut text, *file)?;
+    }
+    same(text.as_str(), "a/b;a/b;-;-;-;")?;
+    failed(answer(&mut store, alloc, "a")?)
+}
+
+// Where no permission stops this user the test has nothing to show.
+#[test]
+fn a_file_that_may_not_be_read_is_a_fault(rt: HostRuntime) -> Result<(), Fail> {
+    let alloc = rt.alloc();
+    write_files(rt, "guarded", &["closed"])?;
+    fs::set_permissions(&rt, "guarded/closed", PermissionsExt::from_mode(0))?;
+    if fs::read(&rt, "guarded/closed").is_ok() {
+        return Ok(());
+    }
+    let mut store = HostStore::new(rt, alloc, "guarded")?;
+    failed(answer(&mut store, alloc, "closed")?)
+}
+
+// Adds the apps of an environment, with a blank after each, and a semicolon.
+fn push_apps(
+    store: &mut HostStore<HostRuntime>,
+    alloc: Global,
+    text: &mut String,
+    env: &str,
+) -> Result<(), Fail> {
+    let env = name(alloc, env)?;
+    for app in &told(store.apps(alloc, &env))? {
+        text.push_str(app.as_str())?;
+        text.push(' ')?;
+    }
+    text.push(';')?;
+    Ok(())
+}
+
+#[test]
+fn a_store_lists_apps_that_have_files(rt: HostRuntime) -> Result<(), Fail> {
+    let alloc = rt.alloc();
+    let files = ["b/x/y", "a/z", "a-b/z", "_c/z"];
+    write_files(rt, "apps/_build/dev/lib", &files)?;
+    fs::create_dir_all(&rt, "apps/_build/dev/lib/empty/e")?;
+    symlink(&rt, "a", "apps/_build/dev/lib/link")?;
+    let mut text = String::new(alloc);
+    let mut store = HostStore::new(rt, alloc, "apps")?;
+    push_apps(&mut store, alloc, &mut text, "dev")?;
+    push_apps(&mut store, alloc, &mut text, "test")?;
+    same(text.as_str(), "_c a b ;;")
+}
+
+// No system takes a name of 256 bytes.
+#[test]
+fn each_call_of_a_store_fails_in_a_root_that_cannot_be(rt: HostRuntime) -> Result<(), Fail> {
+    let alloc = rt.alloc();
+    let root = long_name(alloc)?;
+    let mut store = HostStore::new(rt, alloc, root.as_str())?;
+    failed(answer(&mut store, alloc, "x")?)?;
+    failed(store.list(alloc, &path(alloc, "")?))?;
+    failed(store.apps(alloc, &name(alloc, "dev")?))
+}
