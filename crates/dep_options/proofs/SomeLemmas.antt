@@ -18,7 +18,7 @@ Reads text = (r : Option Alternatives) × IsRequirement text r
 
 some_text : (text : List ℕ) (read : Result Alternatives ℕ) → run text Lead empty ≡ read → Reads (Some text) ⊎ IsBadRequirement (Some text)
 some_text text (Ok r) e = inl (Some r, Spells-run text r e)
-some_text text (Err left) e = inr (stuck text left e).1.nothing
+some_text text (Err left) e = inr (λ requirement spells. (stuck text left e).1.nothing (requirement, spells))
 
 -- a requirement that is written is one, or is bad
 some_requirement : (text : Option (List ℕ)) → Reads text ⊎ IsBadRequirement text
