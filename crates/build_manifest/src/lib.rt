@@ -1,0 +1,14 @@
+//! What a mark says, byte for byte.
+//!
+//! A mark stands beside the outputs of a built dependency and says what they were made from. Each mark
+//! has one text, and no mark's text is the beginning of another's. A layer above may rely on this: a
+//! `Mark` keeps to what its text can say, and `write_mark` gives that text.
+#![tactic(auto)]
+
+mod laws;
+mod mark;
+mod writing;
+
+pub use laws::{no_mark_begins_another, one_mark};
+pub use mark::{Digests, Mark, MarkFormat, NeedDigests};
+pub use writing::write_mark;
