@@ -1,8 +1,9 @@
 -- What is known of a plan before its jobs are made, and what a job is made of.
-use Rattle.std.specs.Prelude.{◌≡◌, ◌⊎◌, ℕ, ◌<◌, ◌≤◌, List, [], ◌∷◌, ◌++◌, length, position, Option, Some, Result, Ok, Err, IsTrue, slice_get, slice_index, nat_eq}
+use Rattle.std.specs.Prelude.{◌≡◌, ◌⊎◌, ℕ, ◌<◌, ◌≤◌, List, [], ◌∷◌, ◌++◌, length, position, Option, Some, Result, Ok, Err, IsTrue, slice_get, slice_index, nat_eq, refl}
 use Rattle.std.specs.List.{All, AllPairs, AllZip, Contains}
 use Rattle.semver.specs.declared.Version.{Version}
 use Rattle.mx_base.specs.declared.file.File.{File}
+use Rattle.mx_base.specs.Listing.{rows_of}
 use Rattle.compile_model.specs.declared.how.How.{How}
 use Rattle.compile_model.specs.declared.job.Job.{Job}
 use Rattle.compile_model.specs.declared.job.Origin.TheVariants.{Path as FromPath}
@@ -101,8 +102,10 @@ job_from settings row dir version sources needs need_apps = record {
   system_env = row.decl.system_env;
   dir = dir;
   sources = sources;
+  rows = rows_of sources;
   needs = needs;
   need_apps = need_apps;
+  listed = refl;
 }
 
 -- the job has its place in a plan, where so much room is left for its sources

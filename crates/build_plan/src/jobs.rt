@@ -26,7 +26,7 @@ use compile_model::{Job, Origin, Places};
 use compiler_drive::command;
 use dep_options::{Decl, Manager};
 use dep_rows::Row;
-use mx_base::{File, Files, Text, copy_text};
+use mx_base::{File, Files, Text, copy_text, listing_of};
 use project_file::{Project, manager_by_files};
 use std::alloc::{AllocError, Global};
 use tree_store::{Store, StoreFault};
@@ -119,6 +119,7 @@ fn job_of<S: Store>(
 }
 
 /// The job of a winner with these sources.
+#[tactic(auto, using(mx_base::proofs::ListingLemmas::apart_from_order))]
 fn described(
     alloc: Global,
     scene: &Scene<'_>,
@@ -136,6 +137,7 @@ fn described(
     let how = command(alloc, scene.settings, manager, &decl.compile)?;
     let version = version_of(alloc, &post.found.project)?;
     let options = options_text(alloc, &version, decl, manager, &how)?;
+    let rows = listing_of(alloc, sources.as_slice())?;
     Ok(Job {
         app: post.row.app.clone()?,
         version,
@@ -145,6 +147,7 @@ fn described(
         system_env: decl.system_env.clone()?,
         dir: post.found.dir.clone()?,
         sources,
+        rows,
         needs: places_of(alloc, scene, &post.reached)?,
         need_apps: apps_of(alloc, scene.rows, scene.places, &post.reached)?,
     })
