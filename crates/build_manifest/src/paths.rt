@@ -42,7 +42,7 @@ const NONE_MISSING: Missing = Missing {
     high: 0xBF,
 };
 
-fn missing(count: u8, low: u8, high: u8) -> Missing {
+fn expecting(count: u8, low: u8, high: u8) -> Missing {
     Missing { count, low, high }
 }
 
@@ -50,13 +50,13 @@ fn missing(count: u8, low: u8, high: u8) -> Missing {
 fn after_first(byte: u8) -> Option<Missing> {
     match byte {
         0x00..=0x7F => Some(NONE_MISSING),
-        0xC2..=0xDF => Some(missing(1, 0x80, 0xBF)),
-        0xE0 => Some(missing(2, 0xA0, 0xBF)),
-        0xED => Some(missing(2, 0x80, 0x9F)),
-        0xE1..=0xEF => Some(missing(2, 0x80, 0xBF)),
-        0xF0 => Some(missing(3, 0x90, 0xBF)),
-        0xF1..=0xF3 => Some(missing(3, 0x80, 0xBF)),
-        0xF4 => Some(missing(3, 0x80, 0x8F)),
+        0xC2..=0xDF => Some(expecting(1, 0x80, 0xBF)),
+        0xE0 => Some(expecting(2, 0xA0, 0xBF)),
+        0xED => Some(expecting(2, 0x80, 0x9F)),
+        0xE1..=0xEF => Some(expecting(2, 0x80, 0xBF)),
+        0xF0 => Some(expecting(3, 0x90, 0xBF)),
+        0xF1..=0xF3 => Some(expecting(3, 0x80, 0xBF)),
+        0xF4 => Some(expecting(3, 0x80, 0x8F)),
         _ => None,
     }
 }
@@ -68,7 +68,7 @@ fn next_missing(now: Missing, byte: u8) -> Option<Missing> {
     if byte < now.low || now.high < byte {
         return None;
     }
-    Some(missing(now.count - 1, 0x80, 0xBF))
+    Some(expecting(now.count - 1, 0x80, 0xBF))
 }
 
 fn next_segment(now: Segment, byte: u8) -> Option<Segment> {
