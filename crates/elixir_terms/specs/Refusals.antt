@@ -58,7 +58,9 @@ abbrev pub IsEnded : List ℕ → List Token → List ℕ → Type 0
 IsEnded text (token ∷ []) rest = IsFree text token rest
 IsEnded text tokens rest = Unit {0}
 
--- a key of a map stands at the front of the text: a keyword's key, or a term that the arrow may follow
+-- a key of a map reads in full at the front of the text, whatever follows it: a keyword's key with its colon and the
+-- blank, or a term where an arrow may follow, with whose tokens nothing goes on. An integer before `.` and a digit is a
+-- float under way, and a string or a bare atom directly before a colon is a keyword's key under way
 pub data KeyAhead : List Token → List ℕ → Term → Type 0 where
   keyword : {tokens : List Token} {text rest name : List ℕ} → Begins text (Key name) rest → KeyAhead tokens text (term.Atom name)
   entry : {tokens inner : List Token} {text rest : List ℕ} {key : Term} → past_blank text ≡ None → Leads inner text rest → IsTerm inner key → IsEnded text inner rest → (IsFloat text → ⊥) → AreOpen (tokens ++ inner ++ Arrow ∷ []) → KeyAhead tokens text key

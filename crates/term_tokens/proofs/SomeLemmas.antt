@@ -11,7 +11,8 @@ use Rattle.term_tokens.specs.Lexing.{past_blank, IsNarrow}
 use Rattle.term_tokens.specs.Local.{IsFree, IsFirst, Locally, takes}
 use Rattle.term_tokens.specs.Names.{is_blank}
 use Rattle.term_tokens.specs.Tokens.{Begins, Blanks, none, blank, comment, line_end}
-use Rattle.term_tokens.proofs.FaultLemmas.{Right, no_fault}
+use Rattle.term_tokens.proofs.MarkLemmas.{Right}
+use Rattle.term_tokens.proofs.FaultLemmas.{no_fault}
 use Rattle.term_tokens.proofs.TokenFaults.{lexed_right}
 
 -- a token that may stand there begins the text and nothing holds of it, or something holds first

@@ -15,7 +15,8 @@ use Rattle.term_tokens.specs.Names.{is_name_start}
 use Rattle.term_tokens.specs.Refused.{is_memory}
 use Rattle.term_tokens.specs.Tokens.{Begins}
 use Rattle.term_tokens.proofs.AtomFaults.{atom_right}
-use Rattle.term_tokens.proofs.FaultLemmas.{Right, Marked, lead, no_fault, unclosed_at}
+use Rattle.term_tokens.proofs.MarkLemmas.{Right, Marked, lead}
+use Rattle.term_tokens.proofs.FaultLemmas.{no_fault, unclosed_at}
 use Rattle.term_tokens.proofs.IntegerFaults.{integer_right}
 use Rattle.term_tokens.proofs.NameFaults.{name_right}
 use Rattle.term_tokens.proofs.OptionLemmas.{none_some}

@@ -161,7 +161,7 @@ fn no_key<'a>(bytes: Bytes, rest: &'a [u8], expected: Expected) -> Result<(Token
 }
 
 /// The bytes as a text, where they are UTF-8.
-#[tactic(auto, using(crate::proofs::StringLemmas::utf8_kept, crate::proofs::StringLemmas::utf8_refused))]
+#[tactic(auto, using(crate::proofs::EscapeLemmas::utf8_kept, crate::proofs::EscapeLemmas::utf8_refused))]
 fn utf8_text(bytes: Bytes) -> Option<Text>
     ensures { option_map (λ text. text) result ≡ utf8_only bytes }
 {
@@ -173,7 +173,7 @@ fn utf8_text(bytes: Bytes) -> Option<Text>
 
 /// The bytes that a string spells, after its opening quote, up to where it spells nothing more, and the text from
 /// there on.
-#[tactic(auto, using(crate::proofs::StringLemmas::spelt_all))]
+#[tactic(auto, using(crate::proofs::InsideLemmas::spelt_all))]
 fn spelt(alloc: Global, text: &[u8]) -> Result<(Bytes, &[u8]), AllocError>
     ensures { IfOk result (λ found. (found.0, found.1.now) ≡ spelt_at text.now) }
 {
@@ -264,7 +264,7 @@ fn byte_escape(text: &[u8]) -> Option<(Spelled, usize)>
 }
 
 /// The scalar value of one to six hexadecimal digits before `}`, after `u{`.
-#[tactic(auto, using(crate::proofs::StringLemmas::hex_digits))]
+#[tactic(auto, using(crate::proofs::InsideLemmas::hex_digits))]
 fn scalar_escape(text: &[u8]) -> Option<(Spelled, usize)>
     ensures value { option_map (λ found. (spelled found.0, found.1)) result ≡ scalar_of (hex_len text.now) text.now }
     ensures within { IfSome result (λ found. found.1 ≤ 2 + length text.now) }

@@ -1,7 +1,7 @@
 use Rattle.std.proofs.Common.{sym, ap, ◌∙◌}
 use Rattle.term_tokens.specs.Lexed.{with_bytes, spelt_at}
 use Rattle.term_tokens.specs.Lexing.{spelled}
-use Rattle.term_tokens.proofs.StringLemmas.{spelt_more}
+use Rattle.term_tokens.proofs.InsideLemmas.{spelt_more}
 use Rattle.term_tokens.proofs.strings.spelt.Goals as goal
 
 pub loop-value-preserved : goal.loop-value-preserved
