@@ -1,21 +1,18 @@
 -- How many levels a token needs of a term that it begins.
-use Rattle.std.proofs.Common.{◌≡◌, ℕ, ◌+◌, ◌≤◌, List, [], ◌∷◌, ◌++◌, map, Some, sym, subst, arith, append_assoc}
+use Rattle.std.proofs.Common.{◌≡◌, ℕ, ◌+◌, ◌≤◌, List, ◌∷◌, ◌++◌, map, arith}
 use Rattle.elixir_terms.specs.declared.frame.Frame.{Frame}
 use Rattle.elixir_terms.specs.declared.frame.Hole.{Hole}
-use Rattle.elixir_terms.specs.declared.frame.Slot.{Slot}
 use Rattle.elixir_terms.specs.declared.frame.Slot.TheVariants as slot
 use Rattle.elixir_terms.specs.declared.state.State.{State}
 use Rattle.elixir_terms.specs.declared.state.State.TheVariants as state
 use Rattle.term_values.specs.declared.term.Term.{Term}
-use Rattle.term_values.specs.declared.term.Term.TheVariants as term
 use Rattle.term_tokens.specs.declared.token.Token.{Token}
 use Rattle.term_tokens.specs.declared.token.Token.TheVariants.{Atom, Int, Str, Words, Open}
-use Rattle.term_print.specs.Grammar.{IsTerm, atom, integer, string, words, brackets, enclosed, word_term}
-use Rattle.term_values.specs.Views.{Pair}
+use Rattle.term_print.specs.Grammar.{IsTerm, atom, integer, string, words, brackets, word_term}
 use Rattle.elixir_terms.specs.Levels.{keyword_cost, levels}
 use Rattle.elixir_terms.specs.Machine.{part_slot}
 use Rattle.elixir_terms.specs.Refusals.{shallow, IsShallow}
-use Rattle.elixir_terms.proofs.Meaning.{FilledIn, Filled, Wants}
+use Rattle.elixir_terms.proofs.Meaning.{Wants}
 use Rattle.elixir_terms.proofs.StepForth.{Head, closes, by_part, by_key, head_of}
 use Rattle.elixir_terms.proofs.BoundedLemmas.{list_parts}
 use Rattle.elixir_terms.proofs.BelowLemmas.{enclosed_deep}

@@ -1,5 +1,5 @@
 -- A text is refused where a token makes too many levels.
-use Rattle.std.proofs.Common.{◌≡◌, ℕ, ◌+◌, ◌<◌, ◌≤◌, ◌⊎◌, inl, inr, true, false, List, [], ◌∷◌, ◌++◌, Some, length, refl, sym, ap, ◌∙◌, subst, arith, append_assoc, ⊎_elim}
+use Rattle.std.proofs.Common.{◌≡◌, ℕ, ◌+◌, ◌<◌, ◌≤◌, inl, inr, true, List, [], ◌∷◌, ◌++◌, Some, length, refl, sym, ap, ◌∙◌, subst, arith, append_assoc, ⊎_elim}
 use Rattle.std.specs.Str.{IsUtf8}
 use Rattle.std.proofs.Math.Nat.{eq-or-lt_of_le}
 use Rattle.std.proofs.lemmas.Bool.{false≢true}
@@ -19,7 +19,7 @@ use Rattle.term_tokens.specs.Local.{IsCapital, IsFree, takes, rank, Locally, cha
 use Rattle.elixir_terms.specs.Machine.{expected}
 use Rattle.elixir_terms.specs.Refusals.{AreTooDeep, IsStarted}
 use Rattle.elixir_terms.specs.Refusals as far
-use Rattle.term_tokens.specs.Tokens.{Begins, words, key}
+use Rattle.term_tokens.specs.Tokens.{Begins}
 use Rattle.elixir_terms.specs.Within.{deepest, longest}
 use Rattle.elixir_terms.proofs.HeldKeys.{Held, Again, held, starts, later}
 use Rattle.elixir_terms.proofs.AgainLemmas.{again}

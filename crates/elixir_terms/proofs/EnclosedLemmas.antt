@@ -1,5 +1,5 @@
 -- One more part in a bracket that can be closed.
-use Rattle.std.proofs.Common.{◌≡◌, ℕ, suc, ◌+◌, ◌-◌, true, List, [], ◌∷◌, ◌++◌, Option, Some, None, refl, sym, subst, arith, map}
+use Rattle.std.proofs.Common.{◌≡◌, ℕ, suc, ◌+◌, true, List, [], ◌∷◌, ◌++◌, Option, Some, None, refl, sym, subst, arith, map}
 use Rattle.std.proofs.lemmas.List.{append-nil}
 use Rattle.term_tokens.specs.declared.bracket.Bracket.{Bracket}
 use Rattle.term_tokens.specs.declared.bracket.Bracket.TheVariants as bracket
@@ -14,7 +14,7 @@ use Rattle.term_values.specs.declared.term.Term.TheVariants as term
 use Rattle.term_print.specs.Grammar.{enclosed, pair_tuple}
 use Rattle.term_values.specs.Views.{Pair}
 use Rattle.elixir_terms.specs.Levels.{keyword_cost, cost, levels}
-use Rattle.elixir_terms.specs.Machine.{with_item, with_entry, with_keyword, is_none, takes_key_in, part_slot, closed}
+use Rattle.elixir_terms.specs.Machine.{with_item, with_entry, with_keyword, is_none, takes_key_in, part_slot}
 use Rattle.elixir_terms.proofs.BoundedLemmas.{list_parts, tuple_parts, map_parts, all_join, all_split, all_head, pairs_join, pairs_split, tuples_push, pair_fits}
 use Rattle.elixir_terms.specs.Bounded.{AllBounded, PairsBounded, atom, list, tuple, mapping, none, more, no_pairs, more_pairs}
 use Rattle.elixir_terms.specs.Refusals.{shallow, IsShallow}

@@ -1,5 +1,5 @@
 -- A text is refused behind its whole term, and at its end before the term is whole.
-use Rattle.std.proofs.Common.{◌≡◌, ℕ, ◌+◌, ◌≤◌, ◌⊎◌, inl, inr, true, false, List, [], ◌∷◌, ◌++◌, None, length, take, refl, sym, ap, subst, arith, ⊎_elim}
+use Rattle.std.proofs.Common.{◌≡◌, ℕ, ◌+◌, ◌≤◌, inl, inr, List, [], ◌∷◌, ◌++◌, None, length, take, refl, sym, ap, subst, arith, ⊎_elim}
 use Rattle.std.specs.Str.{IsUtf8}
 use Rattle.std.proofs.Math.Nat.{eq-or-lt_of_le}
 use Rattle.std.proofs.lemmas.Bool.{false≢true}
@@ -29,7 +29,7 @@ use Rattle.elixir_terms.proofs.Runs.{first_wants}
 use Rattle.elixir_terms.proofs.StartLemmas.{started_some}
 use Rattle.elixir_terms.proofs.StopStates.{Beyond, Stop, early, Repeats}
 use Rattle.elixir_terms.proofs.StopLemmas.{stop_beyond, stop_open, early_beyond}
-use Rattle.elixir_terms.proofs.TrailLemmas.{Trail, trail_solid, trail_runs, behind}
+use Rattle.elixir_terms.proofs.TrailLemmas.{Trail, trail_solid, trail_runs}
 use Rattle.elixir_terms.proofs.FaultRefusals.{stands_of, no_whole}
 use Rattle.elixir_terms.proofs.DeepRefusals.{done_takes, some_rest}
 

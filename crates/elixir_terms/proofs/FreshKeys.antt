@@ -1,6 +1,6 @@
 -- What holds of a state that was read to: it is within the limits, and the key that was read last is new.
 use Rattle.std.specs.Prelude.{option_and_then}
-use Rattle.std.proofs.Common.{◌≡◌, ℕ, ◌+◌, ◌-◌, List, [], ◌∷◌, ◌++◌, Some, map, refl, sym, ap, ◌∙◌, subst, arith, append_assoc}
+use Rattle.std.proofs.Common.{◌≡◌, ℕ, ◌+◌, List, [], ◌∷◌, ◌++◌, Some, map, refl, sym, ap, ◌∙◌, subst, arith, append_assoc}
 use Rattle.std.proofs.lemmas.List.{map-append}
 use Rattle.term_tokens.specs.declared.bracket.Bracket.{Bracket}
 use Rattle.term_tokens.specs.declared.bracket.Bracket.TheVariants as bracket
@@ -14,7 +14,7 @@ use Rattle.term_values.specs.declared.term.Term.TheVariants as term
 use Rattle.term_tokens.specs.declared.token.Token.{Token}
 use Rattle.term_values.specs.Views.{Pair}
 use Rattle.elixir_terms.specs.Machine.{step, NewIn, NewInSlot, IsNew, KeysDiffer}
-use Rattle.elixir_terms.specs.Within.{deepest, IsNone, Differ, limits, Fits}
+use Rattle.elixir_terms.specs.Within.{deepest, IsNone, Differ, Fits}
 use Rattle.elixir_terms.proofs.ApartLemmas.{StateApart, step_apart, allows, differ_at, none_join, none_part}
 use Rattle.elixir_terms.proofs.FittingLemmas.{fitting}
 use Rattle.elixir_terms.proofs.KeptLemmas.{StateFits, NextFits, step_fits}
@@ -22,7 +22,6 @@ use Rattle.elixir_terms.proofs.LimitLemmas.{enclosed_differ}
 use Rattle.elixir_terms.proofs.Meaning.{FilledIn, Filled, Wants}
 use Rattle.elixir_terms.proofs.OpenLemmas.{runs, start}
 use Rattle.term_tokens.proofs.OptionLemmas.{some_same}
-use Rattle.elixir_terms.proofs.PlaceLemmas.{within}
 use Rattle.elixir_terms.proofs.PrefixLemmas.{AllSound, start_sound, next_sound}
 use Rattle.elixir_terms.proofs.TrailLemmas.{Stood, Trail, rests, steps}
 

@@ -1,6 +1,6 @@
 -- A key of a map that comes again, and the token in its midst at which the reading stopped.
 use Rattle.std.specs.Prelude.{option_and_then}
-use Rattle.std.proofs.Common.{◌≡◌, ◌≢◌, ℕ, suc, ◌+◌, ◌-◌, ◌⊎◌, inl, inr, true, List, [], ◌∷◌, ◌++◌, Some, map, refl, sym, ap, ◌∙◌, subst, arith, ⊎_elim}
+use Rattle.std.proofs.Common.{◌≡◌, ◌≢◌, ℕ, suc, ◌+◌, ◌⊎◌, inl, inr, true, List, [], ◌∷◌, ◌++◌, Some, map, refl, sym, ap, ◌∙◌, subst, arith, ⊎_elim}
 use Rattle.std.proofs.lemmas.List.{append-nil}
 use Rattle.term_tokens.specs.declared.bracket.Bracket.TheVariants as bracket
 use Rattle.elixir_terms.specs.declared.frame.Frame.{Frame}
@@ -28,7 +28,7 @@ use Rattle.elixir_terms.proofs.BelowLemmas.{one_key, enclosed_deep}
 use Rattle.elixir_terms.proofs.LiftLemmas.{lifted}
 use Rattle.elixir_terms.proofs.OpenLemmas.{runs, start, runs_append, open_runs, after_some}
 use Rattle.term_tokens.proofs.OptionLemmas.{some_same}
-use Rattle.elixir_terms.proofs.PlaceLemmas.{Past, behind}
+use Rattle.elixir_terms.proofs.PlaceLemmas.{Past}
 use Rattle.elixir_terms.proofs.PrefixLemmas.{AllSound}
 use Rattle.elixir_terms.proofs.ShutLemmas.{is_single}
 use Rattle.elixir_terms.proofs.EnclosedLemmas.{HolesSound, StateSound}

@@ -13,10 +13,8 @@ use Rattle.term_values.specs.declared.term.Term.{Term}
 use Rattle.term_values.specs.declared.term.Term.TheVariants as term
 use Rattle.term_tokens.specs.declared.token.Closing.{Closing}
 use Rattle.term_tokens.specs.declared.token.Token.{Token}
-use Rattle.term_tokens.specs.declared.token.WordKind.{WordKind}
-use Rattle.term_tokens.specs.declared.token.WordKind.TheVariants.{Strings, Atoms}
 use Rattle.term_tokens.specs.declared.token.Token.TheVariants.{Atom, Int, Str, Words, Key, Open, Close, Comma, Arrow}
-use Rattle.term_print.specs.Grammar.{pair_tuple, enclosed, word_term, word_list}
+use Rattle.term_print.specs.Grammar.{pair_tuple, enclosed, word_list}
 use Rattle.term_values.specs.Views.{Pair}
 use Rattle.elixir_terms.specs.Levels.{keyword_cost, cost_in, cost, levels, HasRoom, Enters}
 use Rattle.term_tokens.specs.Lexing.{IsNarrow}

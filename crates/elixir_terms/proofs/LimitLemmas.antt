@@ -1,8 +1,7 @@
 -- A state that wants the rest of a term within the limits takes the next token within the limits.
-use Rattle.std.proofs.Common.{◌≡◌, ℕ, ◌+◌, List, [], ◌∷◌, ◌++◌, map, Some, sym, subst, arith, append_assoc}
+use Rattle.std.proofs.Common.{◌≡◌, ℕ, List, [], ◌∷◌, ◌++◌, map, Some, subst, arith}
 use Rattle.elixir_terms.specs.declared.frame.Frame.{Frame}
 use Rattle.elixir_terms.specs.declared.frame.Hole.{Hole}
-use Rattle.elixir_terms.specs.declared.frame.Slot.{Slot}
 use Rattle.elixir_terms.specs.declared.frame.Slot.TheVariants as slot
 use Rattle.elixir_terms.specs.declared.state.State.{State}
 use Rattle.elixir_terms.specs.declared.state.State.TheVariants as state
@@ -14,11 +13,11 @@ use Rattle.term_tokens.specs.declared.bracket.Bracket.{Bracket}
 use Rattle.term_tokens.specs.declared.bracket.Bracket.TheVariants as bracket
 use Rattle.term_print.specs.Grammar.{IsTerm, atom, integer, string, words, brackets, enclosed, word_term}
 use Rattle.term_values.specs.Views.{Pair}
-use Rattle.elixir_terms.specs.Levels.{levels, HasRoom, Enters}
+use Rattle.elixir_terms.specs.Levels.{HasRoom, Enters}
 use Rattle.term_tokens.specs.Lexing.{IsNarrow}
 use Rattle.elixir_terms.specs.Machine.{part_slot, BeginsWell, PartWell, ElementWell, Allows, KeysDiffer}
 use Rattle.elixir_terms.specs.Within.{deepest, limits, Fits}
-use Rattle.elixir_terms.proofs.Meaning.{Values, FilledIn, AfterEntry, Filled, Wants}
+use Rattle.elixir_terms.proofs.Meaning.{Values, AfterEntry, Filled, Wants}
 use Rattle.elixir_terms.proofs.StepForth.{Head, closes, by_part, by_key, head_of, Joint, shut, goes_on, joint_of}
 use Rattle.elixir_terms.proofs.BoundedLemmas.{integer_rule, list_parts, map_parts}
 use Rattle.elixir_terms.proofs.BelowLemmas.{enclosed_deep}

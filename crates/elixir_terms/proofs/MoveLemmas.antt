@@ -1,6 +1,6 @@
 -- What the reader answers of one token.
 use Rattle.std.specs.Prelude.{IsTrue, IsFalse, ◌↔◌}
-use Rattle.std.proofs.Common.{◌≡◌, ℕ, ◌+◌, Bool, true, List, [], None, eqb, length, refl, sym, ap, ◌∙◌, subst, arith, ⊎_elim}
+use Rattle.std.proofs.Common.{◌≡◌, ℕ, ◌+◌, Bool, true, List, [], eqb, length, refl, sym, ap, ◌∙◌, subst, arith, ⊎_elim}
 use Rattle.std.proofs.lemmas.Bool.{true≢false, eqb-true, eqb-false}
 use Rattle.std.proofs.lemmas.List.{nil_from_length, length-set}
 use Rattle.term_tokens.specs.declared.cause.TermCause.{TermCause}

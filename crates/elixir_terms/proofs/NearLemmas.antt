@@ -15,7 +15,7 @@ use Rattle.term_tokens.specs.declared.token.Token.TheVariants.{Atom, Int, Str, W
 use Rattle.term_tokens.specs.Lexing.{past_blank, IsNarrow, IsWide}
 use Rattle.term_tokens.specs.Local.{IsFloat, starts_with, is_plain, takes, rank, Locally, charlist, sigil, heredoc, bits, interpolation, interpolated_words, float, alias_alone, alias, escape, escape_in_words, atom_utf8, key_utf8, number, colon_after, unclosed, unexpected, IsFirst}
 use Rattle.elixir_terms.specs.Machine.{expected}
-use Rattle.term_tokens.specs.Tokens.{Begins, atom, integer, string}
+use Rattle.term_tokens.specs.Tokens.{Begins}
 use Rattle.term_tokens.proofs.CalmLemmas.{calm, Marred, fraction, quotes}
 use Rattle.elixir_terms.proofs.ShutLemmas.{is_single, joint_byte, Tied, tied}
 use Rattle.elixir_terms.proofs.SoundLemmas.{need}

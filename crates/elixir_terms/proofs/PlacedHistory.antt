@@ -1,5 +1,5 @@
 -- What the tokens were that lead to a state, and one more term.
-use Rattle.std.proofs.Common.{◌≡◌, ℕ, arith, length, List, [], ◌∷◌, ◌++◌, Some, sym, ap, ◌∙◌, subst, append_assoc}
+use Rattle.std.proofs.Common.{◌≡◌, ℕ, length, List, [], ◌∷◌, ◌++◌, Some, sym, ap, ◌∙◌, subst, append_assoc}
 use Rattle.std.proofs.lemmas.List.{append-nil}
 use Rattle.term_tokens.specs.declared.bracket.Bracket.TheVariants as bracket
 use Rattle.elixir_terms.specs.declared.frame.Frame.{Frame}
@@ -13,7 +13,7 @@ use Rattle.term_values.specs.declared.term.Term.TheVariants as term
 use Rattle.term_tokens.specs.declared.token.Token.{Token}
 use Rattle.term_tokens.specs.declared.token.Token.TheVariants.{Key, Open, Close, Comma, Arrow}
 use Rattle.elixir_terms.specs.Codes.{keys_in}
-use Rattle.term_print.specs.Grammar.{IsTerm, brackets, Inside, element, entry, keyword, Follows, enclosed, closing_of}
+use Rattle.term_print.specs.Grammar.{IsTerm, Inside, element, entry, keyword, Follows, enclosed, closing_of}
 use Rattle.term_values.specs.Views.{Pair}
 use Rattle.elixir_terms.specs.Machine.{with_item, with_entry, with_keyword, is_none, placed, placed_in}
 use Rattle.elixir_terms.specs.Refusals.{Pairs, none as no_pair, entry as entry_pair, keyword as keyword_pair}

@@ -1,6 +1,6 @@
 -- What was read, and a part of one more token, begins a text of the grammar.
 use Rattle.std.specs.Prelude.{IsTrue, IsFalse}
-use Rattle.std.proofs.Common.{◌≡◌, ℕ, ◌+◌, ◌≤◌, ◌⊎◌, Bool, true, false, ◌&&◌, cond, List, [], ◌∷◌, ◌++◌, Some, None, refl, sym, ap, ◌∙◌, subst, arith, append_assoc, ⊎_elim, map}
+use Rattle.std.proofs.Common.{◌≡◌, ℕ, ◌+◌, ◌≤◌, ◌⊎◌, Bool, true, false, ◌&&◌, cond, List, [], ◌∷◌, ◌++◌, Some, None, refl, sym, ap, ◌∙◌, subst, arith, append_assoc, ⊎_elim}
 use Rattle.std.proofs.lemmas.List.{append-nil}
 use Rattle.std.proofs.lemmas.Bool.{eqb-true}
 use Rattle.term_tokens.specs.declared.bracket.Bracket.{Bracket}
@@ -10,22 +10,18 @@ use Rattle.elixir_terms.specs.declared.frame.Hole.{Hole}
 use Rattle.elixir_terms.specs.declared.frame.Slot.TheVariants as slot
 use Rattle.elixir_terms.specs.declared.state.State.{State}
 use Rattle.elixir_terms.specs.declared.state.State.TheVariants as state
-use Rattle.term_values.specs.declared.term.Term.{Term}
 use Rattle.term_values.specs.declared.term.Term.TheVariants as term
 use Rattle.term_tokens.specs.declared.token.Closing.{Closing}
 use Rattle.term_tokens.specs.declared.token.Closing.TheVariants.{Square, Curly}
 use Rattle.term_tokens.specs.declared.token.Token.{Token}
-use Rattle.term_tokens.specs.declared.token.WordKind.{WordKind}
-use Rattle.term_tokens.specs.declared.token.WordKind.TheVariants.{Strings, Atoms}
 use Rattle.term_tokens.specs.declared.token.Token.TheVariants.{Atom, Int, Str, Words, Key, Open, Close, Comma, Arrow}
-use Rattle.term_print.specs.Grammar.{closing_of, word_term, word_list}
+use Rattle.term_print.specs.Grammar.{closing_of, word_list}
 use Rattle.elixir_terms.specs.Levels.{keyword_cost, cost_in, levels}
 use Rattle.term_tokens.specs.Local.{is_plain, IsFree, is_closing, takes, IsPart}
 use Rattle.elixir_terms.specs.Machine.{is_closed_by, takes_part, part_slot, placed, closed, step, expected}
 use Rattle.elixir_terms.specs.Prefixes.{AreOpen, IsOpenText}
-use Rattle.term_tokens.specs.Tokens.{Begins, bare_atom, atom, quoted_atom, integer, string, words, key, quoted_key, opens, closes, comma, arrow, none, AreTokens}
+use Rattle.term_tokens.specs.Tokens.{Begins, none, AreTokens}
 use Rattle.elixir_terms.specs.Within.{deepest}
-use Rattle.term_tokens.specs.Words.{Modified, none as plain_words, strings, atoms}
 use Rattle.elixir_terms.proofs.EndLemmas.{is_apart, state_ends}
 use Rattle.term_tokens.proofs.FollowLemmas.{Like, ended, broken, moves}
 use Rattle.elixir_terms.proofs.Meaning.{WantsNext}

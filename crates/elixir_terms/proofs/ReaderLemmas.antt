@@ -1,5 +1,5 @@
 -- What the reader knows at each token, and the refusals that it tells.
-use Rattle.std.proofs.Common.{get_or, ◌≡◌, ℕ, ◌+◌, ◌-◌, ◌<◌, ◌≤◌, List, [], ◌∷◌, ◌++◌, None, length, refl, sym, ap, ◌∙◌, subst, arith}
+use Rattle.std.proofs.Common.{get_or, ◌≡◌, ℕ, ◌+◌, ◌<◌, ◌≤◌, List, [], ◌∷◌, ◌++◌, None, length, refl, sym, ap, ◌∙◌, subst, arith}
 use Rattle.std.specs.Str.{IsUtf8}
 use Rattle.std.proofs.Math.ListN.{set}
 use Rattle.std.proofs.lemmas.List.{get_or_read, get_or-set_same, get_or-set_other, length-set}
@@ -16,12 +16,11 @@ use Rattle.term_tokens.specs.declared.token.Token.TheVariants.{Atom, Int, Str, W
 use Rattle.term_tokens.specs.Lexing.{past_blank}
 use Rattle.elixir_terms.specs.Levels.{levels}
 use Rattle.elixir_terms.specs.Reading.{noted, Stands, Moves, Stops, trailing, lexed, deep, deep_words, again as again_key, Advances, Halts, stops, repeats}
-use Rattle.elixir_terms.specs.Machine.{depth, NewKeyword, NewEntry, HasLevels, begun, step}
+use Rattle.elixir_terms.specs.Machine.{depth, NewKeyword, NewEntry, HasLevels, begun}
 use Rattle.elixir_terms.specs.Refusals as far
 use Rattle.term_tokens.specs.Tokens.{Blanks}
 use Rattle.elixir_terms.specs.Within.{longest}
 use Rattle.elixir_terms.proofs.FreshKeys.{start_good, trail_good}
-use Rattle.elixir_terms.proofs.AgainLemmas.{again}
 use Rattle.elixir_terms.proofs.DepthLemmas.{few_holes}
 use Rattle.elixir_terms.proofs.PlacedHistory.{History}
 use Rattle.elixir_terms.proofs.HistoryLemmas.{step_history, element_map}

@@ -1,5 +1,5 @@
 -- Where the lexer stops, what it says is the refusal of the text.
-use Rattle.std.proofs.Common.{◌≡◌, ℕ, ◌+◌, ◌≤◌, ◌⊎◌, inl, inr, true, false, not, ◌&&◌, cond, List, [], ◌∷◌, ◌++◌, Some, None, length, refl, sym, ap, ◌∙◌, subst, arith, append_assoc, ⊎_elim}
+use Rattle.std.proofs.Common.{◌≡◌, ℕ, ◌+◌, ◌≤◌, inl, inr, true, false, not, ◌&&◌, cond, List, [], ◌∷◌, ◌++◌, Some, None, length, refl, sym, ap, ◌∙◌, subst, arith, append_assoc, ⊎_elim}
 use Rattle.std.proofs.lemmas.Bool.{true≢false, false≢true, and_from}
 use Rattle.std.proofs.lemmas.List.{append-nil, length-append}
 use Rattle.term_tokens.specs.declared.bracket.Bracket.TheVariants as bracket
@@ -17,7 +17,7 @@ use Rattle.term_tokens.specs.declared.token.Token.{Token}
 use Rattle.term_tokens.specs.declared.token.WordKind.TheVariants.{Strings}
 use Rattle.term_tokens.specs.declared.token.Token.TheVariants.{Atom, Int, Str, Words, Key, Open, Close, Comma, Arrow}
 use Rattle.term_tokens.specs.Lexing.{past_blank, IsNarrow}
-use Rattle.term_tokens.specs.Local.{starts_with, is_plain, takes, bits, colon_after, IsFirst}
+use Rattle.term_tokens.specs.Local.{starts_with, is_plain, takes, colon_after, IsFirst}
 use Rattle.elixir_terms.specs.Machine.{is_none, takes_part, part_slot, placed, placed_in, step, expected}
 use Rattle.elixir_terms.specs.Refusals.{AreTooDeep, IsStarted, whole_token, open_words, Holds}
 use Rattle.term_tokens.specs.Tokens.{Begins, bare_atom, atom, quoted_atom, integer, string, words, key, quoted_key, opens, closes, comma, arrow}

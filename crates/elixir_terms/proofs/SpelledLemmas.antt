@@ -11,7 +11,6 @@ use Rattle.term_values.specs.declared.term.Term.{Term}
 use Rattle.term_tokens.specs.declared.token.Token.{Token}
 use Rattle.term_tokens.specs.declared.token.Token.TheVariants.{Open}
 use Rattle.term_print.specs.Grammar.{IsTerm}
-use Rattle.term_values.specs.Views.{Pair}
 use Rattle.term_tokens.specs.Lexing.{past_blank, IsNarrow}
 use Rattle.term_tokens.specs.Local.{starts_with, is_plain, IsFree, Locally}
 use Rattle.elixir_terms.specs.Machine.{expected}
@@ -19,8 +18,7 @@ use Rattle.elixir_terms.specs.Refusals as far
 use Rattle.elixir_terms.specs.Refusals.{IsShallow, Holds, IsRefusal}
 use Rattle.term_print.specs.Spells.{Spells}
 use Rattle.term_tokens.specs.Tokens.{AreTokens, Begins}
-use Rattle.elixir_terms.specs.Within.{deepest, longest, Fits, Within}
-use Rattle.elixir_terms.specs.Within as fits
+use Rattle.elixir_terms.specs.Within.{deepest, Fits, Within}
 use Rattle.elixir_terms.proofs.FreshKeys.{wants_new}
 use Rattle.elixir_terms.proofs.HeldKeys.{Again, held, starts, later}
 use Rattle.elixir_terms.proofs.AgainLemmas.{again}

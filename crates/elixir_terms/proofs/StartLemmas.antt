@@ -1,8 +1,7 @@
 -- Tokens that start at a place, and how many levels they need.
-use Rattle.std.proofs.Common.{◌≡◌, ℕ, ◌+◌, ◌<◌, ◌≤◌, true, eqb, List, [], ◌∷◌, ◌++◌, Some, None, length, drop, take, map, refl, sym, ap, subst, arith}
+use Rattle.std.proofs.Common.{◌≡◌, ℕ, ◌+◌, ◌<◌, ◌≤◌, true, eqb, List, [], ◌∷◌, ◌++◌, Some, None, length, drop, take, refl, sym, ap, subst, arith}
 use Rattle.elixir_terms.specs.declared.state.State.{State}
 use Rattle.elixir_terms.specs.declared.state.State.TheVariants as state
-use Rattle.term_values.specs.declared.term.Term.{Term}
 use Rattle.term_tokens.specs.declared.token.Token.{Token}
 use Rattle.term_tokens.specs.declared.token.WordKind.{WordKind}
 use Rattle.term_tokens.specs.declared.token.WordKind.TheVariants.{Strings}
@@ -11,7 +10,6 @@ use Rattle.term_tokens.specs.Lexing.{past_blank, inside_len, kind_of, words_from
 use Rattle.term_tokens.specs.Local.{takes}
 use Rattle.elixir_terms.specs.Machine.{expected}
 use Rattle.elixir_terms.specs.Refusals.{AreTooDeep, IsStarted, whole_token, open_words}
-use Rattle.elixir_terms.specs.Refusals as far
 use Rattle.term_tokens.specs.Tokens.{Begins}
 use Rattle.elixir_terms.specs.Within.{deepest}
 use Rattle.elixir_terms.proofs.EndLemmas.{state_ends}

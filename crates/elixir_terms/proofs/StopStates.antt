@@ -1,6 +1,6 @@
 -- A state in which the reading stops, and what stands near.
 use Rattle.std.specs.Prelude.{IsTrue, IsFalse}
-use Rattle.std.proofs.Common.{◌≡◌, ℕ, ◌+◌, ◌<◌, ◌≤◌, ◌⊎◌, inl, inr, Bool, true, false, List, [], ◌∷◌, ◌++◌, Some, None, length, take, refl, sym, ◌∙◌, subst, arith, append_assoc, ⊎_elim}
+use Rattle.std.proofs.Common.{◌≡◌, ℕ, ◌+◌, ◌<◌, ◌≤◌, ◌⊎◌, inl, inr, Bool, true, false, List, [], ◌∷◌, ◌++◌, Some, None, length, take, refl, sym, ◌∙◌, subst, append_assoc, ⊎_elim}
 use Rattle.std.proofs.lemmas.Bool.{true≢false}
 use Rattle.term_tokens.specs.declared.bracket.Bracket.TheVariants as bracket
 use Rattle.term_tokens.specs.declared.cause.TermCause.{TermCause}
@@ -17,10 +17,8 @@ use Rattle.elixir_terms.specs.Prefixes.{AreOpen, Leads, none as no_token, token 
 use Rattle.elixir_terms.specs.Refusals.{AreTooDeep, Pairs, KeyAhead, IsOneOf, IsStarted}
 use Rattle.term_tokens.specs.Tokens.{Begins, AreTokens}
 use Rattle.term_tokens.proofs.BlankLemmas.{blanks_stop}
-use Rattle.term_tokens.proofs.FollowLemmas.{same}
 use Rattle.elixir_terms.proofs.OpenLemmas.{runs, start, runs_append, open_runs, after_some, term_expected, key_expected}
 use Rattle.term_tokens.proofs.OptionLemmas.{some_same}
-use Rattle.elixir_terms.proofs.PlaceLemmas.{there, behind}
 use Rattle.elixir_terms.proofs.PrefixLemmas.{AllSound, step_open}
 use Rattle.elixir_terms.proofs.ShutLemmas.{is_single, is_joint, joint_byte, IsPlaced, second_joint, placed_joins}
 use Rattle.term_tokens.proofs.TokenLemmas.{start_not}

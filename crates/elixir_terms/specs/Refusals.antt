@@ -13,7 +13,6 @@ use Rattle.term_tokens.specs.declared.token.WordKind.TheVariants.{Strings}
 use Rattle.term_tokens.specs.declared.token.Token.TheVariants.{Int, Words, Key, Open, Comma, Arrow}
 use Rattle.term_print.specs.Grammar.{IsTerm}
 use Rattle.elixir_terms.specs.Bounded.{Rules, Bounded}
-use Rattle.term_values.specs.Views.{Pair}
 use Rattle.term_tokens.specs.Lexing.{past_blank, IsWide}
 use Rattle.term_tokens.specs.Local.{IsOpening, IsCapital, IsDecimal, IsNoEscape, IsFloat, IsFree, is_plain, rank}
 use Rattle.term_tokens.specs.Names.{is_name, is_blank}

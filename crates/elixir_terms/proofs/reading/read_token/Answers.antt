@@ -1,4 +1,3 @@
-use Rattle.std.proofs.Common.{sym, subst, arith, ⊎_elim}
 use Rattle.std.proofs.lemmas.Result.{err_from_is_err_and}
 use Rattle.elixir_terms.proofs.MoveLemmas.{stops_stuck}
 use Rattle.elixir_terms.proofs.reading.read_token.Goals as goal

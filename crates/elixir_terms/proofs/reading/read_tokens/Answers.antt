@@ -1,4 +1,4 @@
-use Rattle.std.proofs.Common.{◌≡◌, [], length, sym, ap, subst, arith}
+use Rattle.std.proofs.Common.{◌≡◌, [], length, sym, subst, arith}
 use Rattle.std.proofs.lemmas.Result.{err_from_is_err_and, IfOk-weaker, IfErr-weaker}
 use Rattle.elixir_terms.specs.Refusals as far
 use Rattle.elixir_terms.proofs.MoveLemmas.{empty_is, more_is}
