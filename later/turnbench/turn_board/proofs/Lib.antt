@@ -1,0 +1,11 @@
+pub mod Sums
+pub mod Frames
+pub mod Steps
+pub mod Counting
+pub mod Opening
+pub mod Splitting
+pub mod Joining
+pub mod Ends
+pub mod Tokens
+pub mod Closing
+pub mod Fresh

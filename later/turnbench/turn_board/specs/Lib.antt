@@ -1,0 +1,5 @@
+pub mod Histories
+pub mod Sights
+pub mod Turn
+pub mod Seats
+pub mod Inside
