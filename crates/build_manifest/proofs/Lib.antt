@@ -1,4 +1,0 @@
-pub mod Lines
-pub mod Parts
-pub mod Pushes
-pub mod Whole
