@@ -1,0 +1,14 @@
+pub mod SeqPlaces
+pub mod Needs
+pub mod Places
+pub mod LotLemmas
+pub mod Tidy
+pub mod HistoryLength
+pub mod Exact
+pub mod Offers
+pub mod TableLemmas
+pub mod Confluent
+pub mod Starts
+pub mod Backs
+pub mod Complete
+pub mod CoreLemmas
