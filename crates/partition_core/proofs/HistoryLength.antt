@@ -29,7 +29,7 @@ open_weight (Some fate) = 0
 abbrev left : State → ℕ
 left s = sum_by open_weight s.fates + sum_by weight s.standings
 
-sum_set : {X : Type 0} (f : X → ℕ) (xs : List X) (i : ℕ) (x y : X) → slice_get xs i ≡ Some y → sum_by f (slice_set xs i x) + f y ≡ sum_by f xs + f x
+pub sum_set : {X : Type 0} (f : X → ℕ) (xs : List X) (i : ℕ) (x y : X) → slice_get xs i ≡ Some y → sum_by f (slice_set xs i x) + f y ≡ sum_by f xs + f x
 sum_set {X} f xs i x y e =
     ap (λ (z : X). sum_by f (slice_set xs i x) + f z) (sym (get_or_from_slice_get xs i y y e)) ∙ sum_by-set f xs i x y (slice_get_within xs i y e)
 
@@ -48,7 +48,8 @@ ran_left s place by fate tidy holds =
 step_left : (o : Opening) (s : State) → Tidy s → (event : Event) → IsLegal o s event → left (after o s event) + 1 ≤ left s
 step_left o s tidy (Keep place by) legal =
     let parts = kept_parts (at o.kept place) (slice_get o.plan.jobs place) (outcomes_now s.fates (needs_at o place)) legal.2 in
-    let fate : option_map (λ (kept : Kept). Built kept.outcome) (at o.kept place) ≡ Some (Built parts.0.outcome) = ap (option_map (λ (kept : Kept). Built kept.outcome)) parts.2 in
+    let fate : option_map (λ (kept : Kept). Built kept.outcome) (at o.kept place) ≡ Some (Built parts.0.outcome) =
+    ap (option_map (λ (kept : Kept). Built kept.outcome)) parts.2 in
     let a = settle_left s place (Built parts.0.outcome) legal.0.open_place in
     omega (arith, a, ap (λ (f : Option Fate). left (settle s place f)) fate)
 step_left o s tidy (Start place by) legal = omega (arith, stand_left s by (Runs place) Idle legal.0.idle)
@@ -64,4 +65,10 @@ all_left o s (event ∷ events) tidy legal =
 
 pub bounded : (o : Opening) (events : List Event) → Legal o events → length events ≤ 2 * (length o.plan.jobs + o.partitions)
 bounded o events legal =
-    omega (arith, all_left o (start_of o) events (tidy_start o) legal, sum_by-replicate open_weight (length o.plan.jobs) None, sum_by-replicate weight o.partitions Idle)
+    omega (
+      arith,
+      all_left o (start_of o) events (tidy_start o) legal,
+      sum_by-replicate open_weight (length o.plan.jobs) None,
+      sum_by-replicate weight
+          o.partitions Idle,
+    )

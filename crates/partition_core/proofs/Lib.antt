@@ -6,8 +6,15 @@ pub mod Tidy
 pub mod HistoryLength
 pub mod Exact
 pub mod Offers
+pub mod Fronts
+pub mod Touched
+pub mod Offered
+pub mod PlaceSetLemmas
+pub mod OutlookLemmas
 pub mod TableLemmas
+pub mod AgendaTables
 pub mod Confluent
+pub mod CountsBelow
 pub mod Starts
 pub mod Backs
 pub mod Complete

@@ -9,7 +9,8 @@ use Rattle.staleness.specs.Matching.{matches}
 use Rattle.partition_core.specs.declared.event.Standing.{Standing}
 use Rattle.partition_core.specs.State.{at, standing, kept_matches}
 
-pub get_set : {X : Type 0} (xs : List X) (i j : ℕ) (x y : X) → slice_get (slice_set xs i x) j ≡ Some y → ((j ≡ i) × (x ≡ y)) ⊎ ((j ≢ i) × (slice_get xs j ≡ Some y))
+pub get_set : {X : Type 0} (xs : List X) (i j : ℕ) (x y : X) → slice_get (slice_set xs i x) j ≡ Some y →
+    ((j ≡ i) × (x ≡ y)) ⊎ ((j ≢ i) × (slice_get xs j ≡ Some y))
 get_set [] i j x y e = cc
 get_set (z ∷ zs) zero zero x y e = inl (refl, cc)
 get_set (z ∷ zs) zero (suc j) x y e = inr (λ h. cc, e)
@@ -45,7 +46,8 @@ pub standing_get : (standings : List Standing) (by : ℕ) (now : Standing) → s
 standing_get standings by now e = (standing_of_cases (by == 0) (slice_get standings (by - 1)) now e).1
 
 -- lists of one length have the same places
-pub also_there : {X Y : Type 0} (xs : List X) (ys : List Y) (i : ℕ) (x : X) → length xs ≡ length ys → slice_get xs i ≡ Some x → (y : Y) × (slice_get ys i ≡ Some y)
+pub also_there : {X Y : Type 0} (xs : List X) (ys : List Y) (i : ℕ) (x : X) → length xs ≡ length ys → slice_get xs i ≡ Some x →
+    (y : Y) × (slice_get ys i ≡ Some y)
 also_there xs ys i x long is =
     elim (slice_get_cases ys i).1 [ inl found ↦ (found.0, found.2) | inr past ↦ absurd (let h : i < length xs = slice_get_within xs i x is in omega arith) ]
 
@@ -55,7 +57,8 @@ get_replicate (suc n) zero x y e = cc
 get_replicate (suc n) (suc i) x y e = get_replicate n i x y e
 
 -- a kept mark that is a job's
-pub kept_parts : (kept : Option Kept) (job : Option Job) (outcomes : List Outcome) → kept_matches kept job outcomes ≡ true → (k : Kept) × (j : Job) × (kept ≡ Some k) × (job ≡ Some j) × (matches k.mark j outcomes ≡ true)
+pub kept_parts : (kept : Option Kept) (job : Option Job) (outcomes : List Outcome) → kept_matches kept job outcomes ≡ true →
+    (k : Kept) × (j : Job) × (kept ≡ Some k) × (job ≡ Some j) × (matches k.mark j outcomes ≡ true)
 kept_parts None job outcomes e = cc
 kept_parts (Some k) None outcomes e = cc
 kept_parts (Some k) (Some j) outcomes e = (k, j, refl, refl, e)

@@ -1,7 +1,6 @@
 -- A table before and after an event.
 use Rattle.std.proofs.Common.{◌≡◌, ℕ, zero, suc, ◌+◌, ◌-◌, ◌*◌, ◌<◌, ◌≤◌, ◌==◌, Bool, true, false, cond, Result, Ok, Err, OnOk, OnErr, List, [], ◌∷◌, ◌++◌, length, replicate, reverse, map, Option, Some, None, is_some, slice_get, refl, sym, ◌∙◌, ap, subst, arith, length-append, vec_capacity}
-use Rattle.std.specs.List.{list_all}
-use Rattle.std.proofs.lemmas.Bool.{eqb-false, and_parts, and_from}
+use Rattle.std.proofs.lemmas.Bool.{eqb-false}
 use Rattle.std.specs.Option.{option_and_then}
 use Rattle.std.proofs.lemmas.List.{length-map, length-replicate, reverse-append, append_assoc, map-append}
 use Rattle.std.proofs.lemmas.Option.{slice_get_within}
@@ -26,25 +25,24 @@ use Rattle.partition_core.specs.Lots.{fate_of, fates_of, kepts_of}
 use Rattle.partition_core.specs.Story.{Story, state_now, with_event}
 use Rattle.partition_core.specs.declared.lot.Lot.TheVariants.{Open}
 use Rattle.partition_core.specs.Tables.{IsTable, IsCore, IsDue, HasKept, state_in, opening_in, story_in}
-use Rattle.partition_core.specs.declared.event.Next.TheVariants.{Later, Over}
-use Rattle.partition_core.specs.Nexts.{offer, AreSettled, IsNext}
+use Rattle.partition_core.specs.Agendas.{IsAgenda}
 use Rattle.partition_core.proofs.Places.{kept_parts}
-use Rattle.partition_core.proofs.Offers.{next_over, next_later}
 use Rattle.partition_core.proofs.Tidy.{Tidy, tidy_all, tidy_start, replay_more, legal_more}
 use Rattle.partition_core.proofs.Exact.{legal_since, acts, not_refused}
 use Rattle.partition_core.proofs.HistoryLength.{bounded}
 
-tidy_table : (t : Table) → IsTable t → Tidy (state_in t)
+pub tidy_table : (t : Table) → IsTable t → Tidy (state_in t)
 tidy_table t table = subst Tidy (sym table.now) (tidy_all (opening_in t) (start_of (opening_in t)) t.history.items (tidy_start (opening_in t)) table.legal)
 
-fates_table : (t : Table) → IsTable t → length (state_in t).fates ≡ length t.plan.jobs
+pub fates_table : (t : Table) → IsTable t → length (state_in t).fates ≡ length t.plan.jobs
 fates_table t table = length-map t.lots.items fate_of ∙ table.places
 
 -- what isn't refused is legal
 pub legal_here : (t : Table) → IsTable t → (event : Event) → refusal (opening_in t) (state_in t) event ≡ None → IsLegal (opening_in t) (state_in t) event
 legal_here t table event e = legal_since (opening_in t) (state_in t) (fates_table t table) event e
 
-by_there : (by : ℕ) (n : ℕ) (found : Option Standing) → (zeroth : Bool) → (by == 0) ≡ zeroth → ((x : Standing) → found ≡ Some x → by - 1 < n) → not_acting (cond zeroth None found) ≡ None → (0 < by) × (by ≤ n)
+by_there : (by : ℕ) (n : ℕ) (found : Option Standing) → (zeroth : Bool) → (by == 0) ≡ zeroth → ((x : Standing) → found ≡ Some x → by - 1 < n) →
+    not_acting (cond zeroth None found) ≡ None → (0 < by) × (by ≤ n)
 by_there by n found true is within e = cc
 by_there by n None false is within e = cc
 by_there by n (Some x) false is within e =
@@ -87,25 +85,36 @@ due_here t table event e =
     }
 
 legal_then : (t : Table) → IsTable t → (event : Event) → refusal (opening_in t) (state_in t) event ≡ None → Legal (opening_in t) (t.history.items ++ event ∷ [])
-legal_then t table event e = legal_more (opening_in t) t.history.items event table.legal (subst (λ (s : State). IsLegal (opening_in t) s event) table.now (legal_here t table event e))
+legal_then t table event e =
+    legal_more (opening_in t) t.history.items event table.legal (subst (λ (s : State). IsLegal (opening_in t) s event) table.now (legal_here t table event e))
 
 -- there is room for one event more
 pub room_here : (t : Table) → IsTable t → (event : Event) → refusal (opening_in t) (state_in t) event ≡ None → length t.history.items < vec_capacity t.history
 room_here t table event e =
     omega (arith, bounded (opening_in t) (t.history.items ++ event ∷ []) (legal_then t table event e), length-append t.history.items (event ∷ []), table.room)
 
-spare_room : (t new : Table) → new.spare ≡ t.spare → length new.plan.jobs ≡ length t.plan.jobs → length t.plan.jobs ≤ vec_capacity t.spare → length new.plan.jobs ≤ vec_capacity new.spare
+spare_room : (t new : Table) → new.spare ≡ t.spare → length new.plan.jobs ≡ length t.plan.jobs → length t.plan.jobs ≤ vec_capacity t.spare →
+    length new.plan.jobs ≤ vec_capacity new.spare
 spare_room t new spare jobs room = omega (arith, ap vec_capacity spare)
 
 -- the table after an event
-pub table_then : (t new : Table) → IsTable t → (event : Event) → refusal (opening_in t) (state_in t) event ≡ None → new.plan ≡ t.plan → state_in new ≡ effect (kepts_of t.lots.items) (state_in t) event → kepts_of new.lots.items ≡ kepts_of t.lots.items → length new.standings.items ≡ length t.standings.items → length new.lots.items ≡ length t.lots.items → new.history.items ≡ t.history.items ++ event ∷ [] → vec_capacity t.history ≤ vec_capacity new.history → new.spare ≡ t.spare → IsAgenda new.plan.jobs (state_in new) new.agenda → IsTable new
+pub table_then : (t new : Table) → IsTable t → (event : Event) → refusal (opening_in t) (state_in t) event ≡ None → new.plan ≡ t.plan →
+    state_in new ≡ effect (kepts_of t.lots.items) (state_in t) event → kepts_of new.lots.items ≡ kepts_of t.lots.items →
+    length new.standings.items ≡ length t.standings.items → length new.lots.items ≡ length t.lots.items →
+    new.history.items ≡ t.history.items ++ event ∷ [] → vec_capacity t.history ≤ vec_capacity new.history → new.spare ≡ t.spare →
+    IsAgenda new.plan.jobs (state_in new) new.agenda → IsTable new
 table_then t new table event e plan state kept standings lots history capacity spare agenda =
     let o = opening_in t in
-    let opening : opening_in new ≡ o = ap (λ (p : Plan). record { plan = p; kept = kepts_of new.lots.items; partitions = length new.standings.items }) plan ∙ ap (λ (k : List (Option Kept)). record { plan = t.plan; kept = k; partitions = length new.standings.items }) kept ∙ ap (λ (n : ℕ). record { plan = t.plan; kept = kepts_of t.lots.items; partitions = n }) standings in
+    let opening : opening_in new ≡ o =
+    ap (λ (p : Plan). record { plan = p; kept = kepts_of new.lots.items; partitions = length new.standings.items }) plan
+    ∙ ap (λ (k : List (Option Kept)). record { plan = t.plan; kept = k; partitions = length new.standings.items }) kept
+    ∙ ap (λ (n : ℕ). record { plan = t.plan; kept = kepts_of t.lots.items; partitions = n }) standings in
     let jobs : length new.plan.jobs ≡ length t.plan.jobs = ap (λ (p : Plan). length p.jobs) plan in
     record {
-      now = state ∙ ap (λ (s : State). effect (kepts_of t.lots.items) s event) table.now ∙ sym (replay_more o t.history.items event) ∙ ap (replay o) (sym history) ∙ ap (λ (p : Opening). replay p new.history.items) (sym opening);
-      legal = subst (λ (p : Opening). Legal p new.history.items) (sym opening) (subst (λ (es : List Event). Legal o es) (sym history) (legal_then t table event e));
+      now = state ∙ ap (λ (s : State). effect (kepts_of t.lots.items) s event) table.now ∙ sym (replay_more o t.history.items event)
+          ∙ ap (replay o) (sym history) ∙ ap (λ (p : Opening). replay p new.history.items) (sym opening);
+      legal = subst (λ (p : Opening). Legal p new.history.items) (sym opening)
+          (subst (λ (es : List Event). Legal o es) (sym history) (legal_then t table event e));
       planned = subst (λ (p : Plan). ArePlanned p.jobs) (sym plan) table.planned;
       places = lots ∙ table.places ∙ sym jobs;
       few = omega (arith, standings, table.few);
@@ -115,7 +124,8 @@ table_then t new table event e plan state kept standings lots history capacity s
       agenda = agenda;
     }
 
-are_faithful_more : (compile : Content → Outcome) (o : Opening) (s : State) (events : List Event) (event : Event) → AreFaithful compile o s events → IsFaithful compile o (after_all o s events) event → AreFaithful compile o s (events ++ event ∷ [])
+are_faithful_more : (compile : Content → Outcome) (o : Opening) (s : State) (events : List Event) (event : Event) → AreFaithful compile o s events →
+    IsFaithful compile o (after_all o s events) event → AreFaithful compile o s (events ++ event ∷ [])
 are_faithful_more compile o s [] event faithful now = (now, tt)
 are_faithful_more compile o s (first ∷ events) event faithful now = (faithful.0, are_faithful_more compile o (after o s first) events event faithful.1 now)
 
@@ -123,10 +133,16 @@ faithful_same : (compile : Content → Outcome) (old new : Story) → new ≡ ol
 faithful_same compile old new e = subst (λ (story : Story). Faithful compile story.opening story.events) (sym e)
 
 -- a core after a step, of either answer
-pub core_then : {T E : Type 0} (honest : Type 0) (compile : Content → Outcome) (t new : Table) (event : Event) (r : Result T E) → IsCore honest compile t → IsTable new → OnOk r (story_in new ≡ with_event (story_in t) event) → OnErr r (story_in new ≡ story_in t) → OnOk r (IsLegal (opening_in t) (state_in t) event) → (honest → IsLegal (opening_in t) (state_now (story_in t)) event → IsFaithful compile (opening_in t) (state_now (story_in t)) event) → IsCore honest compile new
+pub core_then : {T E : Type 0} (honest : Type 0) (compile : Content → Outcome) (t new : Table) (event : Event) (r : Result T E) →
+    IsCore honest compile t → IsTable new → OnOk r (story_in new ≡ with_event (story_in t) event) → OnErr r (story_in new ≡ story_in t) →
+    OnOk r (IsLegal (opening_in t) (state_in t) event) →
+    (honest → IsLegal (opening_in t) (state_now (story_in t)) event → IsFaithful compile (opening_in t) (state_now (story_in t)) event) →
+    IsCore honest compile new
 core_then honest compile t new event (Ok x) core table ok err legal meant = record {
   table = table;
-  faithful = λ h. faithful_same compile (with_event (story_in t) event) (story_in new) ok (are_faithful_more compile (opening_in t) (start_of (opening_in t)) t.history.items event (core.faithful h) (meant h (subst (λ (s : State). IsLegal (opening_in t) s event) core.table.now legal)));
+  faithful = λ h. faithful_same compile (with_event (story_in t) event) (story_in new) ok
+      (are_faithful_more compile (opening_in t) (start_of (opening_in t)) t.history.items event (core.faithful h)
+      (meant h (subst (λ (s : State). IsLegal (opening_in t) s event) core.table.now legal)));
 }
 core_then honest compile t new event (Err e) core table ok err legal meant = record {
   table = table;
@@ -141,18 +157,29 @@ fates_open : (kept : List (Option Kept)) → fates_of (map Open kept) ≡ replic
 fates_open [] = refl
 fates_open (k ∷ ks) = ap (λ (rest : List (Option Fate)). None ∷ rest) (fates_open ks)
 
-opening_first : (t : Table) (kept : List (Option Kept)) (partitions : ℕ) → t.lots.items ≡ map Open kept → t.standings.items ≡ replicate partitions Idle → opening_in t ≡ record { plan = t.plan; kept = kept; partitions = partitions }
+-- no place has a fate
+pub fates_first : (lots : List Lot) (kept : List (Option Kept)) (jobs : ℕ) → lots ≡ map Open kept → length kept ≡ jobs →
+    fates_of lots ≡ replicate jobs None
+fates_first lots kept jobs is places = ap fates_of is ∙ fates_open kept ∙ ap (λ (n : ℕ). replicate n None) places
+
+opening_first : (t : Table) (kept : List (Option Kept)) (partitions : ℕ) → t.lots.items ≡ map Open kept →
+    t.standings.items ≡ replicate partitions Idle → opening_in t ≡ record { plan = t.plan; kept = kept; partitions = partitions }
 opening_first t kept partitions lots standings =
     ap (λ (k : List (Option Kept)). record { plan = t.plan; kept = k; partitions = length t.standings.items }) (ap kepts_of lots ∙ kepts_open kept)
     ∙ ap (λ (n : ℕ). record { plan = t.plan; kept = kept; partitions = n }) (ap length standings ∙ length-replicate partitions Idle)
 
 -- where nothing has happened
-pub story_first : (t : Table) (kept : List (Option Kept)) (partitions : ℕ) → t.lots.items ≡ map Open kept → t.standings.items ≡ replicate partitions Idle → t.history.items ≡ [] → story_in t ≡ record { opening = record { plan = t.plan; kept = kept; partitions = partitions }; events = [] }
+pub story_first : (t : Table) (kept : List (Option Kept)) (partitions : ℕ) → t.lots.items ≡ map Open kept →
+    t.standings.items ≡ replicate partitions Idle → t.history.items ≡ [] →
+    story_in t ≡ record { opening = record { plan = t.plan; kept = kept; partitions = partitions }; events = [] }
 story_first t kept partitions lots standings history =
     ap (λ (o : Opening). record { opening = o; events = t.history.items }) (opening_first t kept partitions lots standings)
     ∙ ap (λ (es : List Event). record { opening = record { plan = t.plan; kept = kept; partitions = partitions }; events = es }) history
 
-pub table_first : (t : Table) (kept : List (Option Kept)) (partitions : ℕ) → ArePlanned t.plan.jobs → length kept ≡ length t.plan.jobs → partitions ≤ 64 → t.lots.items ≡ map Open kept → t.standings.items ≡ replicate partitions Idle → t.history.items ≡ [] → 2 * (length t.plan.jobs + partitions) ≤ vec_capacity t.history → t.spare.items ≡ [] → length t.plan.jobs ≤ vec_capacity t.spare → IsAgenda t.plan.jobs (state_in t) t.agenda → IsTable t
+pub table_first : (t : Table) (kept : List (Option Kept)) (partitions : ℕ) → ArePlanned t.plan.jobs → length kept ≡ length t.plan.jobs →
+    partitions ≤ 64 → t.lots.items ≡ map Open kept → t.standings.items ≡ replicate partitions Idle → t.history.items ≡ [] →
+    2 * (length t.plan.jobs + partitions) ≤ vec_capacity t.history → t.spare.items ≡ [] → length t.plan.jobs ≤ vec_capacity t.spare →
+    IsAgenda t.plan.jobs (state_in t) t.agenda → IsTable t
 table_first t kept partitions planned places few lots standings history room empty fates_room agenda =
     let o : Opening = record { plan = t.plan; kept = kept; partitions = partitions } in
     let opening = opening_first t kept partitions lots standings in
@@ -174,31 +201,17 @@ table_first t kept partitions planned places few lots standings history room emp
       agenda = agenda;
     }
 
-settled_lots : (lots : List Lot) → list_all (λ (lot : Lot). is_some (fate_of lot)) lots ≡ true → AreSettled (fates_of lots)
-settled_lots [] e place within = absurd (omega arith)
-settled_lots (x ∷ xs) e zero within = (and_parts (is_some (fate_of x)) (list_all (λ (lot : Lot). is_some (fate_of lot)) xs) e).0
-settled_lots (x ∷ xs) e (suc place) within = settled_lots xs (and_parts (is_some (fate_of x)) (list_all (λ (lot : Lot). is_some (fate_of lot)) xs) e).1 place (omega arith)
-
-all_lots : (lots : List Lot) → AreSettled (fates_of lots) → list_all (λ (lot : Lot). is_some (fate_of lot)) lots ≡ true
-all_lots [] settled = refl
-all_lots (x ∷ xs) settled = and_from (is_some (fate_of x)) (list_all (λ (lot : Lot). is_some (fate_of lot)) xs) (settled 0 (omega arith)) (all_lots xs (λ place within. settled (suc place) (omega arith)))
-
--- nothing is offered, and each place has a fate
-pub over_here : (t : Table) → ((place : ℕ) → place < length (state_in t).fates → offer (opening_in t) (state_in t) place ≡ None) → list_all (λ (lot : Lot). is_some (fate_of lot)) t.lots.items ≡ true → IsNext (opening_in t) (state_in t) Over
-over_here t none all = next_over (opening_in t) (state_in t) none (settled_lots t.lots.items all)
-
-pub later_here : (t : Table) → IsTable t → ((place : ℕ) → place < length (state_in t).fates → offer (opening_in t) (state_in t) place ≡ None) → list_all (λ (lot : Lot). is_some (fate_of lot)) t.lots.items ≡ false → IsNext (opening_in t) (state_in t) Later
-later_here t table none some = next_later (opening_in t) (state_in t) table.planned (fates_table t table) none (λ settled. let all = all_lots t.lots.items settled in cc)
-
 -- a lot taken from the end of some, and its fate put at the end of others
-pub fates_moved : (lots rest : List Lot) (fates : List (Option Fate)) (lot : Lot) → lots ≡ rest ++ lot ∷ [] → fates_of rest ++ reverse (fates ++ fate_of lot ∷ []) ≡ fates_of lots ++ reverse fates
+pub fates_moved : (lots rest : List Lot) (fates : List (Option Fate)) (lot : Lot) → lots ≡ rest ++ lot ∷ [] →
+    fates_of rest ++ reverse (fates ++ fate_of lot ∷ []) ≡ fates_of lots ++ reverse fates
 fates_moved lots rest fates lot e =
     ap (λ (xs : List (Option Fate)). fates_of rest ++ xs) (reverse-append fates (fate_of lot ∷ []))
     ∙ sym (append_assoc (fates_of rest) (fate_of lot ∷ []) (reverse fates))
     ∙ ap (λ (xs : List (Option Fate)). xs ++ reverse fates) (sym (map-append fate_of rest (lot ∷ [])) ∙ ap fates_of (sym e))
 
 -- a legal event isn't refused
-pub accepted : (t : Table) → IsTable t → (event : Event) → (cause : IllegalCause) → refusal (opening_in t) (state_in t) event ≡ Some cause → IsLegal (opening_in t) (state_in t) event → ⊥
+pub accepted : (t : Table) → IsTable t → (event : Event) → (cause : IllegalCause) → refusal (opening_in t) (state_in t) event ≡ Some cause →
+    IsLegal (opening_in t) (state_in t) event → ⊥
 accepted t table event cause e legal = let none = not_refused (opening_in t) (state_in t) (fates_table t table) (tidy_table t table) event legal in cc
 
 pub bound_in : (t : Table) → IsTable t → length t.history.items ≤ 2 * (length t.plan.jobs + length t.standings.items)

@@ -33,19 +33,22 @@ not_run s place by free i runs = let yes = runs_somewhere s.standings i place ru
 -- a place that isn't running gets a fate
 tidy_settled : (s : State) (place : ℕ) (fate : Option Fate) → Tidy s → ((i : ℕ) → slice_get s.standings i ≡ Some (Runs place) → ⊥) → Tidy (settle s place fate)
 tidy_settled s place fate tidy idle = record {
-  open_place = λ i p runs. set_other s.fates place p fate (λ e. idle i (subst (λ (q : ℕ). slice_get s.standings i ≡ Some (Runs q)) e runs)) ∙ tidy.open_place i p runs;
+  open_place = λ i p runs. set_other s.fates place p fate (λ e. idle i (subst (λ (q : ℕ). slice_get s.standings i ≡ Some (Runs q)) e runs))
+      ∙ tidy.open_place i p runs;
   once = tidy.once;
 }
 
 -- a partition runs nothing more, and its place may get a fate
-tidy_left : (s : State) (by place : ℕ) (now : Standing) (fates : List (Option Fate)) → Tidy s → Holds s place by → ((p : ℕ) → now ≡ Runs p → ⊥) → ((p : ℕ) → (p ≡ place → ⊥) → slice_get fates p ≡ slice_get s.fates p) → Tidy (record { fates = fates; standings = slice_set s.standings (by - 1) now })
+tidy_left : (s : State) (by place : ℕ) (now : Standing) (fates : List (Option Fate)) → Tidy s → Holds s place by → ((p : ℕ) → now ≡ Runs p → ⊥) →
+    ((p : ℕ) → (p ≡ place → ⊥) → slice_get fates p ≡ slice_get s.fates p) → Tidy (record { fates = fates; standings = slice_set s.standings (by - 1) now })
 tidy_left s by place now fates tidy holds nothing others =
     let own = standing_get s.standings by (Runs place) holds in
     let still : (i p : ℕ) → slice_get (slice_set s.standings (by - 1) now) i ≡ Some (Runs p) → (i ≢ by - 1) × (slice_get s.standings i ≡ Some (Runs p)) =
     λ i p runs. elim (get_set s.standings (by - 1) i now (Runs p) runs) [ inl same ↦ absurd (nothing p same.1) | inr other ↦ other ] in
     record {
       open_place = λ i p runs. let was = still i p runs in
-          others p (λ e. was.0 (tidy.once i (by - 1) place (subst (λ (q : ℕ). slice_get s.standings i ≡ Some (Runs q)) e was.1) own)) ∙ tidy.open_place i p was.1;
+          others p (λ e. was.0 (tidy.once i (by - 1) place (subst (λ (q : ℕ). slice_get s.standings i ≡ Some (Runs q)) e was.1) own))
+          ∙ tidy.open_place i p was.1;
       once = λ i j p runs also. tidy.once i j p (still i p runs).1 (still j p also).1;
     }
 
@@ -56,23 +59,30 @@ ended_runs_not : (p : ℕ) → Ended ≡ Runs p → ⊥
 ended_runs_not p e = cc
 
 pub tidy_step : (o : Opening) (s : State) → Tidy s → (event : Event) → IsLegal o s event → Tidy (after o s event)
-tidy_step o s tidy (Keep place by) legal = tidy_settled s place (option_map (λ (kept : Kept). Built kept.outcome) (at o.kept place)) tidy (not_run s place by legal.0)
+tidy_step o s tidy (Keep place by) legal =
+    tidy_settled s place (option_map (λ (kept : Kept). Built kept.outcome) (at o.kept place)) tidy (not_run s place by legal.0)
 tidy_step o s tidy (Start place by) legal =
     record {
       open_place = λ i p runs. elim (get_set s.standings (by - 1) i (Runs place) (Runs p) runs) [
         | inl same ↦ (let e : place ≡ p = let h = same.1 in cc in ap (slice_get s.fates) (sym e) ∙ legal.0.open_place)
         | inr other ↦ tidy.open_place i p other.1
       ];
-      once = λ i j p runs also. both i j p (get_set s.standings (by - 1) i (Runs place) (Runs p) runs) (get_set s.standings (by - 1) j (Runs place) (Runs p) also);
+      once = λ i j p runs also. both i j p (get_set s.standings (by - 1) i (Runs place) (Runs p) runs)
+          (get_set s.standings (by - 1) j (Runs place) (Runs p) also);
     }
   where
-    both : (i j p : ℕ) → (((i ≡ by - 1) × (Runs place ≡ Runs p)) ⊎ ((i ≢ by - 1) × (slice_get s.standings i ≡ Some (Runs p)))) → (((j ≡ by - 1) × (Runs place ≡ Runs p)) ⊎ ((j ≢ by - 1) × (slice_get s.standings j ≡ Some (Runs p)))) → i ≡ j
+    both : (i j p : ℕ) → (((i ≡ by - 1) × (Runs place ≡ Runs p)) ⊎ ((i ≢ by - 1) × (slice_get s.standings i ≡ Some (Runs p)))) →
+        (((j ≡ by - 1) × (Runs place ≡ Runs p)) ⊎ ((j ≢ by - 1) × (slice_get s.standings j ≡ Some (Runs p)))) → i ≡ j
     both i j p (inl a) (inl b) = a.0 ∙ sym b.0
     both i j p (inl a) (inr b) = absurd (not_run s place by legal.0 j (b.1 ∙ ap Some (sym a.1)))
     both i j p (inr a) (inl b) = absurd (not_run s place by legal.0 i (a.1 ∙ ap Some (sym b.1)))
     both i j p (inr a) (inr b) = tidy.once i j p a.1 b.1
-tidy_step o s tidy (Finish place by outcome) legal = tidy_left s by place Idle (slice_set s.fates place (Some (Built outcome))) tidy legal.0 idle_runs_not (λ p e. set_other s.fates place p (Some (Built outcome)) e)
-tidy_step o s tidy (Fail place by outcome) legal = tidy_left s by place Idle (slice_set s.fates place (Some (Failed outcome))) tidy legal.0 idle_runs_not (λ p e. set_other s.fates place p (Some (Failed outcome)) e)
+tidy_step o s tidy (Finish place by outcome) legal =
+    tidy_left s by place Idle (slice_set s.fates place (Some (Built outcome))) tidy legal.0 idle_runs_not
+    (λ p e. set_other s.fates place p (Some (Built outcome)) e)
+tidy_step o s tidy (Fail place by outcome) legal =
+    tidy_left s by place Idle (slice_set s.fates place (Some (Failed outcome))) tidy legal.0 idle_runs_not
+    (λ p e. set_other s.fates place p (Some (Failed outcome)) e)
 tidy_step o s tidy (Skip place need by) legal = tidy_settled s place (Some (Skipped need)) tidy (not_run s place by legal.0)
 tidy_step o s tidy (Back place by cause) legal = tidy_left s by place Ended s.fates tidy legal ended_runs_not (λ p e. refl)
 
@@ -110,7 +120,8 @@ after_more o s (first ∷ events) event = after_more o (after o s first) events 
 pub replay_more : (o : Opening) (events : List Event) (event : Event) → replay o (events ++ event ∷ []) ≡ after o (replay o events) event
 replay_more o events event = after_more o (start_of o) events event
 
-are_legal_more : (o : Opening) (s : State) (events : List Event) (event : Event) → AreLegal o s events → IsLegal o (after_all o s events) event → AreLegal o s (events ++ event ∷ [])
+are_legal_more : (o : Opening) (s : State) (events : List Event) (event : Event) → AreLegal o s events → IsLegal o (after_all o s events) event →
+    AreLegal o s (events ++ event ∷ [])
 are_legal_more o s [] event legal now = (now, tt)
 are_legal_more o s (first ∷ events) event legal now = (legal.0, are_legal_more o (after o s first) events event legal.1 now)
 

@@ -51,7 +51,9 @@ Faithful compile o events = AreFaithful compile o (start_of o) events
 -- each kept outcome has status 0, and one whose mark is that of its place's input, one after another, is that input's
 pub record Sound (compile : Content → Outcome) (o : Opening) : Type 0 where
   pub status : (place : ℕ) (kept : Kept) → at o.kept place ≡ Some kept → kept.outcome.status ≡ 0
-  pub same : (place : ℕ) (kept : Kept) (job : Job) → at o.kept place ≡ Some kept → slice_get o.plan.jobs place ≡ Some job → first_unbuilt (seq compile o.plan.jobs) job.needs ≡ None → IsTrue (matches kept.mark job (outcomes_of (seq compile o.plan.jobs) job.needs)) → kept.outcome ≡ compile (content_of job (outcomes_of (seq compile o.plan.jobs) job.needs))
+  pub same : (place : ℕ) (kept : Kept) (job : Job) → at o.kept place ≡ Some kept → slice_get o.plan.jobs place ≡ Some job →
+      first_unbuilt (seq compile o.plan.jobs) job.needs ≡ None → IsTrue (matches kept.mark job (outcomes_of (seq compile o.plan.jobs) job.needs)) →
+      kept.outcome ≡ compile (content_of job (outcomes_of (seq compile o.plan.jobs) job.needs))
 
 -- each place that has a fate has this one
 abbrev pub Agrees : List (Option Fate) → List Fate → Type 0

@@ -1,11 +1,10 @@
 // What may be done next.
-ghost use Rattle.std.specs.Prelude.{◌≡◌, ◌==◌, ◌≤◌, None, Some, is_none, count_by, length, map, IfOk, IfNone, IfSome, ℕ, true, ⊥, slice_get};
+ghost use Rattle.std.specs.Prelude.{◌≡◌, ◌==◌, ◌<◌, ℕ, ⊥, true, None, Some, length, replicate, slice_get, IfOk, IfNone, IfSome};
 ghost use Rattle.compile_model.specs.Planned.{ArePlanned};
-ghost use Rattle.partition_core.specs.State.{State, start_of};
 ghost use Rattle.partition_core.specs.Refusals.{place_of};
-ghost use Rattle.partition_core.specs.Lots.{fates_of, opening_of, state_of};
+ghost use Rattle.partition_core.specs.Lots.{fates_of, state_of};
 ghost use Rattle.partition_core.specs.PlaceSets.{IsFirstOf};
-ghost use Rattle.partition_core.specs.Agendas.{IsAgenda, IsBehind, IsOutlook};
+ghost use Rattle.partition_core.specs.Agendas.{IsAgenda, IsBehind};
 
 use crate::dependents::dependents_of;
 use crate::event::{Event, Standing};
@@ -34,7 +33,8 @@ impl Agenda {
         standings: &[Standing],
     ) -> Result<Agenda, AllocError>
         requires planned { ArePlanned plan.now.jobs }
-        requires begun { state_of lots.now standings.now ≡ start_of (opening_of plan.now lots.now standings.now) }
+        requires open_places { fates_of lots.now ≡ replicate (length plan.now.jobs) None }
+        requires places { length lots.now ≡ length plan.now.jobs }
         ensures { IfOk result (IsAgenda plan.now.jobs (state_of lots.now standings.now)) }
     {
         let jobs = plan.jobs.as_slice();

@@ -31,11 +31,7 @@ fn no_dependents(alloc: Global, count: usize) -> Result<Vec<Places>, AllocError>
 }
 
 /// Puts a place among the dependents of its needs.
-fn add_dependent(
-    dependents: &mut Vec<Places>,
-    place: u32,
-    needs: &[u32],
-) -> Result<(), AllocError>
+fn add_dependent(dependents: &mut Vec<Places>, place: u32, needs: &[u32]) -> Result<(), AllocError>
     requires { All (λ need. need < length dependents.old.items) needs.now }
     ensures long { length dependents.new.items ≡ length dependents.old.items }
     ensures each { OnOk result ((need other : ℕ) → has (dependents_at dependents.new.items need) other

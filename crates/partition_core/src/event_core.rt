@@ -50,9 +50,11 @@ impl<M: Meaning> Core<M> {
         requires places { length kept.items ≡ length plan.jobs }
         requires some { 1 ≤ partitions }
         requires few { partitions ≤ 64 }
-        ensures { IfOk result (λ core. core ≡ record
-            { opening = record { plan = plan; kept = kept.items; partitions = partitions }; events
-            = [] }) }
+        ensures { IfOk result (λ core. core ≡ record {
+          opening = record { plan = plan; kept = kept.items; partitions = partitions };
+          events
+              = [];
+        }) }
     {
         Ok(Core {
             table: Table::begin(alloc, plan, kept, partitions)?,

@@ -1,8 +1,7 @@
 // Which places offer an event.
-ghost use Rattle.std.specs.Prelude.{◌≡◌, ◌<◌, [], None, length, take, slice_get, slice_set, IfOk};
-ghost use Rattle.compile_model.specs.Planned.{ArePlanned};
+ghost use Rattle.std.specs.Prelude.{◌≡◌, ◌<◌, [], false, length, replicate, slice_get, slice_set, IfOk};
 ghost use Rattle.std.specs.List.{All};
-ghost use Rattle.partition_core.specs.State.{first_open, start_of, Opening};
+ghost use Rattle.partition_core.specs.State.{first_open};
 ghost use Rattle.partition_core.specs.Lots.{fates_of, state_of};
 ghost use Rattle.partition_core.specs.Agendas.{HasFronts, IsFront, IsOutlook, is_decided, offers};
 
@@ -10,7 +9,7 @@ use crate::event::Standing;
 use crate::lot::{Lot, built_at, fate_at};
 use crate::place_set::PlaceSet;
 use crate::refusal::is_running;
-use compile_model::{Job, Plan};
+use compile_model::Plan;
 use std::alloc::{AllocError, Global};
 
 /// For each place whether it offers an event to a free partition, and how many of its first needs are built.
@@ -51,13 +50,7 @@ impl Outlook {
     }
 
     /// Looks at a place.
-    pub(crate) fn look_at(
-        &mut self,
-        plan: &Plan,
-        lots: &[Lot],
-        standings: &[Standing],
-        place: u32,
-    )
+    pub(crate) fn look_at(&mut self, plan: &Plan, lots: &[Lot], standings: &[Standing], place: u32)
         requires within { place < length plan.now.jobs }
         requires fronts { HasFronts plan.now.jobs (fates_of lots.now) self.old }
         ensures fronts { HasFronts plan.now.jobs (fates_of lots.now) self.new }

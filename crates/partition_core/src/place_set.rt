@@ -1,6 +1,6 @@
 // Sets of places.
 ghost use Rattle.std.specs.Prelude.{◌≡◌, ◌<◌, ◌+◌, ◌≤◌, ◌*◌, ℕ, ⊥, false, true, length, replicate, slice_set, slice_get, Some, IfNone, IfOk, IfSome};
-ghost use Rattle.partition_core.specs.PlaceSets.{AreBlocksOf, IsFirstOf, IsFirstIn};
+ghost use Rattle.partition_core.specs.PlaceSets.{IsFirstOf, IsFirstIn};
 
 use std::alloc::{AllocError, Global};
 use std::marker::Model;

@@ -10,8 +10,8 @@ ghost use Rattle.partition_core.specs.Tables.{IsTable, IsDue, story_in, opening_
 
 use crate::agenda::Agenda;
 use crate::event::{Event, Illegal, IllegalCause, Next, Standing};
-use crate::refusal::{is_running, refusal};
 use crate::lot::{Lot, fate_at, keep_at, missing, settle_at, stands};
+use crate::refusal::{is_running, refusal};
 use compile_model::{Fate, Outcome, Plan};
 use mx_base::Shared;
 use staleness::Kept;
@@ -42,8 +42,14 @@ impl Table {
         requires places { length kept.items ≡ length plan.jobs }
         requires few { partitions ≤ 64 }
         ensures story { IfOk result (λ t. story_in t
-            ≡ record { opening = record { plan = plan; kept = kept.items; partitions = partitions
-            }; events = [] }) }
+            ≡ record {
+              opening = record {
+                plan = plan;
+                kept = kept.items;
+                partitions = partitions;
+              };
+              events = [];
+            }) }
         ensures table { IfOk result IsTable }
     {
         let jobs = plan.get().jobs.as_slice().len();
@@ -96,8 +102,12 @@ impl Table {
             return Err(Illegal { cause });
         }
         happen(&mut self.lots, &mut self.standings, &event, fate);
-        self.agenda
-            .take_in(self.plan.get(), self.lots.as_slice(), self.standings.as_slice(), &event);
+        self.agenda.take_in(
+            self.plan.get(),
+            self.lots.as_slice(),
+            self.standings.as_slice(),
+            &event,
+        );
         note(&mut self.history, event);
         Ok(())
     }

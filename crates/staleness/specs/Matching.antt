@@ -14,7 +14,7 @@ pub record IsOfJob (mark : MarkView) (job : Job) : Type 0 where
 
 -- and the outputs of its needs are these: the mark describes the input
 pub record Describes (mark : MarkView) (job : Job) (outcomes : List Outcome) : Type 0 where
-  pub job : IsOfJob mark job
+  pub described : IsOfJob mark job
   pub outputs : map (λ need. need.0) mark.needs ≡ map (λ outcome. outcome.digest) outcomes
 
 abbrev pub same_row : FileRow → FileRow → Bool

@@ -6,7 +6,9 @@
 #![tactic(auto)]
 
 mod kept;
+mod laws;
 mod matching;
 
 pub use kept::Kept;
+pub use laws::matches_what_it_describes;
 pub use matching::{matches_job, matches_need, matches_now};

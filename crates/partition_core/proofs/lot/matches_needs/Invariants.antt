@@ -7,5 +7,6 @@ use Rattle.partition_core.proofs.lot.matches_needs.Given as goal
 abbrev pub invariant-loop-index : goal.invariant-loop-index
 invariant-loop-index l = record {
   built : first_open (fates_of l.lots) (drop l.index l.needs) ≡ None;
-  so_far : needs_match l.mark.needs l.index (outcomes_now (fates_of l.lots) (drop l.index l.needs)) ≡ needs_match l.mark.needs 0 (outcomes_now (fates_of l.lots) l.needs);
+  so_far : needs_match l.mark.needs l.index (outcomes_now (fates_of l.lots) (drop l.index l.needs)) ≡ needs_match l.mark.needs 0
+      (outcomes_now (fates_of l.lots) l.needs);
 }

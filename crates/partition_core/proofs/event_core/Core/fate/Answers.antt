@@ -13,5 +13,7 @@ use Rattle.partition_core.proofs.event_core.Core.fate.Goals as goal
 pub returns-clause-sequential : goal.returns-clause-sequential
 returns-clause-sequential g c = λ h sound.
     let compile = g.M.Meaning.compile_of in
-    subst (λ (story : Story). Sound compile story.opening → IfSome (option_copied c.fate_at.result) (λ (fate : Fate). slice_get (seq compile story.opening.plan.jobs) c.args.place ≡ Some fate)) c.self.view_is
-    (λ s. sequential_at g.M.Meaning.honest compile c.self.inside.table c.self.invariant h s c.args.place (option_copied c.fate_at.result) (c.fate_at.ensures ∙ ap (λ (xs : List Lot). at (fates_of xs) c.args.place) c.as_slice.ensures.value)) sound
+    subst (λ (story : Story). Sound compile story.opening → IfSome (option_copied c.fate_at.result)
+    (λ (fate : Fate). slice_get (seq compile story.opening.plan.jobs) c.args.place ≡ Some fate)) c.self.view_is
+    (λ s. sequential_at g.M.Meaning.honest compile c.self.inside.table c.self.invariant h s c.args.place (option_copied c.fate_at.result)
+    (c.fate_at.ensures ∙ ap (λ (xs : List Lot). at (fates_of xs) c.args.place) c.as_slice.ensures.value)) sound

@@ -1,14 +1,40 @@
 use Rattle.std.proofs.Common.{◌≡◌, ◌≤◌, ◌*◌, ◌+◌, length, vec_capacity, ◌∙◌, ap, arith}
 use Rattle.compile_model.specs.declared.job.Plan.{Plan}
-use Rattle.partition_core.proofs.TableLemmas.{story_first, table_first}
+use Rattle.partition_core.proofs.TableLemmas.{story_first, table_first, fates_first}
 use Rattle.partition_core.proofs.table.Table.begin.Goals as goal
 
 pub returns-clause-story : goal.returns-clause-story
-returns-clause-story c = story_first (record { plan = c.args.plan; lots = c.in_ok-lots.lots; standings = c.in_ok-standings.standings; history = c.in_ok-history.history; spare = c.in_ok-spare.spare }) c.args.kept.items c.args.partitions c.in_ok-lots.ensures c.in_ok-standings.ensures c.in_ok-history.ensures.items
+returns-clause-story c =
+    story_first (record {
+      plan = c.args.plan;
+      lots = c.in_ok-lots.lots;
+      standings = c.in_ok-standings.standings;
+      history =
+          c.in_ok-history.history;
+      spare = c.in_ok-spare.spare;
+      agenda = c.in_ok-agenda.agenda;
+    }) c.args.kept.items c.args.partitions c.in_ok-lots.ensures
+    c.in_ok-standings.ensures c.in_ok-history.ensures.items
 
 pub returns-clause-table : goal.returns-clause-table
 returns-clause-table c =
-    let jobs : length c.as_slice-jobs.result.now ≡ length c.args.plan.jobs = ap length c.as_slice-jobs.ensures ∙ ap (λ (p : Plan). length p.jobs) c.get.ensures in
-    let room : 2 * (length c.args.plan.jobs + c.args.partitions) ≤ vec_capacity c.in_ok-history.history = omega (arith, c.in_ok-history.ensures.capacity, jobs) in
+    let jobs : length c.as_slice-jobs.result.now ≡ length c.args.plan.jobs =
+    ap length c.as_slice-jobs.ensures ∙ ap (λ (p : Plan). length p.jobs) c.get.ensures in
+    let room : 2 * (length c.args.plan.jobs + c.args.partitions) ≤ vec_capacity c.in_ok-history.history =
+    omega (arith, c.in_ok-history.ensures.capacity, jobs) in
     let spare_room : length c.args.plan.jobs ≤ vec_capacity c.in_ok-spare.spare = omega (arith, c.in_ok-spare.ensures.capacity, jobs) in
-    table_first (record { plan = c.args.plan; lots = c.in_ok-lots.lots; standings = c.in_ok-standings.standings; history = c.in_ok-history.history; spare = c.in_ok-spare.spare }) c.args.kept.items c.args.partitions c.requires.planned c.requires.places c.requires.few c.in_ok-lots.ensures c.in_ok-standings.ensures c.in_ok-history.ensures.items room c.in_ok-spare.ensures.items spare_room
+    table_first (record {
+      plan = c.args.plan;
+      lots = c.in_ok-lots.lots;
+      standings = c.in_ok-standings.standings;
+      history =
+          c.in_ok-history.history;
+      spare = c.in_ok-spare.spare;
+      agenda = c.in_ok-agenda.agenda;
+    }) c.args.kept.items c.args.partitions c.requires.planned
+    c.requires.places c.requires.few c.in_ok-lots.ensures c.in_ok-standings.ensures c.in_ok-history.ensures.items room c.in_ok-spare.ensures.items
+    spare_room c.in_ok-agenda.ensures
+
+pub begin-requires-clause-open_places : goal.begin-requires-clause-open_places
+begin-requires-clause-open_places c =
+    fates_first c.in_ok-lots.lots.items c.args.kept.items (length c.args.plan.jobs) c.in_ok-lots.ensures c.requires.places

@@ -1,0 +1,60 @@
+-- Outlooks, of which places are looked at.
+use Rattle.std.proofs.Common.{◌≡◌, ℕ, zero, suc, ◌+◌, ◌<◌, ◌≤◌, ◌==◌, ◌||◌, ◌&&◌, ◌⊎◌, inl, inr, Bool, true, false, List, [], ◌∷◌, length, replicate, drop, take, Option, Some, None, slice_get, slice_set, get_or, refl, sym, ◌∙◌, ap, subst, arith, eq-eqb}
+use Rattle.std.proofs.lemmas.Bool.{cases_eq, ne_eqb}
+use Rattle.std.proofs.lemmas.List.{length-set, length-replicate}
+use Rattle.std.proofs.lemmas.Option.{slice_get_within, slice_get-get_or}
+use Rattle.compile_model.specs.declared.job.Job.{Job}
+use Rattle.compile_model.specs.declared.outcome.Fate.{Fate}
+use Rattle.partition_core.specs.declared.outlook.Outlook.{Outlook}
+use Rattle.partition_core.specs.State.{State, first_open}
+use Rattle.partition_core.specs.Agendas.{has, needs_in, offers, IsFront, HasFronts, IsOutlook}
+use Rattle.partition_core.proofs.Places.{get_set, set_same, set_other, get_replicate}
+
+-- a place has a new front
+pub fronts_set : (jobs : List Job) (fates : List (Option Fate)) (old new : Outlook) (place front : ℕ) → HasFronts jobs fates old →
+    new.fronts.items ≡ slice_set old.fronts.items place front → length new.offering ≡ length old.offering →
+    IsFront fates (needs_in jobs place) front → HasFronts jobs fates new
+fronts_set jobs fates old new place front known set flags is = record {
+  fronts = ap length set ∙ length-set old.fronts.items place front ∙ known.fronts;
+  flags = flags ∙ known.flags;
+  each = λ p f there. elim (get_set old.fronts.items place p front f (ap (λ (xs : List ℕ). slice_get xs p) (sym set) ∙ there)) [
+    | inl same ↦ subst (λ (q : ℕ). IsFront fates (needs_in jobs q) f) (sym same.0) (subst (IsFront fates (needs_in jobs place)) same.1 is)
+    | inr other ↦ known.each p f other.1
+  ];
+}
+
+-- one of the places was looked at
+pub outlook_looked : (jobs : List Job) (s : State) (place : ℕ) (rest : List ℕ) (old new : Outlook) → IsOutlook jobs s (place ∷ rest) old →
+    place < length jobs → HasFronts jobs s.fates new → new.offering ≡ slice_set old.offering place (offers jobs s place) → IsOutlook jobs s rest new
+outlook_looked jobs s place rest old new known within fronts set = record {
+  fronts = fronts;
+  right = λ p inside apart. elim (cases_eq p place) [
+    | inl same ↦
+        let long : place < length old.offering = let h = known.fronts.flags in omega arith in
+        ap (λ (xs : List Bool). slice_get xs p) set ∙ ap (slice_get (slice_set old.offering place (offers jobs s place))) same
+        ∙ set_same old.offering place (offers jobs s place) (get_or old.offering place false) (slice_get-get_or old.offering place false long)
+        ∙ ap (λ (q : ℕ). Some (offers jobs s q)) (sym same)
+    | inr other ↦
+        ap (λ (xs : List Bool). slice_get xs p) set ∙ set_other old.offering place p (offers jobs s place) other
+        ∙ known.right p inside (or_none (place == p) (has rest p) (ne_eqb place p (λ e. other (sym e))) apart)
+  ];
+}
+  where
+    or_none : (a b : Bool) → a ≡ false → b ≡ false → (a || b) ≡ false
+    or_none a b e f = ap (λ (x : Bool). x || b) e ∙ f
+
+-- no need of a place is built
+pub front_zero : (fates : List (Option Fate)) (needs : List ℕ) → IsFront fates needs 0
+front_zero fates [] = record { within = omega arith; built = refl }
+front_zero fates (need ∷ needs) = record { within = omega arith; built = refl }
+
+-- nothing was looked at
+pub fronts_begin : (jobs : List Job) (fates : List (Option Fate)) (outlook : Outlook) → outlook.offering ≡ replicate (length jobs) false →
+    outlook.fronts.items ≡ replicate (length jobs) 0 → HasFronts jobs fates outlook
+fronts_begin jobs fates outlook flags fronts = record {
+  fronts = ap length fronts ∙ length-replicate (length jobs) 0;
+  flags = ap length flags ∙ length-replicate (length jobs) false;
+  each = λ place front there.
+      subst (IsFront fates (needs_in jobs place)) (get_replicate (length jobs) place 0 front (ap (λ (xs : List ℕ). slice_get xs place) (sym fronts) ∙ there))
+      (front_zero fates (needs_in jobs place));
+}
