@@ -11,6 +11,7 @@ pub mod Touched
 pub mod Offered
 pub mod PlaceSetLemmas
 pub mod OutlookLemmas
+pub mod DependentLemmas
 pub mod TableLemmas
 pub mod AgendaTables
 pub mod Confluent

@@ -1,5 +1,5 @@
 -- Flags in blocks of 64.
-use Rattle.std.specs.Prelude.{◌≡◌, ℕ, ◌+◌, ◌*◌, ◌<◌, ◌≤◌, ⊥, Bool, true, List, length, Some, slice_get}
+use Rattle.std.specs.Prelude.{◌≡◌, ℕ, ◌+◌, ◌*◌, ◌<◌, ◌≤◌, Bool, true, List, length, Some, slice_get}
 
 -- each block that has a true flag is true, and the blocks reach over all flags, by one of them at most
 pub record AreBlocksOf (flags blocks : List Bool) : Type 0 where

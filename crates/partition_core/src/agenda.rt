@@ -1,5 +1,5 @@
 // What may be done next.
-ghost use Rattle.std.specs.Prelude.{◌≡◌, ◌==◌, ◌<◌, ℕ, ⊥, true, None, Some, length, replicate, slice_get, IfOk, IfNone, IfSome};
+ghost use Rattle.std.specs.Prelude.{◌≡◌, ◌==◌, ◌<◌, ℕ, true, None, Some, length, replicate, slice_get, IfOk, IfNone, IfSome};
 ghost use Rattle.compile_model.specs.Planned.{ArePlanned};
 ghost use Rattle.partition_core.specs.Refusals.{place_of};
 ghost use Rattle.partition_core.specs.Lots.{fates_of, state_of};

@@ -1,5 +1,5 @@
 // Sets of places.
-ghost use Rattle.std.specs.Prelude.{◌≡◌, ◌<◌, ◌+◌, ◌≤◌, ◌*◌, ℕ, ⊥, false, true, length, replicate, slice_set, slice_get, Some, IfNone, IfOk, IfSome};
+ghost use Rattle.std.specs.Prelude.{◌≡◌, ◌<◌, ◌+◌, ◌≤◌, ◌*◌, ℕ, false, true, length, replicate, slice_set, slice_get, Some, IfNone, IfOk, IfSome};
 ghost use Rattle.partition_core.specs.PlaceSets.{IsFirstOf, IsFirstIn};
 
 use std::alloc::{AllocError, Global};

@@ -170,7 +170,8 @@ fn refused_start(
         return Some(cause);
     }
     let job = &plan.jobs.as_slice()[place as usize];
-    if let Some(need) = missing(lots, job.needs.as_slice()) {
+    let open_need = missing(lots, job.needs.as_slice());
+    if let Some(need) = open_need {
         return Some(IllegalCause::NeedNotBuilt { need });
     }
     if stands(job, lots, &lots[place as usize]) {
