@@ -72,7 +72,7 @@ pub decided_apart : (fates : List (Option Fate)) (place : ℕ) (fate : Option Fa
 decided_apart fates place fate [] h = refl
 decided_apart fates place fate (need ∷ needs) h =
     ap (λ (b : Bool). is_decided now (cond b (first_open now needs) (Some need))) (ap (λ (v : Option (Option Fate)). is_some (built_of v)) seen)
-    ∙ by_head (is_some (built_at fates need))
+    ∙ by_head (decided_apart fates place fate needs parts.1) (is_some (built_at fates need))
   where
     now : List (Option Fate)
     now = slice_set fates place fate
@@ -83,6 +83,7 @@ decided_apart fates place fate (need ∷ needs) h =
     seen : slice_get now need ≡ slice_get fates need
     seen = set_other fates place need fate (eqb-false need place parts.0)
 
-    by_head : (b : Bool) → is_decided now (cond b (first_open now needs) (Some need)) ≡ is_decided fates (cond b (first_open fates needs) (Some need))
-    by_head true = decided_apart fates place fate needs parts.1
-    by_head false = ap (λ (v : Option (Option Fate)). is_some (option_and_then (λ (w : Option Fate). w) v)) seen
+    by_head : is_decided now (first_open now needs) ≡ is_decided fates (first_open fates needs) →
+        (b : Bool) → is_decided now (cond b (first_open now needs) (Some need)) ≡ is_decided fates (cond b (first_open fates needs) (Some need))
+    by_head rest true = rest
+    by_head rest false = ap (λ (v : Option (Option Fate)). is_some (option_and_then (λ (w : Option Fate). w) v)) seen

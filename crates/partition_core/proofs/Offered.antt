@@ -5,6 +5,7 @@ use Rattle.std.proofs.lemmas.List.Sums.{sum_by-cons}
 use Rattle.std.proofs.lemmas.Bool.{cases_eq, eqb-true, eqb-false}
 use Rattle.compile_model.specs.declared.outcome.Fate.{Fate}
 use Rattle.partition_core.specs.declared.event.Next.{Next}
+use Rattle.partition_core.specs.declared.event.Next.TheVariants.{Skip as ToSkip}
 use Rattle.partition_core.specs.declared.outlook.Outlook.{Outlook}
 use Rattle.partition_core.specs.State.{Opening, State, at, missing, stands, is_running}
 use Rattle.partition_core.specs.Nexts.{offer, offer_by, AreSettled, IsFirst}
@@ -20,7 +21,7 @@ made_is s place None true = refl
 made_is s place None false = refl
 made_is s place (Some need) kept = by_fate (is_some (at s.fates need))
   where
-    by_fate : (b : Bool) → is_some (cond b (Some (Next.Skip place need)) None) ≡ (b && true)
+    by_fate : (b : Bool) → is_some (cond b (Some (ToSkip place need)) None) ≡ (b && true)
     by_fate true = refl
     by_fate false = refl
 

@@ -1,12 +1,13 @@
 -- Outlooks, of which places are looked at.
-use Rattle.std.proofs.Common.{◌≡◌, ℕ, zero, suc, ◌+◌, ◌<◌, ◌≤◌, ◌==◌, ◌||◌, ◌&&◌, ◌⊎◌, inl, inr, Bool, true, false, List, [], ◌∷◌, length, replicate, drop, take, Option, Some, None, slice_get, slice_set, get_or, refl, sym, ◌∙◌, ap, subst, arith, eq-eqb}
+use Rattle.std.proofs.Common.{◌≡◌, ℕ, zero, suc, ◌+◌, ◌<◌, ◌≤◌, ◌==◌, ◌||◌, ◌&&◌, ◌⊎◌, inl, inr, Bool, true, false, List, [], ◌∷◌, length, replicate, drop, take, count_by, cond, ◌*◌, is_none, Option, Some, None, slice_get, slice_set, get_or, refl, sym, ◌∙◌, ap, subst, arith, eq-eqb}
 use Rattle.std.proofs.lemmas.Bool.{cases_eq, ne_eqb}
 use Rattle.std.proofs.lemmas.List.{length-set, length-replicate}
-use Rattle.std.proofs.lemmas.Option.{slice_get_within, slice_get-get_or}
+use Rattle.std.proofs.lemmas.List.Folds.{sum_by-replicate}
+use Rattle.std.proofs.lemmas.Option.{slice_get-get_or}
 use Rattle.compile_model.specs.declared.job.Job.{Job}
 use Rattle.compile_model.specs.declared.outcome.Fate.{Fate}
 use Rattle.partition_core.specs.declared.outlook.Outlook.{Outlook}
-use Rattle.partition_core.specs.State.{State, first_open}
+use Rattle.partition_core.specs.State.{State, first_open, needs_of}
 use Rattle.partition_core.specs.Agendas.{has, needs_in, offers, IsFront, HasFronts, IsOutlook}
 use Rattle.partition_core.proofs.Places.{get_set, set_same, set_other, get_replicate}
 
@@ -58,3 +59,36 @@ fronts_begin jobs fates outlook flags fronts = record {
       subst (IsFront fates (needs_in jobs place)) (get_replicate (length jobs) place 0 front (ap (λ (xs : List ℕ). slice_get xs place) (sym fronts) ∙ there))
       (front_zero fates (needs_in jobs place));
 }
+
+-- the flags of the places so far, and of one more
+pub flags_more : (jobs : List Job) (s : State) (old new : List Bool) (place : ℕ) → place < length old →
+    new ≡ slice_set old place (offers jobs s place) → ((p : ℕ) → p < place → slice_get old p ≡ Some (offers jobs s p)) →
+    (p : ℕ) → p < place + 1 → slice_get new p ≡ Some (offers jobs s p)
+flags_more jobs s old new place within set so_far p below =
+    ap (λ (xs : List Bool). slice_get xs p) set
+    ∙ elim (cases_eq p place) [
+      | inl same ↦
+          ap (slice_get (slice_set old place (offers jobs s place))) same
+          ∙ set_same old place (offers jobs s place) (get_or old place false) (slice_get-get_or old place false within)
+          ∙ ap (λ (q : ℕ). Some (offers jobs s q)) (sym same)
+      | inr other ↦ set_other old place p (offers jobs s place) other ∙ so_far p (let h = other in omega arith)
+    ]
+
+-- all places were looked at
+pub outlook_begins : (jobs : List Job) (s : State) (outlook : Outlook) → HasFronts jobs s.fates outlook →
+    ((p : ℕ) → p < length jobs → slice_get outlook.offering p ≡ Some (offers jobs s p)) → IsOutlook jobs s [] outlook
+outlook_begins jobs s outlook fronts right = record { fronts = fronts; right = λ p within apart. right p within }
+
+-- each place is left
+pub left_begins : (fates : List (Option Fate)) (n : ℕ) → fates ≡ replicate n None → n ≡ count_by is_none fates
+left_begins fates n is =
+    let h : count_by is_none (replicate n None) ≡ n * 1 = sum_by-replicate (λ (fate : Option Fate). cond (is_none fate) 1 0) n None in
+    omega (arith, h, ap (count_by is_none) is)
+
+-- the front and the needs of a place
+pub front_at : (jobs : List Job) (fates : List (Option Fate)) (outlook : Outlook) → HasFronts jobs fates outlook → (place d : ℕ) (job : Job) →
+    slice_get jobs place ≡ Some job → place < length jobs → IsFront fates job.needs (get_or outlook.fronts.items place d)
+front_at jobs fates outlook known place d job there within =
+    subst (λ (f : Option Job). IsFront fates (needs_of f) (get_or outlook.fronts.items place d)) there
+    (known.each place (get_or outlook.fronts.items place d)
+    (slice_get-get_or outlook.fronts.items place d (let h = known.fronts in omega arith)))

@@ -13,8 +13,8 @@ use crate::outlook::Outlook;
 use compile_model::{Places, Plan};
 use std::alloc::{AllocError, Global};
 
-/// Which places offer an event, kept up from event to event. All events of a build together take time in
-/// the places and their needs.
+/// Which places offer an event, kept up from event to event. All events of a build together take time
+/// in the places and their needs.
 #[derive(Drop)]
 pub(crate) struct Agenda {
     pub outlook: Outlook,
@@ -58,7 +58,8 @@ impl Agenda {
         event: &Event,
     )
         requires within { place_of event.now < length plan.now.jobs }
-        requires behind { IsBehind plan.now.jobs (state_of lots.now standings.now) event.now self.old }
+        requires behind { IsBehind plan.now.jobs (state_of lots.now standings.now)
+            event.now self.old }
         ensures { IsAgenda plan.now.jobs (state_of lots.now standings.now) self.new }
     {
         let place = event.place();
@@ -72,7 +73,8 @@ impl Agenda {
 
     /// The first place that offers an event.
     pub(crate) fn first(&self) -> Option<usize>
-        ensures none { IfNone result ((place : ℕ) → slice_get self.now.outlook.offering place ≡ Some true → ⊥) }
+        ensures none { IfNone result ((place : ℕ) →
+            slice_get self.now.outlook.offering place ≡ Some true → ⊥) }
         ensures first { IfSome result (IsFirstOf self.now.outlook.offering) }
     {
         self.outlook.offering.first()

@@ -34,8 +34,10 @@ fn no_dependents(alloc: Global, count: usize) -> Result<Vec<Places>, AllocError>
 fn add_dependent(dependents: &mut Vec<Places>, place: u32, needs: &[u32]) -> Result<(), AllocError>
     requires { All (λ need. need < length dependents.old.items) needs.now }
     ensures long { length dependents.new.items ≡ length dependents.old.items }
-    ensures each { OnOk result ((need other : ℕ) → has (dependents_at dependents.new.items need) other
-        ≡ (has (dependents_at dependents.old.items need) other || (place == other && has needs.now need))) }
+    ensures each { OnOk result ((need other : ℕ) →
+        has (dependents_at dependents.new.items need) other
+        ≡ (has (dependents_at dependents.old.items need) other
+        || (place == other && has needs.now need))) }
 {
     for need in needs {
         dependents[*need as usize].push(place)?;

@@ -19,7 +19,8 @@ use staleness::Kept;
 use std::alloc::{AllocError, Global};
 use std::marker::{Model, PhantomData};
 
-/// What has happened in a build by several partitions. Contracts see its opening and its history, which is legal.
+/// What has happened in a build by several partitions. Contracts see its opening and its history, which
+/// is legal.
 #[derive(Drop)]
 pub struct Core<M: Meaning> {
     table: Table,

@@ -35,7 +35,8 @@ pub fn refused_exactly()
         → (refusal o (replay o events) event ≡ None) ↔ IsLegal o (replay o events) event }
 {}
 
-/// Places are started at most as often as there are places that are compiled, and as places were given back.
+/// Places are started at most as often as there are places that are compiled, and as places were given
+/// back.
 pub fn few_starts()
     ensures { (compile : Content → Outcome) (o : Opening) (events : List Event)
         → ArePlanned o.plan.jobs → Sound compile o → Legal o events → Faithful compile o events

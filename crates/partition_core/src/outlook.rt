@@ -12,7 +12,8 @@ use crate::refusal::is_running;
 use compile_model::Plan;
 use std::alloc::{AllocError, Global};
 
-/// For each place whether it offers an event to a free partition, and how many of its first needs are built.
+/// For each place whether it offers an event to a free partition, and how many of its first needs are
+/// built.
 #[derive(Drop)]
 pub(crate) struct Outlook {
     pub offering: PlaceSet,
@@ -41,7 +42,8 @@ impl Outlook {
         places: &[u32],
     )
         requires within { All (λ place. place < length plan.now.jobs) places.now }
-        requires behind { IsOutlook plan.now.jobs (state_of lots.now standings.now) places.now self.old }
+        requires behind { IsOutlook plan.now.jobs (state_of lots.now standings.now)
+            places.now self.old }
         ensures { IsOutlook plan.now.jobs (state_of lots.now standings.now) [] self.new }
     {
         for place in places {

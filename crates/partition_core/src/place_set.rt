@@ -8,9 +8,9 @@ use std::marker::Model;
 /// How many flags a block has.
 const BLOCK: usize = 64;
 
-/// A set of the places below a number, which contracts see as the list of flags that says of each place
-/// whether it is in the set. Its first place is found by looking at one flag for each block, and at the
-/// flags of one block.
+/// A set of the places below a number. Its first place is found by looking at one flag for each block,
+/// and at the flags of one block. Contracts see the list of flags that say of each place whether it is in
+/// the set.
 #[derive(Drop)]
 pub(crate) struct PlaceSet {
     flags: Vec<bool>,
