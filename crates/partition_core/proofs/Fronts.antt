@@ -1,8 +1,8 @@
 -- Needs of which the first ones are built.
-use Rattle.std.proofs.Common.{◌≡◌, ℕ, zero, suc, ◌+◌, ◌<◌, ◌≤◌, ◌==◌, Bool, true, false, cond, List, [], ◌∷◌, length, take, Option, Some, None, is_some, slice_get, slice_set, get_or, refl, sym, ◌∙◌, ap, arith}
+use Rattle.std.proofs.Common.{◌≡◌, ℕ, zero, suc, ◌+◌, ◌<◌, ◌≤◌, ◌==◌, Bool, true, false, cond, List, [], ◌∷◌, length, take, Option, Some, None, is_some, is_none, slice_get, slice_set, get_or, refl, sym, ◌∙◌, ap, arith}
 use Rattle.std.specs.Option.{option_and_then}
 use Rattle.std.proofs.lemmas.Bool.{or_parts, eqb-false}
-use Rattle.std.proofs.lemmas.Option.{slice_get-get_or}
+use Rattle.std.proofs.lemmas.Option.{slice_get-get_or, slice_get_within}
 use Rattle.compile_model.specs.declared.outcome.Outcome.{Outcome}
 use Rattle.compile_model.specs.declared.outcome.Fate.{Fate}
 use Rattle.compile_model.specs.Seq.{built_outcome}
@@ -35,12 +35,21 @@ open_more fates (x ∷ xs) (suc k) need there built e =
 one_more : (n : ℕ) → n + 1 ≡ suc n
 one_more n = omega arith
 
+some_of : (found : Option Outcome) → is_none found ≡ false → is_some found ≡ true
+some_of None e = cc
+some_of (Some outcome) e = refl
+
+none_of : (found : Option Outcome) → is_none found ≡ true → found ≡ None
+none_of None e = refl
+none_of (Some outcome) e = cc
+
 pub front_more : (fates : List (Option Fate)) (needs : List ℕ) (front need : ℕ) → front < length needs →
-    is_some (built_at fates (get_or needs front need)) ≡ true → IsFront fates needs front → IsFront fates needs (front + 1)
+    is_none (built_at fates (get_or needs front need)) ≡ false → IsFront fates needs front → IsFront fates needs (front + 1)
 front_more fates needs front need within built is = record {
   within = omega arith;
   built = ap (λ (k : ℕ). first_open fates (take k needs)) (one_more front)
-      ∙ open_more fates needs front (get_or needs front need) (slice_get-get_or needs front need within) built is.built;
+      ∙ open_more fates needs front (get_or needs front need) (slice_get-get_or needs front need within)
+      (some_of (built_at fates (get_or needs front need)) built) is.built;
 }
 
 -- a front behind which no need is built is the first need that isn't
@@ -52,6 +61,21 @@ front_first fates (x ∷ xs) (suc front) e stop =
     let head = head_built (built_at fates x) (first_open fates (take front xs)) x e in
     let rest = rest_built (built_at fates x) (first_open fates (take front xs)) x e in
     ap (λ (o : Option Outcome). cond (is_some o) (first_open fates xs) (Some x)) head.1 ∙ front_first fates xs front rest stop
+
+pub front_here : (fates : List (Option Fate)) (needs : List ℕ) (front need : ℕ) → IsFront fates needs front → front < length needs →
+    is_none (built_at fates (get_or needs front need)) ≡ true → first_open fates needs ≡ slice_get needs front
+front_here fates needs front need is within unbuilt =
+    let there = slice_get-get_or needs front need within in
+    let none = none_of (built_at fates (get_or needs front need)) unbuilt in
+    front_first fates needs front is.built
+    (λ n here. let same : n ≡ get_or needs front need = let h : Some n ≡ Some (get_or needs front need) = sym here ∙ there in cc in
+    ap (built_at fates) same ∙ none)
+
+pub front_end : (fates : List (Option Fate)) (needs : List ℕ) → IsFront fates needs (length needs) →
+    first_open fates needs ≡ slice_get needs (length needs)
+front_end fates needs is =
+    front_first fates needs (length needs) is.built
+    (λ n here. absurd (let h : length needs < length needs = slice_get_within needs (length needs) n here in omega arith))
 
 -- what is built stays so, where a place without a fate gets one
 pub built_stays : (fates : List (Option Fate)) (place : ℕ) (fate : Option Fate) → at fates place ≡ None →

@@ -71,6 +71,7 @@ impl Outlook {
 }
 
 /// How many of the first needs are built, where that is known of so many.
+#[tactic(auto, using(crate::proofs::Fronts::front_more, crate::proofs::Fronts::front_here, crate::proofs::Fronts::front_end))]
 fn front_from(lots: &[Lot], needs: &[u32], known: usize) -> usize
     requires { IsFront (fates_of lots.now) needs.now known }
     ensures front { IsFront (fates_of lots.now) needs.now result }
