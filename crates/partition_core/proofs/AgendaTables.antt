@@ -1,5 +1,5 @@
 -- Tables and their agendas.
-use Rattle.std.proofs.Common.{◌≡◌, ℕ, ◌<◌, ◌==◌, Bool, true, false, length, Option, Some, None, is_some, slice_get, sym, ◌∙◌, subst, arith}
+use Rattle.std.proofs.Common.{◌≡◌, ℕ, ◌<◌, ◌==◌, Bool, true, false, List, length, Option, Some, None, is_some, slice_get, sym, ◌∙◌, subst, arith}
 use Rattle.std.proofs.lemmas.Bool.{eqb-false, eqb-true}
 use Rattle.partition_core.specs.declared.table.Table.{Table}
 use Rattle.partition_core.specs.declared.event.Event.{Event}
@@ -8,11 +8,15 @@ use Rattle.partition_core.specs.declared.event.Next.TheVariants.{Later, Over}
 use Rattle.partition_core.specs.State.{State}
 use Rattle.partition_core.specs.Steps.{effect}
 use Rattle.partition_core.specs.Refusals.{refusal}
-use Rattle.partition_core.specs.Lots.{kepts_of}
+use Rattle.partition_core.specs.Lots.{kepts_of, state_of}
+use Rattle.compile_model.specs.declared.job.Plan.{Plan}
+use Rattle.partition_core.specs.declared.lot.Lot.{Lot}
+use Rattle.partition_core.specs.declared.agenda.Agenda.{Agenda}
+use Rattle.partition_core.specs.declared.event.Standing.{Standing}
 use Rattle.partition_core.specs.Tables.{IsTable, state_in, opening_in}
 use Rattle.partition_core.specs.Nexts.{offer, IsFirst, IsNext}
 use Rattle.partition_core.specs.PlaceSets.{IsFirstOf}
-use Rattle.partition_core.specs.Agendas.{IsBehind}
+use Rattle.partition_core.specs.Agendas.{IsAgenda, IsBehind}
 use Rattle.partition_core.proofs.Offers.{next_over, next_later}
 use Rattle.partition_core.proofs.Touched.{behind_after}
 use Rattle.partition_core.proofs.Offered.{none_left, settled_left, first_at, some_at, none_at}
@@ -53,3 +57,18 @@ pub behind_here : (t : Table) → IsTable t → (event : Event) → refusal (ope
 behind_here t table event e new is =
     subst (λ (s : State). IsBehind t.plan.jobs s event t.agenda) (sym is)
     (behind_after (opening_in t) (state_in t) (tidy_table t table) event (legal_here t table event e) t.agenda table.agenda)
+
+-- the same, read through the calls that lend the table's parts
+pub agenda_seen : (p plan : Plan) (ls lots : List Lot) (ss standings : List Standing) (agenda : Agenda) → p ≡ plan → ls ≡ lots →
+    ss ≡ standings → IsAgenda p.jobs (state_of ls ss) agenda → IsAgenda plan.jobs (state_of lots standings) agenda
+agenda_seen p plan ls lots ss standings agenda e f g is =
+    subst (λ (q : Plan). IsAgenda q.jobs (state_of lots standings) agenda) e
+    (subst (λ (xs : List Lot). IsAgenda p.jobs (state_of xs standings) agenda) f
+    (subst (λ (ys : List Standing). IsAgenda p.jobs (state_of ls ys) agenda) g is))
+
+pub behind_seen : (p plan : Plan) (ls lots : List Lot) (ss standings : List Standing) (event : Event) (agenda : Agenda) → p ≡ plan →
+    ls ≡ lots → ss ≡ standings → IsBehind plan.jobs (state_of lots standings) event agenda → IsBehind p.jobs (state_of ls ss) event agenda
+behind_seen p plan ls lots ss standings event agenda e f g is =
+    subst (λ (q : Plan). IsBehind q.jobs (state_of ls ss) event agenda) (sym e)
+    (subst (λ (xs : List Lot). IsBehind plan.jobs (state_of xs ss) event agenda) (sym f)
+    (subst (λ (ys : List Standing). IsBehind plan.jobs (state_of lots ys) event agenda) (sym g) is))
