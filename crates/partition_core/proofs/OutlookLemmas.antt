@@ -1,7 +1,7 @@
 -- Outlooks, of which places are looked at.
 use Rattle.std.proofs.Common.{◌≡◌, ℕ, zero, suc, ◌+◌, ◌<◌, ◌≤◌, ◌==◌, ◌||◌, ◌&&◌, ◌⊎◌, inl, inr, Bool, true, false, List, [], ◌∷◌, length, replicate, drop, take, count_by, cond, ◌*◌, is_none, Option, Some, None, slice_get, slice_set, get_or, refl, sym, ◌∙◌, ap, subst, arith, eq-eqb}
 use Rattle.std.proofs.lemmas.Bool.{cases_eq, ne_eqb}
-use Rattle.std.proofs.lemmas.List.{length-set, length-replicate}
+use Rattle.std.proofs.lemmas.List.{length-set, length-replicate, drop_more}
 use Rattle.std.proofs.lemmas.List.Folds.{sum_by-replicate}
 use Rattle.std.proofs.lemmas.Option.{slice_get-get_or}
 use Rattle.compile_model.specs.declared.job.Job.{Job}
@@ -43,6 +43,14 @@ outlook_looked jobs s place rest old new known within fronts set = record {
   where
     or_none : (a b : Bool) → a ≡ false → b ≡ false → (a || b) ≡ false
     or_none a b e f = ap (λ (x : Bool). x || b) e ∙ f
+
+-- the first of what is left was looked at
+pub outlook_dropped : (jobs : List Job) (s : State) (places : List ℕ) (k d : ℕ) (old new : Outlook) → k < length places →
+    IsOutlook jobs s (drop k places) old → get_or places k d < length jobs → HasFronts jobs s.fates new →
+    new.offering ≡ slice_set old.offering (get_or places k d) (offers jobs s (get_or places k d)) → IsOutlook jobs s (drop (k + 1) places) new
+outlook_dropped jobs s places k d old new within known inside fronts set =
+    outlook_looked jobs s (get_or places k d) (drop (k + 1) places) old new
+    (subst (λ (left : List ℕ). IsOutlook jobs s left old) (drop_more places k d within) known) inside fronts set
 
 -- no need of a place is built
 pub front_zero : (fates : List (Option Fate)) (needs : List ℕ) → IsFront fates needs 0

@@ -50,6 +50,7 @@ impl Agenda {
     }
 
     /// Takes in what has happened.
+    #[tactic(auto, using(crate::proofs::OutlookLemmas::outlook_looked))]
     pub(crate) fn take_in(
         &mut self,
         plan: &Plan,

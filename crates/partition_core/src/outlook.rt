@@ -34,6 +34,7 @@ impl Outlook {
     }
 
     /// Looks at these places.
+    #[tactic(auto, using(crate::proofs::OutlookLemmas::outlook_dropped))]
     pub(crate) fn look_at_all(
         &mut self,
         plan: &Plan,
@@ -52,6 +53,7 @@ impl Outlook {
     }
 
     /// Looks at a place.
+    #[tactic(auto, using(crate::proofs::OutlookLemmas::front_at, crate::proofs::OutlookLemmas::fronts_set))]
     pub(crate) fn look_at(&mut self, plan: &Plan, lots: &[Lot], standings: &[Standing], place: u32)
         requires within { place < length plan.now.jobs }
         requires fronts { HasFronts plan.now.jobs (fates_of lots.now) self.old }

@@ -52,6 +52,7 @@ impl PlaceSet {
     }
 
     /// The first place that is in the set.
+    #[tactic(auto, using(crate::proofs::PlaceSetLemmas::block_dark))]
     pub(crate) fn first(&self) -> Option<usize>
         ensures none { IfNone result ((place : ℕ) → slice_get self.now place ≡ Some true → ⊥) }
         ensures first { IfSome result (IsFirstOf self.now) }
