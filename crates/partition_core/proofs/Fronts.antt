@@ -1,6 +1,6 @@
 -- Needs of which the first ones are built.
-use Rattle.std.proofs.Common.{◌≡◌, ℕ, zero, suc, ◌+◌, ◌<◌, ◌≤◌, ◌==◌, Bool, true, false, cond, List, [], ◌∷◌, length, take, Option, Some, None, is_some, is_none, slice_get, slice_set, get_or, refl, sym, ◌∙◌, ap, arith}
-use Rattle.std.specs.Option.{option_and_then}
+use Rattle.std.proofs.Common.{◌≡◌, ℕ, zero, suc, ◌+◌, ◌<◌, ◌≤◌, ◌==◌, Bool, true, false, cond, List, [], ◌∷◌, length, take, Option, Some, None, is_some, is_none, slice_get, slice_set, get_or, Bor, refl, sym, ◌∙◌, ap, arith}
+use Rattle.std.specs.Option.{option_and_then, option_copied}
 use Rattle.std.proofs.lemmas.Bool.{or_parts, eqb-false}
 use Rattle.std.proofs.lemmas.Option.{slice_get-get_or, slice_get_within}
 use Rattle.compile_model.specs.declared.outcome.Outcome.{Outcome}
@@ -34,6 +34,10 @@ open_more fates (x ∷ xs) (suc k) need there built e =
 
 one_more : (n : ℕ) → n + 1 ≡ suc n
 one_more n = omega arith
+
+pub copied_none : (found : Option (Bor Outcome)) → is_none (option_copied found) ≡ is_none found
+copied_none None = refl
+copied_none (Some outcome) = refl
 
 some_of : (found : Option Outcome) → is_none found ≡ false → is_some found ≡ true
 some_of None e = cc
