@@ -1,0 +1,85 @@
+// The packages that were read, by their names.
+ghost use Rattle.std.specs.Prelude.{◌≡◌};
+ghost use Rattle.std.specs.Option.{option_copied};
+ghost use Rattle.hex_registry.specs.Offers.{AreOffers};
+ghost use Rattle.hex_registry.specs.Shelves.{AreNamesOf, message_of, needs_of, offer_at, shelf_of, stock_of};
+
+use crate::offer::{Need, Offer, Offers};
+use crate::pick::Picked;
+use hex_messages::Package;
+use indexmap::IndexSet;
+use mx_base::AppName;
+use std::marker::Model;
+
+/// A package as it was read, and what its releases offer.
+#[derive(Drop)]
+pub struct Stock {
+    pub(crate) message: Package,
+    pub(crate) offers: Offers,
+    pub ghost sound: { AreOffers message.repository message.releases offers },
+}
+
+/// The name of a package, and what the registry has of it: nothing where it has no file.
+#[derive(Drop)]
+pub struct Shelf {
+    pub(crate) name: AppName,
+    pub(crate) stock: Option<Stock>,
+}
+
+/// The packages that wants come to, as they were read, in the order of reading.
+#[derive(Drop)]
+pub struct Registry {
+    pub(crate) shelves: Vec<Shelf>,
+    pub(crate) names: IndexSet<AppName>,
+    pub(crate) ghost named: { AreNamesOf names shelves.items },
+}
+
+impl Model for Registry {
+    ghost use Rattle.std.specs.Prelude.{List};
+    ghost use Rattle.hex_registry.specs.declared.registry.Shelf.{Shelf};
+
+    ghost Value = { List Shelf };
+
+    ghost view = { λ registry. registry.shelves.items };
+}
+
+impl Registry {
+    /// The package as it was read, and none exactly where none was.
+    pub fn package(&self, name: &AppName) -> Option<&Package>
+        ensures { option_copied result ≡ message_of self.now name.now }
+    {
+        let stock = self.stock(name)?;
+        Some(&stock.message)
+    }
+
+    pub(crate) fn stock(&self, name: &AppName) -> Option<&Stock>
+        ensures { option_copied result ≡ stock_of self.now name.now }
+    {
+        self.shelf(name)?.stock.as_ref()
+    }
+
+    /// What a picked release offers, where there is one at its place.
+    pub(crate) fn offer(&self, picked: &Picked) -> Option<&Offer>
+        ensures { option_copied result ≡ offer_at self.now picked.now }
+    {
+        let stock = self.stock(&picked.0)?;
+        stock.offers.as_slice().get(picked.1 as usize)
+    }
+
+    /// What a picked release asks for, with what is set aside.
+    pub(crate) fn needs(&self, picked: &Picked) -> &[Need]
+        ensures { result.now ≡ needs_of (offer_at self.now picked.now) }
+    {
+        match self.offer(picked) {
+            Some(offer) => offer.needs(),
+            None => &[],
+        }
+    }
+
+    fn shelf(&self, name: &AppName) -> Option<&Shelf>
+        ensures { option_copied result ≡ shelf_of self.now name.now }
+    {
+        let place = self.names.get_index_of(name)?;
+        self.shelves.get(place)
+    }
+}
