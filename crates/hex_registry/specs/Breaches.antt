@@ -9,7 +9,7 @@ use Rattle.hex_registry.specs.declared.breach.Breach.TheVariants.{NotPicked, Not
 use Rattle.hex_registry.specs.declared.unmet.By.{By}
 use Rattle.hex_registry.specs.declared.unmet.By.TheVariants.{Want, Package}
 use Rattle.hex_registry.specs.declared.offer.Offer.{Offer}
-use Rattle.hex_registry.specs.declared.registry.Shelf.{Shelf}
+use Rattle.hex_registry.specs.declared.shelf.Shelf.{Shelf}
 use Rattle.hex_registry.specs.declared.wants.Wants.{Wants}
 use Rattle.hex_registry.specs.Picks.{Picked, IsAsked, IsReached, has_package, is_candidate, need_refuses, needs_at, want_refuses}
 use Rattle.hex_registry.specs.Shelves.{offer_at}

@@ -1,15 +1,15 @@
 -- The candidates of a package in their order.
 use Rattle.std.specs.Prelude.{◌≡◌, ◌↔◌, ℕ, Bool, true, false, ◌&&◌, List, [], position, zip, Option, Some, None, IsTrue, if◌then◌else◌, bytes_eq, slice_get}
 use Rattle.std.specs.List.{AllPairs, Contains}
-use Rattle.std.specs.Ordering.{nat_cmp, ordering_then}
+use Rattle.std.specs.Ordering.{bool_cmp, nat_cmp, ordering_then}
 use Rattle.std.specs.declared.cmp.Ordering.{Ordering}
-use Rattle.std.specs.declared.cmp.Ordering.TheVariants.{Less, Equal}
+use Rattle.std.specs.declared.cmp.Ordering.TheVariants.{Less}
 use Rattle.semver.specs.Eval.{precedence_cmp}
 use Rattle.semver.specs.declared.Version.{Version}
 use Rattle.hex_messages.specs.declared.package.Release.{Release}
 use Rattle.hex_registry.specs.declared.candidates.Candidate.{Candidate}
 use Rattle.hex_registry.specs.declared.offer.Offer.{Offer}
-use Rattle.hex_registry.specs.declared.registry.Stock.{Stock}
+use Rattle.hex_registry.specs.declared.shelf.Stock.{Stock}
 use Rattle.hex_registry.specs.Offers.{is_usable}
 
 abbrev pub is_usable_in : Option Offer → Bool
@@ -37,16 +37,11 @@ pub record Ranked : Type 0 where
 abbrev pub candidate_in : Candidate → Ranked
 candidate_in candidate = record { place = candidate.place; locked = candidate.locked; offer = candidate.offer.now }
 
--- false stands before true
-abbrev pub bool_rank : Bool → ℕ
-bool_rank false = 0
-bool_rank true = 1
-
 -- the locked one first, then those that aren't retired, newer precedence first, and ties in the order of the message
 abbrev pub candidate_cmp : Ranked → Ranked → Ordering
 candidate_cmp one other =
-    ordering_then (nat_cmp (bool_rank other.locked) (bool_rank one.locked))
-    (ordering_then (nat_cmp (bool_rank one.offer.retired) (bool_rank other.offer.retired))
+    ordering_then (bool_cmp other.locked one.locked)
+    (ordering_then (bool_cmp one.offer.retired other.offer.retired)
     (ordering_then (precedence_cmp other.offer.version one.offer.version) (nat_cmp one.place other.place)))
 
 -- the release at this place, as a candidate beside the locked one

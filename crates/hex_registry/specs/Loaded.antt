@@ -14,8 +14,8 @@ use Rattle.mx_base.specs.Path.{child_of}
 use Rattle.hex_registry.specs.declared.error.RegistryError.{RegistryError}
 use Rattle.hex_registry.specs.declared.error.RegistryError.TheVariants.{Wire, NoPackage, NameDiffers, BadVersion}
 use Rattle.hex_registry.specs.declared.offer.Offer.{Offer}
-use Rattle.hex_registry.specs.declared.registry.Shelf.{Shelf}
-use Rattle.hex_registry.specs.declared.registry.Stock.{Stock}
+use Rattle.hex_registry.specs.declared.shelf.Shelf.{Shelf}
+use Rattle.hex_registry.specs.declared.shelf.Stock.{Stock}
 use Rattle.hex_registry.specs.declared.wants.Want.{Want}
 use Rattle.hex_registry.specs.declared.wants.Wants.{Wants}
 use Rattle.hex_registry.specs.Offers.{AreOffers, IsNoVersion, IsOffer}

@@ -9,7 +9,7 @@ use Rattle.version_req.specs.Meaning.{sat}
 use Rattle.version_req.specs.declared.operator.Operator.TheVariants.{GreaterOrEqual}
 use Rattle.hex_registry.specs.declared.offer.Need.{Need}
 use Rattle.hex_registry.specs.declared.offer.Offer.{Offer}
-use Rattle.hex_registry.specs.declared.registry.Shelf.{Shelf}
+use Rattle.hex_registry.specs.declared.shelf.Shelf.{Shelf}
 use Rattle.hex_registry.specs.declared.wants.Want.{Want}
 use Rattle.hex_registry.specs.declared.wants.Wants.{Wants}
 use Rattle.hex_registry.specs.Candidates.{is_usable_in}

@@ -3,7 +3,7 @@ use Rattle.std.specs.Prelude.{◌≡◌, ◌↔◌, ℕ, false, List, length, po
 use Rattle.std.specs.List.{Contains}
 use Rattle.dep_order.specs.Graph.{needs_of}
 use Rattle.hex_registry.specs.declared.offer.Need.{Need}
-use Rattle.hex_registry.specs.declared.registry.Shelf.{Shelf}
+use Rattle.hex_registry.specs.declared.shelf.Shelf.{Shelf}
 use Rattle.hex_registry.specs.declared.wants.Want.{Want}
 use Rattle.hex_registry.specs.declared.wants.Wants.{Wants}
 use Rattle.hex_registry.specs.Picks.{Picked, needs_at}

@@ -5,8 +5,8 @@ use Rattle.indexmap.specs.IndexSet.{IndexSet}
 use Rattle.hex_messages.specs.declared.package.Package.{Package}
 use Rattle.hex_registry.specs.declared.offer.Need.{Need}
 use Rattle.hex_registry.specs.declared.offer.Offer.{Offer}
-use Rattle.hex_registry.specs.declared.registry.Shelf.{Shelf}
-use Rattle.hex_registry.specs.declared.registry.Stock.{Stock}
+use Rattle.hex_registry.specs.declared.shelf.Shelf.{Shelf}
+use Rattle.hex_registry.specs.declared.shelf.Stock.{Stock}
 
 abbrev pub shelf_names : List Shelf → List (List ℕ)
 shelf_names shelves = map (λ shelf. shelf.name) shelves

@@ -3,7 +3,7 @@ use Rattle.std.specs.Prelude.{◌≡◌, ℕ, true, List, Option, Some, IsTrue}
 use Rattle.std.specs.List.{Contains}
 use Rattle.hex_registry.specs.declared.offer.Need.{Need}
 use Rattle.hex_registry.specs.declared.offer.Offer.{Offer}
-use Rattle.hex_registry.specs.declared.registry.Shelf.{Shelf}
+use Rattle.hex_registry.specs.declared.shelf.Shelf.{Shelf}
 use Rattle.hex_registry.specs.declared.wants.Want.{Want}
 use Rattle.hex_registry.specs.declared.wants.Wants.{Wants}
 use Rattle.hex_registry.specs.Picks.{Picked, ArePicks, IsAsked, IsReached, has_package, is_candidate, need_takes, needs_at, want_takes}

@@ -5,7 +5,8 @@ ghost use Rattle.hex_registry.specs.Candidates.{AreCandidates, AreCandidatesOf, 
 ghost use Rattle.hex_registry.specs.Shelves.{stock_of};
 
 use crate::offer::Offer;
-use crate::registry::{Registry, Stock};
+use crate::registry::Registry;
+use crate::shelf::Stock;
 use hex_messages::Release;
 use mx_base::{AppName, Text};
 use std::alloc::{AllocError, Global};
@@ -27,13 +28,13 @@ impl Registry {
     pub fn candidates(
         &self,
         alloc: Global,
-        package: &AppName,
+        name: &AppName,
         locked: Option<&Text>,
     ) -> Result<Vec<u64>, AllocError>
         ensures { IfOk result (λ places.
-            AreCandidatesOf (stock_of self.now package.now) (option_copied locked) places.items) }
+            AreCandidatesOf (stock_of self.now name.now) (option_copied locked) places.items) }
     {
-        match self.stock(package) {
+        match self.stock(name) {
             Some(stock) => stock.candidates(alloc, locked),
             None => Ok(Vec::new(alloc)),
         }

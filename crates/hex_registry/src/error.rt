@@ -61,11 +61,14 @@ impl From<StoreFault> for RegistryError {
 }
 
 /// What the fault of a package's message becomes.
-pub(crate) fn wire_refused(package: AppName, fault: WireError) -> RegistryError
-    ensures { result ≡ wire_refused package fault }
+pub(crate) fn wire_refused(name: AppName, fault: WireError) -> RegistryError
+    ensures { result ≡ wire_refused name fault }
 {
     match fault.cause {
         WireCause::OutOfMemory => RegistryError::OutOfMemory,
-        _ => RegistryError::Wire { package, fault },
+        _ => RegistryError::Wire {
+            package: name,
+            fault,
+        },
     }
 }

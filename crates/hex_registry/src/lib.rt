@@ -13,6 +13,7 @@ mod offer;
 mod pick;
 mod reach;
 mod registry;
+mod shelf;
 mod unmet;
 mod wants;
 
@@ -20,6 +21,7 @@ pub use breach::{Breach, first_breach, is_valid_pick};
 pub use error::RegistryError;
 pub use offer::{Need, Needs, Offer, Offers};
 pub use pick::{Pick, Picked};
-pub use registry::{Registry, Shelf, Stock};
+pub use registry::Registry;
+pub use shelf::{Shelf, Stock};
 pub use unmet::By;
 pub use wants::{Locked, LockedList, Want, WantList, Wants};

@@ -9,7 +9,8 @@ ghost use Rattle.hex_registry.specs.Loaded.{IsLoaded, IsMessage, SaysMessage, Sa
 
 use crate::error::{RegistryError, wire_refused};
 use crate::offer::{Offer, Offers, needs_of, version_of};
-use crate::registry::{Registry, Shelf, Stock};
+use crate::registry::Registry;
+use crate::shelf::{Shelf, Stock};
 use crate::wants::Wants;
 use hex_messages::{Package, Release, read_package};
 use indexmap::IndexSet;

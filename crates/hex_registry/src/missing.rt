@@ -26,11 +26,7 @@ pub(crate) fn first_not_picked(
 }
 
 // The least name that is required and not picked.
-fn first_missing<'a>(
-    registry: &'a Registry,
-    wants: &'a Wants,
-    pick: &Pick,
-) -> Option<&'a AppName> {
+fn first_missing<'a>(registry: &'a Registry, wants: &'a Wants, pick: &Pick) -> Option<&'a AppName> {
     let mut least = None;
     for want in wants.wants.as_slice() {
         if !want.optional && !pick.has(&want.package) {

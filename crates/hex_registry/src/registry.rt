@@ -1,30 +1,15 @@
 // The packages that were read, by their names.
 ghost use Rattle.std.specs.Prelude.{◌≡◌};
 ghost use Rattle.std.specs.Option.{option_copied};
-ghost use Rattle.hex_registry.specs.Offers.{AreOffers};
 ghost use Rattle.hex_registry.specs.Shelves.{AreNamesOf, message_of, needs_of, offer_at, shelf_of, stock_of};
 
-use crate::offer::{Need, Offer, Offers};
+use crate::offer::{Need, Offer};
 use crate::pick::Picked;
+use crate::shelf::{Shelf, Stock};
 use hex_messages::Package;
 use indexmap::IndexSet;
 use mx_base::AppName;
 use std::marker::Model;
-
-/// A package as it was read, and what its releases offer.
-#[derive(Drop)]
-pub struct Stock {
-    pub(crate) message: Package,
-    pub(crate) offers: Offers,
-    pub ghost sound: { AreOffers message.repository message.releases offers },
-}
-
-/// The name of a package, and what the registry has of it: nothing where it has no file.
-#[derive(Drop)]
-pub struct Shelf {
-    pub(crate) name: AppName,
-    pub(crate) stock: Option<Stock>,
-}
 
 /// The packages that wants come to, as they were read, in the order of reading.
 #[derive(Drop)]
@@ -36,7 +21,7 @@ pub struct Registry {
 
 impl Model for Registry {
     ghost use Rattle.std.specs.Prelude.{List};
-    ghost use Rattle.hex_registry.specs.declared.registry.Shelf.{Shelf};
+    ghost use Rattle.hex_registry.specs.declared.shelf.Shelf.{Shelf};
 
     ghost Value = { List Shelf };
 

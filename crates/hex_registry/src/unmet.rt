@@ -91,13 +91,7 @@ fn first_need_against<'a>(
 }
 
 // Whether a picked release states a requirement in force that the release of the package doesn't meet.
-fn refuses(
-    registry: &Registry,
-    wants: &Wants,
-    by: &Picked,
-    name: &AppName,
-    offer: &Offer,
-) -> bool
+fn refuses(registry: &Registry, wants: &Wants, by: &Picked, name: &AppName, offer: &Offer) -> bool
     ensures { result ≡ list_any (need_refuses wants.now.overridden name.now offer.now)
         (needs_at registry.now wants.now by.now) }
 {
