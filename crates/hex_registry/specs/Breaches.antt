@@ -1,5 +1,5 @@
 -- Why a pick isn't valid, the first reason in their order.
-use Rattle.std.specs.Prelude.{◌≡◌, ℕ, List, find, position, Option, Some, None, IsTrue, IsFalse}
+use Rattle.std.specs.Prelude.{◌≡◌, ℕ, List, find, position, Option, Some, None, IsTrue, IsFalse, if◌then◌else◌}
 use Rattle.std.specs.List.{Contains, list_any}
 use Rattle.std.specs.Ordering.{is_le, nat_cmp, ordering_then}
 use Rattle.std.specs.declared.cmp.Ordering.{Ordering}
@@ -55,6 +55,11 @@ package_of (Unreached name) = name
 -- by kind, and then by package in byte order
 abbrev pub breach_cmp : Breach → Breach → Ordering
 breach_cmp one other = ordering_then (nat_cmp (kind_of one) (kind_of other)) (text_cmp (package_of one) (package_of other))
+
+-- the lesser of two names, where there are two
+abbrev pub lesser_of : Option (List ℕ) → List ℕ → List ℕ
+lesser_of None name = name
+lesser_of (Some least) name = if is_le (text_cmp least name) then least else name
 
 -- a breach of this kind
 abbrev pub IsOfKind : (Breach → Type 0) → ℕ → Breach → Type 0

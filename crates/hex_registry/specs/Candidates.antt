@@ -1,11 +1,10 @@
 -- The candidates of a package in their order.
-use Rattle.std.specs.Prelude.{◌≡◌, ◌↔◌, ℕ, Bool, true, false, ◌&&◌, List, [], position, zip, Option, Some, None, IsTrue, if◌then◌else◌, bytes_eq, slice_get}
-use Rattle.std.specs.List.{AllPairs, Contains}
+use Rattle.std.specs.Prelude.{◌≡◌, ◌↔◌, ℕ, ◌<◌, Bool, false, ◌&&◌, List, [], map, position, zip, Option, Some, None, IsTrue, bytes_eq, slice_get}
+use Rattle.std.specs.List.{All, AllPairs, Contains}
 use Rattle.std.specs.Ordering.{bool_cmp, nat_cmp, ordering_then}
 use Rattle.std.specs.declared.cmp.Ordering.{Ordering}
 use Rattle.std.specs.declared.cmp.Ordering.TheVariants.{Less}
 use Rattle.semver.specs.Eval.{precedence_cmp}
-use Rattle.semver.specs.declared.Version.{Version}
 use Rattle.hex_messages.specs.declared.package.Release.{Release}
 use Rattle.hex_registry.specs.declared.candidates.Candidate.{Candidate}
 use Rattle.hex_registry.specs.declared.offer.Offer.{Offer}
@@ -44,22 +43,28 @@ candidate_cmp one other =
     (ordering_then (bool_cmp one.offer.retired other.offer.retired)
     (ordering_then (precedence_cmp other.offer.version one.offer.version) (nat_cmp one.place other.place)))
 
--- the release at this place, as a candidate beside the locked one
-pub record IsCandidate (stock : Stock) (locked : Option (List ℕ)) (candidate : Ranked) : Type 0 where
+-- a usable release, of which it is told whether it stands at the locked place
+pub record IsCandidate (stock : Stock) (locked : Option ℕ) (candidate : Ranked) : Type 0 where
   pub at : slice_get stock.offers candidate.place ≡ Some candidate.offer
   pub usable : IsTrue (is_usable candidate.offer)
-  pub is_locked : IsTrue candidate.locked ↔ (locked_place stock locked ≡ Some candidate.place)
+  pub is_locked : IsTrue candidate.locked ↔ (locked ≡ Some candidate.place)
 
 -- of two places of usable releases the first one stands earlier
-abbrev pub ComesBefore : Stock → Option (List ℕ) → ℕ → ℕ → Type 0
+abbrev pub ComesBefore : Stock → Option ℕ → ℕ → ℕ → Type 0
 ComesBefore stock locked place other =
     (one later : Ranked) → IsCandidate stock locked one → IsCandidate stock locked later
     → one.place ≡ place → later.place ≡ other → candidate_cmp one later ≡ Less
 
+-- all usable releases in the order of the message
+pub record AreUsable (stock : Stock) (locked : Option ℕ) (candidates : List Ranked) : Type 0 where
+  pub in_order : AllPairs (λ earlier later. earlier.place < later.place) candidates
+  pub only : All (IsCandidate stock locked) candidates
+  pub all : (place : ℕ) → IsTrue (is_usable_at stock place) → Contains (map (λ candidate. candidate.place) candidates) place
+
 -- the places of all usable releases in the order of candidates
 pub record AreCandidates (stock : Stock) (locked : Option (List ℕ)) (places : List ℕ) : Type 0 where
   pub each : (place : ℕ) → Contains places place ↔ IsTrue (is_usable_at stock place)
-  pub in_order : AllPairs (ComesBefore stock locked) places
+  pub in_order : AllPairs (ComesBefore stock (locked_place stock locked)) places
 
 -- a package that wasn't read has none
 abbrev pub AreCandidatesOf : Option Stock → Option (List ℕ) → List ℕ → Type 0

@@ -1,6 +1,7 @@
 -- In which order packages are read, and what is refused at the first place met.
 use Rattle.std.specs.Prelude.{◌≡◌, ◌≢◌, ℕ, Bool, true, false, not, List, [], ◌∷◌, ◌++◌, map, find, filter, flat_map, bytes_eq, Option, Some, None, Result, Ok, Err, IsTrue, IsFalse, codes}
-use Rattle.std.specs.List.{Contains}
+use Rattle.std.specs.List.{All}
+use Rattle.semver.specs.declared.Version.{Version}
 use Rattle.hex_messages.specs.declared.error.WireCause.TheVariants as cause
 use Rattle.hex_messages.specs.declared.error.WireError.{WireError}
 use Rattle.hex_messages.specs.declared.package.Package.{Package}
@@ -18,7 +19,7 @@ use Rattle.hex_registry.specs.declared.shelf.Shelf.{Shelf}
 use Rattle.hex_registry.specs.declared.shelf.Stock.{Stock}
 use Rattle.hex_registry.specs.declared.wants.Want.{Want}
 use Rattle.hex_registry.specs.declared.wants.Wants.{Wants}
-use Rattle.hex_registry.specs.Offers.{AreOffers, IsNoVersion, IsOffer}
+use Rattle.hex_registry.specs.Offers.{AreOffers, IsNoVersion, IsOffer, IsVersion}
 use Rattle.hex_registry.specs.Shelves.{is_among, needs_of, shelf_names, without_apps}
 
 -- where the message of a package lies
@@ -31,7 +32,7 @@ pub record IsFirstBadVersion (releases : List Release) (text : List ℕ) : Type 
   pub release : Release
   pub after : List Release
   pub split : releases ≡ before ++ release ∷ after
-  pub versions : (earlier : Release) → Contains before earlier → IsNoVersion earlier.version → ⊥
+  pub versions : All (λ earlier. (version : Version) × IsVersion earlier.version version) before
   pub none : IsNoVersion release.version
   pub text_is : release.version ≡ text
 
@@ -55,7 +56,7 @@ pub data SaysMessage (name bytes : List ℕ) : Result Stock RegistryError → Ty
   wire : (fault : WireError) → IsFirstFault bytes fault → fault.cause ≢ cause.OutOfMemory → SaysMessage name bytes (Err (Wire name fault))
   differs : (message : Package) → Stands bytes message → message.name ≢ name → SaysMessage name bytes (Err (NameDiffers name message.name))
   version : (message : Package) {text : List ℕ} → Stands bytes message → message.name ≡ name → IsFirstBadVersion message.releases text → SaysMessage name bytes (Err (BadVersion name text))
-  read : {stock : Stock} → Stands bytes stock.message → stock.message.name ≡ name → SaysMessage name bytes (Ok stock)
+  read : {stock : Stock} → Stands bytes stock.message → stock.message.name ≡ name → AreOffers stock.message.repository stock.message.releases stock.offers → SaysMessage name bytes (Ok stock)
 
 -- what a registry has under a name, whose file has these bytes. Only a package that wants name must have a file
 pub data SaysStock (wanted : Bool) (name : List ℕ) : Option (List ℕ) → Result (Option Stock) RegistryError → Type 0 where

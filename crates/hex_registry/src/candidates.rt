@@ -1,7 +1,7 @@
 // The candidates of a package in their order.
 ghost use Rattle.std.specs.Prelude.{◌≡◌, IfOk, map};
 ghost use Rattle.std.specs.Option.{option_copied};
-ghost use Rattle.hex_registry.specs.Candidates.{AreCandidates, AreCandidatesOf, candidate_cmp, candidate_in, is_locked, locked_place};
+ghost use Rattle.hex_registry.specs.Candidates.{AreCandidates, AreCandidatesOf, AreUsable, candidate_cmp, candidate_in, is_locked, locked_place};
 ghost use Rattle.hex_registry.specs.Shelves.{stock_of};
 
 use crate::offer::Offer;
@@ -74,7 +74,10 @@ fn usable(
     alloc: Global,
     stock: &Stock,
     locked: Option<usize>,
-) -> Result<Vec<Candidate<'_>>, AllocError> {
+) -> Result<Vec<Candidate<'_>>, AllocError>
+    ensures { IfOk result (λ candidates.
+        AreUsable stock.now locked (map candidate_in candidates.items)) }
+{
     let mut candidates = Vec::new(alloc);
     for (place, offer) in stock.offers.as_slice().iter().enumerate() {
         if offer.is_usable() {

@@ -1,6 +1,8 @@
 // Packages that aren't picked, or not of their candidates.
-ghost use Rattle.std.specs.Prelude.{◌≡◌, IfOk};
-ghost use Rattle.hex_registry.specs.Breaches.{IsBreach, IsFirst, IsOfKind};
+ghost use Rattle.std.specs.Prelude.{◌≡◌, Some, IfOk, option_map};
+ghost use Rattle.std.specs.Option.{option_copied};
+ghost use Rattle.hex_registry.specs.Breaches.{IsBreach, IsFirst, IsOfKind, lesser_of};
+ghost use Rattle.hex_registry.specs.declared.breach.Breach.TheVariants.{NotPicked};
 ghost use Rattle.hex_registry.specs.Picks.{is_candidate};
 ghost use Rattle.hex_registry.specs.declared.wants.Wants.{Wants};
 
@@ -26,7 +28,10 @@ pub(crate) fn first_not_picked(
 }
 
 // The least name that is required and not picked.
-fn first_missing<'a>(registry: &'a Registry, wants: &'a Wants, pick: &Pick) -> Option<&'a AppName> {
+fn first_missing<'a>(registry: &'a Registry, wants: &'a Wants, pick: &Pick) -> Option<&'a AppName>
+    ensures { IsFirst (IsOfKind (IsBreach registry.now wants.now pick.now) 0)
+        (option_map NotPicked (option_copied result)) }
+{
     let mut least = None;
     for want in wants.wants.as_slice() {
         if !want.optional && !pick.has(&want.package) {
@@ -43,7 +48,9 @@ fn first_missing<'a>(registry: &'a Registry, wants: &'a Wants, pick: &Pick) -> O
     least
 }
 
-fn lesser<'a>(least: Option<&'a AppName>, name: &'a AppName) -> Option<&'a AppName> {
+fn lesser<'a>(least: Option<&'a AppName>, name: &'a AppName) -> Option<&'a AppName>
+    ensures { option_copied result ≡ Some (lesser_of (option_copied least) name.now) }
+{
     match least {
         Some(other) if other <= name => Some(other),
         _ => Some(name),

@@ -1,9 +1,10 @@
 // Which picked packages are reached from wants.
-ghost use Rattle.std.specs.Prelude.{◌≡◌, ◌<◌, ◌↔◌, ℕ, length, IfOk};
-ghost use Rattle.std.specs.List.{All, Contains};
-ghost use Rattle.dep_order.specs.Graph.{NeedsAreWithin, needs_of};
+ghost use Rattle.std.specs.Prelude.{◌<◌, ◌↔◌, ℕ, length, IfOk, IfSome, IfNone};
+ghost use Rattle.std.specs.List.{All, AllPairs, Contains};
+ghost use Rattle.dep_order.specs.Graph.{NeedsAreWithin};
 ghost use Rattle.hex_registry.specs.Breaches.{IsBreach, IsFirst, IsOfKind};
-ghost use Rattle.hex_registry.specs.Reach.{AreLinks, IsStart};
+ghost use Rattle.hex_registry.specs.Reach.{AreLinks, IsLink, IsStart};
+ghost use Rattle.hex_registry.specs.Shelves.{without_apps};
 
 use crate::breach::Breach;
 use crate::offer::Need;
@@ -55,7 +56,11 @@ fn places_of(
     wants: &Wants,
     pick: &Pick,
     needs: &[Need],
-) -> Result<Places, AllocError> {
+) -> Result<Places, AllocError>
+    ensures within { IfOk result (λ places. All (λ place. place < length pick.now) places) }
+    ensures each { IfOk result (λ places. (place : ℕ) → Contains places place
+        ↔ IsLink pick.now (without_apps wants.now.pinned needs.now) place) }
+{
     let mut places = Places::new(alloc);
     for need in needs {
         if need.optional || wants.sets_aside(need) {
@@ -87,7 +92,13 @@ fn starts(alloc: Global, wants: &Wants, pick: &Pick) -> Result<Vec<usize>, Alloc
 }
 
 // The first place below the count that isn't among these, which increase.
-fn first_gap(places: &[usize], count: usize) -> Option<usize> {
+fn first_gap(places: &[usize], count: usize) -> Option<usize>
+    requires in_order { AllPairs (λ earlier later. earlier < later) places.now }
+    requires within { All (λ place. place < count) places.now }
+    ensures gap { IfSome result (λ place. (place < count) × (Contains places.now place → ⊥)
+        × ((earlier : ℕ) → earlier < place → Contains places.now earlier)) }
+    ensures none { IfNone result ((place : ℕ) → place < count → Contains places.now place) }
+{
     for place in 0..count {
         if places.get(place) != Some(&place) {
             return Some(place);

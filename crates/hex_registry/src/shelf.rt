@@ -1,5 +1,4 @@
 // What was read of a package.
-ghost use Rattle.hex_registry.specs.Offers.{AreOffers};
 
 use crate::offer::Offers;
 use hex_messages::Package;
@@ -10,7 +9,6 @@ use mx_base::AppName;
 pub struct Stock {
     pub(crate) message: Package,
     pub(crate) offers: Offers,
-    pub ghost sound: { AreOffers message.repository message.releases offers },
 }
 
 /// The name of a package, and what the registry has of it: nothing where it has no file.
