@@ -22,9 +22,12 @@ use Rattle.hex_registry.specs.declared.wants.Wants.{Wants}
 use Rattle.hex_registry.specs.Offers.{AreOffers, IsNoVersion, IsOffer, IsVersion}
 use Rattle.hex_registry.specs.Shelves.{is_among, needs_of, shelf_names, without_apps}
 
--- where the message of a package lies
+-- the message of a package, in the folder of its name
+abbrev pub message_name : List ℕ
+message_name = codes "package"
+
 abbrev pub package_path : List ℕ → List ℕ
-package_path name = child_of (child_of registry_folder name) (codes "package")
+package_path name = child_of (child_of registry_folder name) message_name
 
 -- the first release whose version is none has this text for it
 pub record IsFirstBadVersion (releases : List Release) (text : List ℕ) : Type 0 where

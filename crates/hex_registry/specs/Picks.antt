@@ -30,9 +30,12 @@ picked_of pick name = find (λ picked. bytes_eq name picked.0) pick
 abbrev pub has_package : List Picked → List ℕ → Bool
 has_package pick name = is_some (picked_of pick name)
 
+abbrev pub from_zero : Condition
+from_zero = record { operator = GreaterOrEqual; operand = (0, 0, 0, [], []); patch_written = true }
+
 -- `>= 0.0.0`, which stands where a want has no requirement
 abbrev pub any_release : Alternatives
-any_release = (record { operator = GreaterOrEqual; operand = (0, 0, 0, [], []); patch_written = true } ∷ []) ∷ []
+any_release = (from_zero ∷ []) ∷ []
 
 abbrev pub alternatives_of : Option Alternatives → Alternatives
 alternatives_of None = any_release
