@@ -1,1 +1,2 @@
 pub mod AnyRelease
+pub mod PathLemmas

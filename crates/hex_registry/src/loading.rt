@@ -110,6 +110,7 @@ fn load_stock<S: Store>(
     stock_of(alloc, name, wanted, bytes)
 }
 
+#[tactic(auto, using(crate::proofs::PathLemmas::name_is_segment, crate::proofs::PathLemmas::message_outside))]
 fn message_path(alloc: Global, name: &AppName) -> Result<RelPath, AllocError>
     ensures place { IfOk result (λ path. path ≡ package_path name.now) }
     ensures outside { IfOk result (λ path. IsFalse (is_in_build path)) }
