@@ -1,2 +1,3 @@
 pub mod AnyRelease
+pub mod KindLemmas
 pub mod PathLemmas

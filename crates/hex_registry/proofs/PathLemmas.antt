@@ -1,5 +1,6 @@
 -- Where messages lie.
-use Rattle.std.proofs.Common.{◌≡◌, ℕ, true, false, IsTrue, IsFalse, List, [], ◌++◌, append_nil, refl, sym, ◌∙◌, ap}
+use Rattle.std.proofs.Common.{◌≡◌, ℕ, true, false, IsTrue, IsFalse, List, [], ◌++◌, refl, sym, ◌∙◌, ap}
+use Rattle.std.proofs.lemmas.List.{append-nil}
 use Rattle.mx_base.specs.AppName.{IsAppName}
 use Rattle.mx_base.specs.Layout.{is_in_build}
 use Rattle.mx_base.specs.Path.{is_segment}
@@ -8,7 +9,7 @@ use Rattle.hex_registry.specs.Loaded.{package_path}
 
 -- a name is one segment
 pub name_is_segment : (name : List ℕ) → IsAppName name → is_segment name ≡ true
-name_is_segment name is = ap is_segment (sym (append_nil name)) ∙ name_with_ending name [] is refl
+name_is_segment name is = ap is_segment (sym (append-nil name)) ∙ name_with_ending name [] is refl
 
 -- messages don't lie among builds
 pub message_outside : (name : List ℕ) → is_in_build (package_path name) ≡ false

@@ -1,5 +1,5 @@
 // Whether a pick is valid, and else why it isn't.
-ghost use Rattle.std.specs.Prelude.{◌↔◌, IsTrue, IfOk};
+ghost use Rattle.std.specs.Prelude.{◌↔◌, IsTrue, IsNone, IfOk};
 ghost use Rattle.hex_registry.specs.Breaches.{SaysBreach};
 ghost use Rattle.hex_registry.specs.Valid.{IsValid};
 
@@ -26,14 +26,18 @@ pub enum Breach {
     Unreached(AppName),
 }
 
-/// The first reason why the pick isn't valid, in the order of the kinds and then of the packages' bytes.
+/// The first reason why the pick isn't valid, in the order of the kinds and then of the packages' bytes, and none
+/// exactly where it is valid.
+#[tactic(auto, using(crate::proofs::KindLemmas::first_0, crate::proofs::KindLemmas::first_1, crate::proofs::KindLemmas::first_2, crate::proofs::KindLemmas::first_3))]
 pub fn first_breach(
     alloc: Global,
     registry: &Registry,
     wants: &Wants,
     pick: &Pick,
 ) -> Result<Option<Breach>, AllocError>
-    ensures { IfOk result (SaysBreach registry.now wants.now pick.now) }
+    ensures first { IfOk result (SaysBreach registry.now wants.now pick.now) }
+    ensures valid { IfOk result (λ found.
+        IsNone found ↔ IsValid registry.now wants.now pick.now) }
 {
     if let Some(breach) = first_not_picked(registry, wants, pick)? {
         return Ok(Some(breach));

@@ -3,6 +3,7 @@ ghost use Rattle.std.specs.Prelude.{◌<◌, ◌↔◌, ℕ, length, IfOk, IfSom
 ghost use Rattle.std.specs.List.{All, AllPairs, Contains};
 ghost use Rattle.dep_order.specs.Graph.{NeedsAreWithin};
 ghost use Rattle.hex_registry.specs.Breaches.{IsBreach, IsFirst, IsOfKind};
+ghost use Rattle.hex_registry.specs.Picks.{IsReached};
 ghost use Rattle.hex_registry.specs.Reach.{AreLinks, IsLink, IsStart};
 ghost use Rattle.hex_registry.specs.Shelves.{without_apps};
 
@@ -21,7 +22,9 @@ pub(crate) fn first_unreached(
     wants: &Wants,
     pick: &Pick,
 ) -> Result<Option<Breach>, AllocError>
-    ensures { IfOk result (IsFirst (IsOfKind (IsBreach registry.now wants.now pick.now) 3)) }
+    ensures first { IfOk result (IsFirst (IsOfKind (IsBreach registry.now wants.now pick.now) 3)) }
+    ensures whole { IfOk result (λ found. IfNone found
+        (All (λ picked. IsReached registry.now wants.now pick.now picked.0) pick.now)) }
 {
     let graph = Graph::of(links(alloc, registry, wants, pick)?);
     let starts = starts(alloc, wants, pick)?;
