@@ -11,7 +11,7 @@ use Rattle.hex_registry.specs.declared.unmet.By.TheVariants.{Want, Package}
 use Rattle.hex_registry.specs.declared.offer.Offer.{Offer}
 use Rattle.hex_registry.specs.declared.shelf.Shelf.{Shelf}
 use Rattle.hex_registry.specs.declared.wants.Wants.{Wants}
-use Rattle.hex_registry.specs.Picks.{Picked, IsAsked, IsReached, has_package, is_candidate, need_refuses, needs_at, want_refuses}
+use Rattle.hex_registry.specs.Picks.{Picked, IsAsked, IsReached, has_package, is_candidate, demand_refuses, demands_at, want_refuses}
 use Rattle.hex_registry.specs.Shelves.{offer_at}
 
 -- the first want that doesn't take a release of this package
@@ -19,14 +19,14 @@ abbrev pub first_want_against : Wants → List ℕ → Offer → Option ℕ
 first_want_against wants name offer = position (want_refuses name offer) wants.wants
 
 -- the first picked package whose release doesn't take it
-abbrev pub first_need_against : List Shelf → Wants → List Picked → List ℕ × Offer → Option Picked
-first_need_against shelves wants pick picked =
-    find (λ by. list_any (need_refuses wants.overridden picked.0 picked.1) (needs_at shelves wants by)) pick
+abbrev pub first_demand_against : List Shelf → Wants → List Picked → List ℕ × Offer → Option Picked
+first_demand_against shelves wants pick picked =
+    find (λ by. list_any (demand_refuses wants.overridden picked.0 picked.1) (demands_at shelves wants by)) pick
 
 -- who states a requirement that a picked release doesn't meet: the first want, or where none does the first package
 pub data IsAgainst (shelves : List Shelf) (wants : Wants) (pick : List Picked) (picked : Picked) : By → Type 0 where
   want : {index : ℕ} (offer : Offer) → offer_at shelves picked ≡ Some offer → first_want_against wants picked.0 offer ≡ Some index → IsAgainst shelves wants pick picked (Want index)
-  need : (by : Picked) (offer : Offer) → offer_at shelves picked ≡ Some offer → first_want_against wants picked.0 offer ≡ None → first_need_against shelves wants pick (picked.0, offer) ≡ Some by → IsAgainst shelves wants pick picked (Package by.0)
+  demand : (by : Picked) (offer : Offer) → offer_at shelves picked ≡ Some offer → first_want_against wants picked.0 offer ≡ None → first_demand_against shelves wants pick (picked.0, offer) ≡ Some by → IsAgainst shelves wants pick picked (Package by.0)
 
 abbrev pub SaysAgainst : List Shelf → Wants → List Picked → Picked → Option By → Type 0
 SaysAgainst shelves wants pick picked None = (by : By) → IsAgainst shelves wants pick picked by → ⊥

@@ -20,7 +20,7 @@ use Rattle.hex_registry.specs.declared.shelf.Stock.{Stock}
 use Rattle.hex_registry.specs.declared.wants.Want.{Want}
 use Rattle.hex_registry.specs.declared.wants.Wants.{Wants}
 use Rattle.hex_registry.specs.Offers.{AreOffers, IsNoVersion, IsOffer, IsVersion}
-use Rattle.hex_registry.specs.Shelves.{is_among, needs_of, shelf_names, without_apps}
+use Rattle.hex_registry.specs.Shelves.{is_among, demands_of, shelf_names, without_apps}
 
 -- the message of a package, in the folder of its name
 abbrev pub message_name : List ℕ
@@ -73,7 +73,7 @@ wanted_names wants = map (λ want. want.«package») wants.wants
 
 -- the packages that a release names in its dependencies, without those on pinned apps. One that isn't usable names none
 abbrev pub named_by_offer : List (List ℕ) → Offer → List (List ℕ)
-named_by_offer pinned offer = map (λ need. need.«package») (without_apps pinned (needs_of (Some offer)))
+named_by_offer pinned offer = map (λ demand. demand.«package») (without_apps pinned (demands_of (Some offer)))
 
 abbrev pub named_by_stock : List (List ℕ) → Option Stock → List (List ℕ)
 named_by_stock pinned None = []

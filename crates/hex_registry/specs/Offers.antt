@@ -10,7 +10,7 @@ use Rattle.version_req.specs.Grammar.{Spells}
 use Rattle.mx_base.specs.AppName.{is_app_name}
 use Rattle.hex_messages.specs.declared.package.Dependency.{Dependency}
 use Rattle.hex_messages.specs.declared.package.Release.{Release}
-use Rattle.hex_registry.specs.declared.offer.Need.{Need}
+use Rattle.hex_registry.specs.declared.offer.Demand.{Demand}
 use Rattle.hex_registry.specs.declared.offer.Offer.{Offer}
 
 -- the text is a version of Semantic Versioning 2.0.0
@@ -51,35 +51,35 @@ abbrev pub is_own : List ℕ → Dependency → Bool
 is_own repository d = is_repository repository d.repository
 
 -- what a dependency of a release asks for
-pub record IsNeed (repository : List ℕ) (d : Dependency) (need : Need) : Type 0 where
+pub record IsDemand (repository : List ℕ) (d : Dependency) (demand : Demand) : Type 0 where
   pub own : IsTrue (is_own repository d)
-  pub on : name_of d.«package» ≡ Some need.«package»
-  pub app : name_of (app_of d) ≡ Some need.app
-  pub requirement : Spells d.requirement need.requirement
-  pub optional : need.optional ≡ d.optional
+  pub on : name_of d.«package» ≡ Some demand.«package»
+  pub app : name_of (app_of d) ≡ Some demand.app
+  pub requirement : Spells d.requirement demand.requirement
+  pub optional : demand.optional ≡ d.optional
 
-abbrev pub SaysNeed : List ℕ → Dependency → Option Need → Type 0
-SaysNeed repository d None = (need : Need) → IsNeed repository d need → ⊥
-SaysNeed repository d (Some need) = IsNeed repository d need
+abbrev pub SaysDemand : List ℕ → Dependency → Option Demand → Type 0
+SaysDemand repository d None = (demand : Demand) → IsDemand repository d demand → ⊥
+SaysDemand repository d (Some demand) = IsDemand repository d demand
 
 -- what the dependencies of a release ask for, each read
-abbrev pub AreNeeds : List ℕ → List Dependency → List Need → Type 0
-AreNeeds repository dependencies needs = AllZip (IsNeed repository) dependencies needs
+abbrev pub AreDemands : List ℕ → List Dependency → List Demand → Type 0
+AreDemands repository dependencies demands = AllZip (IsDemand repository) dependencies demands
 
 -- a release is usable where each of its dependencies can be read and is of the package's own repository
-abbrev pub SaysNeeds : List ℕ → List Dependency → Option (List Need) → Type 0
-SaysNeeds repository dependencies None = (needs : List Need) → AreNeeds repository dependencies needs → ⊥
-SaysNeeds repository dependencies (Some needs) = AreNeeds repository dependencies needs
+abbrev pub SaysDemands : List ℕ → List Dependency → Option (List Demand) → Type 0
+SaysDemands repository dependencies None = (demands : List Demand) → AreDemands repository dependencies demands → ⊥
+SaysDemands repository dependencies (Some demands) = AreDemands repository dependencies demands
 
 -- what a release of a repository offers
 pub record IsOffer (repository : List ℕ) (release : Release) (offer : Offer) : Type 0 where
   pub version : IsVersion release.version offer.version
   pub retired : offer.retired ≡ is_some release.retired
-  pub needs : SaysNeeds repository release.dependencies offer.needs
+  pub demands : SaysDemands repository release.dependencies offer.demands
 
 abbrev pub AreOffers : List ℕ → List Release → List Offer → Type 0
 AreOffers repository releases offers = AllZip (IsOffer repository) releases offers
 
 -- the release can be picked
 abbrev pub is_usable : Offer → Bool
-is_usable offer = is_some offer.needs
+is_usable offer = is_some offer.demands

@@ -7,13 +7,13 @@ use Rattle.semver.specs.Parse.{Parts}
 use Rattle.version_req.specs.Condition.{Alternatives, Condition}
 use Rattle.version_req.specs.Meaning.{sat}
 use Rattle.version_req.specs.declared.operator.Operator.TheVariants.{GreaterOrEqual}
-use Rattle.hex_registry.specs.declared.offer.Need.{Need}
+use Rattle.hex_registry.specs.declared.offer.Demand.{Demand}
 use Rattle.hex_registry.specs.declared.offer.Offer.{Offer}
 use Rattle.hex_registry.specs.declared.shelf.Shelf.{Shelf}
 use Rattle.hex_registry.specs.declared.wants.Want.{Want}
 use Rattle.hex_registry.specs.declared.wants.Wants.{Wants}
 use Rattle.hex_registry.specs.Candidates.{is_usable_in}
-use Rattle.hex_registry.specs.Shelves.{is_among, needs_of, offer_at, without_apps}
+use Rattle.hex_registry.specs.Shelves.{is_among, demands_of, offer_at, without_apps}
 
 -- a package and the place of its release
 abbrev pub Picked : Type 0
@@ -45,20 +45,20 @@ alternatives_of (Some requirement) = requirement
 abbrev pub want_takes : Offer → Want → Bool
 want_takes offer want = sat (alternatives_of want.requirement) (parts_of offer.version) false
 
--- a need takes the release, likewise; on an overridden app its requirement isn't in force
-abbrev pub need_takes : List (List ℕ) → Offer → Need → Bool
-need_takes overridden offer need = is_among need.app overridden || sat need.requirement (parts_of offer.version) false
+-- a demand takes the release, likewise; on an overridden app its requirement isn't in force
+abbrev pub demand_takes : List (List ℕ) → Offer → Demand → Bool
+demand_takes overridden offer demand = is_among demand.app overridden || sat demand.requirement (parts_of offer.version) false
 
 -- the want is of this package and doesn't take its release
 abbrev pub want_refuses : List ℕ → Offer → Want → Bool
 want_refuses name offer want = bytes_eq name want.«package» && not (want_takes offer want)
 
-abbrev pub need_refuses : List (List ℕ) → List ℕ → Offer → Need → Bool
-need_refuses overridden name offer need = bytes_eq name need.«package» && not (need_takes overridden offer need)
+abbrev pub demand_refuses : List (List ℕ) → List ℕ → Offer → Demand → Bool
+demand_refuses overridden name offer demand = bytes_eq name demand.«package» && not (demand_takes overridden offer demand)
 
--- what a picked release asks for; needs of pinned apps are set aside
-abbrev pub needs_at : List Shelf → Wants → Picked → List Need
-needs_at shelves wants picked = without_apps wants.pinned (needs_of (offer_at shelves picked))
+-- what a picked release asks for; demands of pinned apps are set aside
+abbrev pub demands_at : List Shelf → Wants → Picked → List Demand
+demands_at shelves wants picked = without_apps wants.pinned (demands_of (offer_at shelves picked))
 
 -- the picked release is a candidate
 abbrev pub is_candidate : List Shelf → Picked → Bool
@@ -67,9 +67,9 @@ is_candidate shelves picked = is_usable_in (offer_at shelves picked)
 -- a want, or a release that is picked, requires the package
 pub data IsAsked (shelves : List Shelf) (wants : Wants) (pick : List Picked) : List ℕ → Type 0 where
   wanted : (want : Want) → Contains wants.wants want → want.optional ≡ false → IsAsked shelves wants pick want.«package»
-  needed : (by : Picked) (need : Need) → Contains pick by → Contains (needs_at shelves wants by) need → need.optional ≡ false → IsAsked shelves wants pick need.«package»
+  demanded : (by : Picked) (demand : Demand) → Contains pick by → Contains (demands_at shelves wants by) demand → demand.optional ≡ false → IsAsked shelves wants pick demand.«package»
 
 -- a package is reached from required wants by required dependencies of picked releases
 pub data IsReached (shelves : List Shelf) (wants : Wants) (pick : List Picked) : List ℕ → Type 0 where
   wanted : (want : Want) → Contains wants.wants want → want.optional ≡ false → IsReached shelves wants pick want.«package»
-  needed : (by : Picked) (need : Need) → Contains pick by → IsReached shelves wants pick by.0 → Contains (needs_at shelves wants by) need → need.optional ≡ false → IsReached shelves wants pick need.«package»
+  demanded : (by : Picked) (demand : Demand) → Contains pick by → IsReached shelves wants pick by.0 → Contains (demands_at shelves wants by) demand → demand.optional ≡ false → IsReached shelves wants pick demand.«package»

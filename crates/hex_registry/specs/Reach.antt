@@ -1,12 +1,12 @@
--- The needs of picked releases as a graph of their places in the pick.
+-- The demands of picked releases as a graph of their places in the pick.
 use Rattle.std.specs.Prelude.{◌≡◌, ◌↔◌, ℕ, false, List, length, position, Option, Some, bytes_eq, slice_get}
 use Rattle.std.specs.List.{Contains}
 use Rattle.dep_order.specs.Graph.{needs_of}
-use Rattle.hex_registry.specs.declared.offer.Need.{Need}
+use Rattle.hex_registry.specs.declared.offer.Demand.{Demand}
 use Rattle.hex_registry.specs.declared.shelf.Shelf.{Shelf}
 use Rattle.hex_registry.specs.declared.wants.Want.{Want}
 use Rattle.hex_registry.specs.declared.wants.Wants.{Wants}
-use Rattle.hex_registry.specs.Picks.{Picked, needs_at}
+use Rattle.hex_registry.specs.Picks.{Picked, demands_at}
 
 -- where a package stands in a pick
 abbrev pub index_of : List Picked → List ℕ → Option ℕ
@@ -19,14 +19,14 @@ pub record IsStart (wants : Wants) (pick : List Picked) (place : ℕ) : Type 0 w
   pub required : want.optional ≡ false
   pub at : index_of pick want.«package» ≡ Some place
 
--- one of these needs requires the package at this place
-pub record IsLink (pick : List Picked) (needs : List Need) (place : ℕ) : Type 0 where
-  pub need : Need
-  pub stands : Contains needs need
-  pub required : need.optional ≡ false
-  pub at : index_of pick need.«package» ≡ Some place
+-- one of these demands requires the package at this place
+pub record IsLink (pick : List Picked) (demands : List Demand) (place : ℕ) : Type 0 where
+  pub demand : Demand
+  pub stands : Contains demands demand
+  pub required : demand.optional ≡ false
+  pub at : index_of pick demand.«package» ≡ Some place
 
 -- each picked package leads to those that its release requires
 pub record AreLinks (shelves : List Shelf) (wants : Wants) (pick : List Picked) (links : List (List ℕ)) : Type 0 where
   pub long : length links ≡ length pick
-  pub each : (place other : ℕ) (picked : Picked) → slice_get pick place ≡ Some picked → Contains (needs_of links place) other ↔ IsLink pick (needs_at shelves wants picked) other
+  pub each : (place other : ℕ) (picked : Picked) → slice_get pick place ≡ Some picked → Contains (needs_of links place) other ↔ IsLink pick (demands_at shelves wants picked) other

@@ -3,7 +3,7 @@ use Rattle.std.specs.Prelude.{◌≡◌, ℕ, Bool, List, [], map, find, filter,
 use Rattle.std.specs.List.{list_any}
 use Rattle.indexmap.specs.IndexSet.{IndexSet}
 use Rattle.hex_messages.specs.declared.package.Package.{Package}
-use Rattle.hex_registry.specs.declared.offer.Need.{Need}
+use Rattle.hex_registry.specs.declared.offer.Demand.{Demand}
 use Rattle.hex_registry.specs.declared.offer.Offer.{Offer}
 use Rattle.hex_registry.specs.declared.shelf.Shelf.{Shelf}
 use Rattle.hex_registry.specs.declared.shelf.Stock.{Stock}
@@ -34,15 +34,15 @@ message_of shelves name = option_map (λ stock. stock.message) (stock_of shelves
 abbrev pub offer_at : List Shelf → List ℕ × ℕ → Option Offer
 offer_at shelves picked = option_and_then (λ stock. slice_get stock.offers picked.1) (stock_of shelves picked.0)
 
-abbrev pub listed_needs : Option (List Need) → List Need
-listed_needs None = []
-listed_needs (Some needs) = needs
+abbrev pub listed_demands : Option (List Demand) → List Demand
+listed_demands None = []
+listed_demands (Some demands) = demands
 
 -- what an offer asks for; a release that isn't usable asks for nothing
-abbrev pub needs_of : Option Offer → List Need
-needs_of None = []
-needs_of (Some offer) = listed_needs offer.needs
+abbrev pub demands_of : Option Offer → List Demand
+demands_of None = []
+demands_of (Some offer) = listed_demands offer.demands
 
--- without the needs of these apps
-abbrev pub without_apps : List (List ℕ) → List Need → List Need
-without_apps apps needs = filter (λ need. not (is_among need.app apps)) needs
+-- without the demands of these apps
+abbrev pub without_apps : List (List ℕ) → List Demand → List Demand
+without_apps apps demands = filter (λ demand. not (is_among demand.app apps)) demands

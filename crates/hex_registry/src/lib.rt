@@ -19,7 +19,7 @@ mod wants;
 
 pub use breach::{Breach, first_breach, is_valid_pick};
 pub use error::RegistryError;
-pub use offer::{Need, Needs, Offer, Offers};
+pub use offer::{Demand, Demands, Offer, Offers};
 pub use pick::{Pick, Picked};
 pub use registry::Registry;
 pub use shelf::{Shelf, Stock};

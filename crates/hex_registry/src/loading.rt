@@ -8,7 +8,7 @@ ghost use Rattle.hex_registry.specs.Blame.{blame_of};
 ghost use Rattle.hex_registry.specs.Loaded.{IsLoaded, IsMessage, SaysMessage, SaysOffer, SaysOffers, SaysStock, firsts, named_by_offer, named_by_stock, package_path, wanted_names};
 
 use crate::error::{RegistryError, wire_refused};
-use crate::offer::{Offer, Offers, needs_of, version_of};
+use crate::offer::{Offer, Offers, demands_of, version_of};
 use crate::registry::Registry;
 use crate::shelf::{Shelf, Stock};
 use crate::wants::Wants;
@@ -87,9 +87,9 @@ fn add_named_by(
     ensures { OnOk result (names.new.keys
         ≡ firsts (names.old.keys ++ named_by_offer wants.now.pinned offer.now)) }
 {
-    for need in offer.needs() {
-        if !wants.sets_aside(need) {
-            names.insert(need.package.clone()?)?;
+    for demand in offer.demands() {
+        if !wants.sets_aside(demand) {
+            names.insert(demand.package.clone()?)?;
         }
     }
     Ok(())
@@ -188,6 +188,6 @@ fn offer_of(
     Ok(Offer {
         version,
         retired: release.retired.is_some(),
-        needs: needs_of(alloc, repository, release)?,
+        demands: demands_of(alloc, repository, release)?,
     })
 }

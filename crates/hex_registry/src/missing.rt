@@ -39,9 +39,9 @@ fn first_missing<'a>(registry: &'a Registry, wants: &'a Wants, pick: &Pick) -> O
         }
     }
     for by in pick.as_slice() {
-        for need in registry.needs(by) {
-            if !need.optional && !wants.sets_aside(need) && !pick.has(&need.package) {
-                least = lesser(least, &need.package);
+        for demand in registry.demands(by) {
+            if !demand.optional && !wants.sets_aside(demand) && !pick.has(&demand.package) {
+                least = lesser(least, &demand.package);
             }
         }
     }

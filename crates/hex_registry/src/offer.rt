@@ -1,7 +1,7 @@
 // What releases offer, as far as picks depend on it: each text parsed.
 ghost use Rattle.std.specs.Prelude.{◌≡◌, IfOk};
-ghost use Rattle.hex_registry.specs.Offers.{SaysNeed, SaysNeeds, SaysRequirement, SaysVersion, app_of, is_own, is_usable, name_of};
-ghost use Rattle.hex_registry.specs.Shelves.{listed_needs};
+ghost use Rattle.hex_registry.specs.Offers.{SaysDemand, SaysDemands, SaysRequirement, SaysVersion, app_of, is_own, is_usable, name_of};
+ghost use Rattle.hex_registry.specs.Shelves.{listed_demands};
 
 use hex_messages::{Dependency, Release};
 use mx_base::{AppName, ListOf, NameError, Text};
@@ -12,7 +12,7 @@ use version_req::{ReqError, Requirement};
 
 /// What a release asks of another package.
 #[derive(Drop)]
-pub struct Need {
+pub struct Demand {
     pub app: AppName,
     pub package: AppName,
     pub requirement: Requirement,
@@ -20,8 +20,8 @@ pub struct Need {
     pub optional: bool,
 }
 
-/// The needs of a release in the order of its dependencies.
-pub type Needs = ListOf<Need>;
+/// The demands of a release in the order of its dependencies.
+pub type Demands = ListOf<Demand>;
 
 /// What a release offers.
 #[derive(Drop)]
@@ -29,16 +29,16 @@ pub struct Offer {
     pub version: Version,
     pub retired: bool,
     /// What it asks for, and none where it isn't usable.
-    pub needs: Option<Needs>,
+    pub demands: Option<Demands>,
 }
 
 impl Offer {
     /// What it asks for, which is nothing where it isn't usable.
-    pub(crate) fn needs(&self) -> &[Need]
-        ensures { result.now ≡ listed_needs self.now.needs }
+    pub(crate) fn demands(&self) -> &[Demand]
+        ensures { result.now ≡ listed_demands self.now.demands }
     {
-        match &self.needs {
-            Some(needs) => needs.as_slice(),
+        match &self.demands {
+            Some(demands) => demands.as_slice(),
             None => &[],
         }
     }
@@ -47,7 +47,7 @@ impl Offer {
     pub(crate) fn is_usable(&self) -> bool
         ensures { result ≡ is_usable self.now }
     {
-        self.needs.is_some()
+        self.demands.is_some()
     }
 }
 
@@ -74,30 +74,30 @@ pub(crate) fn version_of(alloc: Global, text: &Text) -> Result<Option<Version>, 
 }
 
 /// What a release of a repository asks for, where it is usable.
-pub(crate) fn needs_of(
+pub(crate) fn demands_of(
     alloc: Global,
     repository: &Text,
     release: &Release,
-) -> Result<Option<Needs>, AllocError>
-    ensures { IfOk result (SaysNeeds repository.now release.now.dependencies) }
+) -> Result<Option<Demands>, AllocError>
+    ensures { IfOk result (SaysDemands repository.now release.now.dependencies) }
 {
-    let mut needs = Needs::new(alloc);
+    let mut demands = Demands::new(alloc);
     for dependency in release.dependencies.as_slice() {
-        match need_of(alloc, repository, dependency)? {
-            Some(need) => needs.push(need)?,
+        match demand_of(alloc, repository, dependency)? {
+            Some(demand) => demands.push(demand)?,
             None => return Ok(None),
         }
     }
-    Ok(Some(needs))
+    Ok(Some(demands))
 }
 
 // What a dependency asks for, where it can be read and is of the package's own repository.
-fn need_of(
+fn demand_of(
     alloc: Global,
     repository: &Text,
     dependency: &Dependency,
-) -> Result<Option<Need>, AllocError>
-    ensures { IfOk result (SaysNeed repository.now dependency.now) }
+) -> Result<Option<Demand>, AllocError>
+    ensures { IfOk result (SaysDemand repository.now dependency.now) }
 {
     if !is_own(repository, dependency) {
         return Ok(None);
@@ -111,7 +111,7 @@ fn need_of(
     let Some(requirement) = requirement_of(alloc, &dependency.requirement)? else {
         return Ok(None);
     };
-    Ok(Some(Need {
+    Ok(Some(Demand {
         app,
         package,
         requirement,

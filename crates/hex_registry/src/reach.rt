@@ -8,7 +8,7 @@ ghost use Rattle.hex_registry.specs.Reach.{AreLinks, IsLink, IsStart};
 ghost use Rattle.hex_registry.specs.Shelves.{without_apps};
 
 use crate::breach::Breach;
-use crate::offer::Need;
+use crate::offer::Demand;
 use crate::pick::Pick;
 use crate::registry::Registry;
 use crate::wants::Wants;
@@ -48,28 +48,28 @@ fn links(
 {
     let mut links = Vec::new(alloc);
     for by in pick.as_slice() {
-        links.push(places_of(alloc, wants, pick, registry.needs(by))?)?;
+        links.push(places_of(alloc, wants, pick, registry.demands(by))?)?;
     }
     Ok(links)
 }
 
-// The places of the picked packages that these needs require.
+// The places of the picked packages that these demands require.
 fn places_of(
     alloc: Global,
     wants: &Wants,
     pick: &Pick,
-    needs: &[Need],
+    demands: &[Demand],
 ) -> Result<Places, AllocError>
     ensures within { IfOk result (λ places. All (λ place. place < length pick.now) places) }
     ensures each { IfOk result (λ places. (place : ℕ) → Contains places place
-        ↔ IsLink pick.now (without_apps wants.now.pinned needs.now) place) }
+        ↔ IsLink pick.now (without_apps wants.now.pinned demands.now) place) }
 {
     let mut places = Places::new(alloc);
-    for need in needs {
-        if need.optional || wants.sets_aside(need) {
+    for demand in demands {
+        if demand.optional || wants.sets_aside(demand) {
             continue;
         }
-        if let Some(place) = pick.index_of(&need.package) {
+        if let Some(place) = pick.index_of(&demand.package) {
             places.push(place)?;
         }
     }

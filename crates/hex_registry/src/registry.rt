@@ -1,9 +1,9 @@
 // The packages that were read, by their names.
 ghost use Rattle.std.specs.Prelude.{◌≡◌};
 ghost use Rattle.std.specs.Option.{option_copied};
-ghost use Rattle.hex_registry.specs.Shelves.{AreNamesOf, message_of, needs_of, offer_at, shelf_of, stock_of};
+ghost use Rattle.hex_registry.specs.Shelves.{AreNamesOf, message_of, demands_of, offer_at, shelf_of, stock_of};
 
-use crate::offer::{Need, Offer};
+use crate::offer::{Demand, Offer};
 use crate::pick::Picked;
 use crate::shelf::{Shelf, Stock};
 use hex_messages::Package;
@@ -52,11 +52,11 @@ impl Registry {
     }
 
     /// What a picked release asks for, with what is set aside.
-    pub(crate) fn needs(&self, picked: &Picked) -> &[Need]
-        ensures { result.now ≡ needs_of (offer_at self.now picked.now) }
+    pub(crate) fn demands(&self, picked: &Picked) -> &[Demand]
+        ensures { result.now ≡ demands_of (offer_at self.now picked.now) }
     {
         match self.offer(picked) {
-            Some(offer) => offer.needs(),
+            Some(offer) => offer.demands(),
             None => &[],
         }
     }

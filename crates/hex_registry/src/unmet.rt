@@ -2,14 +2,14 @@
 ghost use Rattle.std.specs.Prelude.{◌≡◌, IfOk};
 ghost use Rattle.std.specs.List.{list_any};
 ghost use Rattle.std.specs.Option.{option_copied};
-ghost use Rattle.hex_registry.specs.Breaches.{IsBreach, IsFirst, IsOfKind, SaysAgainst, first_need_against, first_want_against};
-ghost use Rattle.hex_registry.specs.Picks.{any_release, need_refuses, need_takes, needs_at, want_refuses, want_takes};
+ghost use Rattle.hex_registry.specs.Breaches.{IsBreach, IsFirst, IsOfKind, SaysAgainst, first_demand_against, first_want_against};
+ghost use Rattle.hex_registry.specs.Picks.{any_release, demand_refuses, demand_takes, demands_at, want_refuses, want_takes};
 ghost use Rattle.semver.specs.Identifiers.{parts_of};
 ghost use Rattle.version_req.specs.Meaning.{sat};
 ghost use Rattle.hex_registry.specs.Shelves.{is_among};
 
 use crate::breach::Breach;
-use crate::offer::{Need, Offer};
+use crate::offer::{Demand, Offer};
 use crate::pick::{Pick, Picked};
 use crate::registry::Registry;
 use crate::wants::{Want, Wants};
@@ -59,7 +59,7 @@ fn against(
     if let Some(index) = first_want_against(wants, &picked.0, offer) {
         return Ok(Some(By::Want(index as u64)));
     }
-    match first_need_against(registry, wants, pick, &picked.0, offer) {
+    match first_demand_against(registry, wants, pick, &picked.0, offer) {
         Some(by) => Ok(Some(By::Package(by.0.clone()?))),
         None => Ok(None),
     }
@@ -75,7 +75,7 @@ fn first_want_against(wants: &Wants, name: &AppName, offer: &Offer) -> Option<us
         .position(|want| want_refuses(name, offer, want))
 }
 
-fn first_need_against<'a>(
+fn first_demand_against<'a>(
     registry: &Registry,
     wants: &Wants,
     pick: &'a Pick,
@@ -83,7 +83,7 @@ fn first_need_against<'a>(
     offer: &Offer,
 ) -> Option<&'a Picked>
     ensures { option_copied result
-        ≡ first_need_against registry.now wants.now pick.now (name.now, offer.now) }
+        ≡ first_demand_against registry.now wants.now pick.now (name.now, offer.now) }
 {
     pick.as_slice()
         .iter()
@@ -92,11 +92,11 @@ fn first_need_against<'a>(
 
 // Whether a picked release states a requirement in force that the release of the package doesn't meet.
 fn refuses(registry: &Registry, wants: &Wants, by: &Picked, name: &AppName, offer: &Offer) -> bool
-    ensures { result ≡ list_any (need_refuses wants.now.overridden name.now offer.now)
-        (needs_at registry.now wants.now by.now) }
+    ensures { result ≡ list_any (demand_refuses wants.now.overridden name.now offer.now)
+        (demands_at registry.now wants.now by.now) }
 {
-    registry.needs(by).iter().any(|need| {
-        !wants.sets_aside(need) && need_refuses(&wants.overridden, name, offer, need)
+    registry.demands(by).iter().any(|demand| {
+        !wants.sets_aside(demand) && demand_refuses(&wants.overridden, name, offer, demand)
     })
 }
 
@@ -106,10 +106,10 @@ fn want_refuses(name: &AppName, offer: &Offer, want: &Want) -> bool
     name == &want.package && !want_takes(offer, want)
 }
 
-fn need_refuses(overridden: &Names, name: &AppName, offer: &Offer, need: &Need) -> bool
-    ensures { result ≡ need_refuses overridden.now name.now offer.now need.now }
+fn demand_refuses(overridden: &Names, name: &AppName, offer: &Offer, demand: &Demand) -> bool
+    ensures { result ≡ demand_refuses overridden.now name.now offer.now demand.now }
 {
-    name == &need.package && !need_takes(overridden, offer, need)
+    name == &demand.package && !demand_takes(overridden, offer, demand)
 }
 
 /// Whether the want takes the release.
@@ -130,11 +130,11 @@ fn is_release(version: &Version) -> bool
     version.pre.is_empty()
 }
 
-/// Whether the need takes the release, as it does where its requirement isn't in force.
-pub(crate) fn need_takes(overridden: &Names, offer: &Offer, need: &Need) -> bool
-    ensures { result ≡ need_takes overridden.now offer.now need.now }
+/// Whether the demand takes the release, as it does where its requirement isn't in force.
+pub(crate) fn demand_takes(overridden: &Names, offer: &Offer, demand: &Demand) -> bool
+    ensures { result ≡ demand_takes overridden.now offer.now demand.now }
 {
-    is_among(&need.app, overridden) || matches(&need.requirement, &offer.version, false)
+    is_among(&demand.app, overridden) || matches(&demand.requirement, &offer.version, false)
 }
 
 /// Whether the name is one of these.

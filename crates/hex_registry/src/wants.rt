@@ -2,7 +2,7 @@
 ghost use Rattle.std.specs.Prelude.{◌≡◌};
 ghost use Rattle.hex_registry.specs.Shelves.{is_among};
 
-use crate::offer::Need;
+use crate::offer::Demand;
 use crate::unmet::is_among;
 use mx_base::{AppName, ListOf, Names, Text};
 use version_req::Requirement;
@@ -39,10 +39,10 @@ pub struct Wants {
 }
 
 impl Wants {
-    /// Whether a need is set aside, since its app comes from elsewhere.
-    pub(crate) fn sets_aside(&self, need: &Need) -> bool
-        ensures { result ≡ is_among need.now.app self.now.pinned }
+    /// Whether a demand is set aside, since its app comes from elsewhere.
+    pub(crate) fn sets_aside(&self, demand: &Demand) -> bool
+        ensures { result ≡ is_among demand.now.app self.now.pinned }
     {
-        is_among(&need.app, &self.pinned)
+        is_among(&demand.app, &self.pinned)
     }
 }
