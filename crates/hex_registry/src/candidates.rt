@@ -103,7 +103,8 @@ fn order_of(one: &Candidate, other: &Candidate) -> Ordering
 }
 
 fn places_of(alloc: Global, candidates: &[Candidate]) -> Result<Vec<u64>, AllocError>
-    ensures { IfOk result (λ places. places.items ≡ map (λ candidate. candidate.place) candidates.now) }
+    ensures { IfOk result (λ places. places.items
+        ≡ map (λ candidate. candidate.place) candidates.now) }
 {
     let mut places = Vec::with_capacity(alloc, candidates.len())?;
     for candidate in candidates {

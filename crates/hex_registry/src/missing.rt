@@ -62,7 +62,8 @@ pub(crate) fn first_not_candidate(
     registry: &Registry,
     pick: &Pick,
 ) -> Result<Option<Breach>, AllocError>
-    ensures { (wants : Wants) → IfOk result (IsFirst (IsOfKind (IsBreach registry.now wants pick.now) 1)) }
+    ensures { (wants : Wants) → IfOk result
+        (IsFirst (IsOfKind (IsBreach registry.now wants pick.now) 1)) }
 {
     for picked in pick.as_slice() {
         if !is_candidate(registry, picked) {
