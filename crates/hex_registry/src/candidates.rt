@@ -43,7 +43,8 @@ impl Registry {
 
 impl Stock {
     fn candidates(&self, alloc: Global, locked: Option<&Text>) -> Result<Vec<u64>, AllocError>
-        ensures { IfOk result (λ places. AreCandidates self.now (option_copied locked) places.items) }
+        ensures { IfOk result (λ places.
+            AreCandidates self.now (option_copied locked) places.items) }
     {
         let mut candidates = usable(alloc, self, locked_place(self, locked))?;
         candidates.sort_unstable_by(|one, other| order_of(one, other));
