@@ -32,7 +32,7 @@ impl Registry {
         locked: Option<&Text>,
     ) -> Result<Vec<u64>, AllocError>
         ensures { IfOk result (λ places.
-            AreCandidatesOf (stock_of self.now name.now) (option_copied locked) places.items) }
+            AreCandidatesOf (stock_of self.now name.now) (option_copied locked.entry) places.items) }
     {
         match self.stock(name) {
             Some(stock) => stock.candidates(alloc, locked),
@@ -44,7 +44,7 @@ impl Registry {
 impl Stock {
     fn candidates(&self, alloc: Global, locked: Option<&Text>) -> Result<Vec<u64>, AllocError>
         ensures { IfOk result (λ places.
-            AreCandidates self.now (option_copied locked) places.items) }
+            AreCandidates self.now (option_copied locked.entry) places.items) }
     {
         let mut candidates = usable(alloc, self, locked_place(self, locked))?;
         candidates.sort_unstable_by(|one, other| order_of(one, other));
@@ -54,7 +54,7 @@ impl Stock {
 
 // The place of the locked release, where there is one.
 fn locked_place(stock: &Stock, locked: Option<&Text>) -> Option<usize>
-    ensures { result ≡ locked_place stock.now (option_copied locked) }
+    ensures { result ≡ locked_place stock.now (option_copied locked.entry) }
 {
     let text = locked?;
     let offers = stock.offers.as_slice().iter();

@@ -67,6 +67,7 @@ fn add_named(
     wants: &Wants,
     stock: &Option<Stock>,
 ) -> Result<(), AllocError>
+    requires apart { names.old.keys ≡ firsts names.old.keys }
     ensures { OnOk result (names.new.keys
         ≡ firsts (names.old.keys ++ named_by_stock wants.now.pinned stock.now)) }
 {
@@ -84,6 +85,7 @@ fn add_named_by(
     wants: &Wants,
     offer: &Offer,
 ) -> Result<(), AllocError>
+    requires apart { names.old.keys ≡ firsts names.old.keys }
     ensures { OnOk result (names.new.keys
         ≡ firsts (names.old.keys ++ named_by_offer wants.now.pinned offer.now)) }
 {

@@ -49,7 +49,7 @@ fn first_missing<'a>(registry: &'a Registry, wants: &'a Wants, pick: &Pick) -> O
 }
 
 fn lesser<'a>(least: Option<&'a AppName>, name: &'a AppName) -> Option<&'a AppName>
-    ensures { option_copied result ≡ Some (lesser_of (option_copied least) name.now) }
+    ensures { option_copied result ≡ Some (lesser_of (option_copied least.entry) name.now) }
 {
     match least {
         Some(other) if other <= name => Some(other),

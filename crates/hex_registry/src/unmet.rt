@@ -1,5 +1,5 @@
 // Requirements that a pick doesn't meet.
-ghost use Rattle.std.specs.Prelude.{◌≡◌, IfOk};
+ghost use Rattle.std.specs.Prelude.{◌≡◌, false, IfOk};
 ghost use Rattle.std.specs.List.{list_any};
 ghost use Rattle.std.specs.Option.{option_copied};
 ghost use Rattle.hex_registry.specs.Breaches.{IsBreach, IsFirst, IsOfKind, SaysAgainst, first_demand_against, first_want_against};
