@@ -1,5 +1,5 @@
 -- The first breach of all is the first of the least kind that has one.
-use Rattle.std.proofs.Common.{◌≡◌, ℕ, ◌<◌, Option, Some, None, IsTrue, refl, sym, ap, absurd, arith}
+use Rattle.std.proofs.Common.{◌≡◌, ℕ, ◌<◌, Option, Some, None, IsTrue, refl, sym, ap, arith}
 use Rattle.std.specs.Cmp.{nat_cmp_is}
 use Rattle.std.specs.Ordering.{is_le, nat_cmp, ordering_then}
 use Rattle.std.specs.declared.cmp.Ordering.{Ordering}
@@ -16,7 +16,7 @@ lesser_kind one other less =
     ap (λ (o : Ordering). is_le (ordering_then o (text_cmp (package_of one) (package_of other)))) (sym (nat_cmp_is (kind_of one) (kind_of other) Less less))
 
 no_kind : (Is : Breach → Type 0) (kind : ℕ) → IsFirst (IsOfKind Is kind) None → (other : Breach) → kind_of other ≡ kind → Is other → ⊥
-no_kind Is kind (none no) other of is = no other (of, is)
+no_kind Is kind (none never) other of is = never other (of, is)
 
 pub first_0 : (Is : Breach → Type 0) (found : Breach) → IsFirst (IsOfKind Is 0) (Some found) → IsFirst Is (Some found)
 first_0 Is found (first is least) = first is.1 later
