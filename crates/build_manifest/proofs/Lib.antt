@@ -1,3 +1,6 @@
+pub mod Blocks
+pub mod DigestLemmas
+pub mod FieldLemmas
 pub mod Lines
 pub mod Parts
 pub mod Pushes

@@ -163,14 +163,18 @@ form_of_sources : (format : MarkFormat) (list : List FileRow) → HasNoMore form
 form_of_sources One list e = refl
 form_of_sources (Two digests) list e = ap Two (leads_diagnosed digests list e)
 
+abbrev mark_with : MarkView → MarkFormat → List FileRow → List FileRow → MarkView
+mark_with mark format sources outputs =
+    record { format = format; options = mark.options; sources = sources; needs = mark.needs; outputs = outputs; text = mark.text }
+
 pub mark_again : (mark : MarkView) → IsMark mark → mark_of (whole_of mark) ≡ mark
 mark_again mark is =
     let e = form_of_sources mark.format mark.sources is.no_more in
     let f = rows_of_sources mark.format mark.sources in
     let g = rows_plain mark.outputs in
-    ap (λ x. record { format = x; options = mark.options; sources = rows (source_lines mark.format mark.sources); needs = mark.needs; outputs = rows (plain mark.outputs); text = mark.text }) e
-    ∙ ap (λ x. record { format = mark.format; options = mark.options; sources = x; needs = mark.needs; outputs = rows (plain mark.outputs); text = mark.text }) f
-    ∙ ap (λ x. record { format = mark.format; options = mark.options; sources = mark.sources; needs = mark.needs; outputs = x; text = mark.text }) g
+    let sources = rows (source_lines mark.format mark.sources) in
+    let outputs = rows (plain mark.outputs) in
+    ap (λ x. mark_with mark x sources outputs) e ∙ ap (λ x. mark_with mark mark.format x outputs) f ∙ ap (λ x. mark_with mark mark.format mark.sources x) g
 
 pub whole_fits : (mark : MarkView) → IsMark mark → WholeFits (whole_of mark)
 whole_fits mark is =

@@ -1,3 +1,4 @@
 pub mod Fields
 pub mod Mark
+pub mod Refusal
 pub mod Text

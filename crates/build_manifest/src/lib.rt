@@ -5,10 +5,21 @@
 //! `Mark` keeps to what its text can say, and `write_mark` gives that text.
 #![tactic(auto)]
 
+mod digits;
+mod error;
+mod fields;
 mod laws;
 mod mark;
+mod names;
+mod parsing;
+mod paths;
+mod rows;
+#[cfg(test)]
+mod tests;
 mod writing;
 
+pub use error::MarkError;
 pub use laws::{no_mark_begins_another, one_mark};
-pub use mark::{Digests, Mark, MarkFormat, NeedDigests};
+pub use mark::{Digests, Mark, MarkFormat, Need, NeedDigests};
+pub use parsing::read_mark;
 pub use writing::write_mark;

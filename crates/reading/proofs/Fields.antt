@@ -155,7 +155,8 @@ IsTextOf {A} text Fits whole = (a : A) × Fits a × (whole ≡ text a)
 
 nothing_sticks : {A : Type 0} (text : A → List ℕ) (Fits : A → Type 0) → TellsItsEnd text Fits → (taken left : List ℕ) → Sticks text Fits taken left
     → (a : A) → Fits a → taken ++ left ≡ text a → ⊥
-nothing_sticks text Fits tells taken [] s a fits e = outgrows_front text Fits tells taken [] s a fits [] (sym (append-nil taken) ∙ e ∙ sym (append-nil (text a)))
+nothing_sticks text Fits tells taken [] s a fits e =
+    outgrows_front text Fits tells taken [] s a fits [] (sym (append-nil taken) ∙ e ∙ sym (append-nil (text a)))
 nothing_sticks text Fits tells taken (byte ∷ others) s a fits e = s.refuses byte others others a refl fits (sym e)
 
 -- where a reader of the field stops, the text is refused
