@@ -142,4 +142,4 @@ digest_stops text after done left less fits cut s =
     told_otherwise (flat_map byte_text) (ListFits ByteFits 32 []) encode_lower IsDigest (λ b. b) (λ b. b)
     (λ bytes fits. (digest_from bytes fits.0 fits.1, sym (digest_bytes bytes)))
     (λ bytes is. ((is.long, bytes_fit [] bytes is.fits), digest_bytes bytes)) text left
-    (list_stops byte_text ByteFits (λ _. byte_tells) 32 (λ before n _. (replicate n 0, zeros before n)) [] done 32 refl fits text after left less cut s)
+    (list_stops byte_text ByteFits (λ _. byte_tells) 32 (λ before n _ _. (replicate n 0, zeros before n)) [] done 32 refl tt fits text after left less cut s)

@@ -56,6 +56,18 @@ fn with_digit(value: u64, byte: u8) -> Option<u64>
     if more < LIMIT { Some(more) } else { None }
 }
 
+// The value of a decimal digit.
+fn digit_of(byte: u8) -> Option<u8>
+    ensures some { IfSome result (λ digit. (byte ≡ 48 + digit) × (digit < 10)) }
+    ensures none { IfNone result (IsNoDigit byte) }
+{
+    if byte.is_ascii_digit() {
+        Some(byte - b'0')
+    } else {
+        None
+    }
+}
+
 /// The number at the front of the text, and the byte that has to stand behind it.
 pub(crate) fn read_number(end: u8, text: &[u8]) -> Result<(u64, &[u8]), Stuck>
     requires { IsNoDigit end }
@@ -66,10 +78,10 @@ pub(crate) fn read_number(end: u8, text: &[u8]) -> Result<(u64, &[u8]), Stuck>
     let [first, rest @ ..] = text else {
         return Err(stuck_at(text));
     };
-    if !first.is_ascii_digit() {
+    let Some(digit) = digit_of(*first) else {
         return Err(stuck_at(text));
-    }
-    read_digits(end, u64::from(*first - b'0'), rest)
+    };
+    read_digits(end, u64::from(digit), rest)
 }
 
 // The digits after the first, and the byte that has to stand behind them.

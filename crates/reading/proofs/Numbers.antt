@@ -24,7 +24,7 @@ extends_digit n low _ = (
       absurd (omega (arith, ap length e, length-append (decimal v) (byte ∷ more), decimal_nonempty v fits)),
 )
 
-last_split : (ds front more : List ℕ) (last byte : ℕ) → ds ++ last ∷ [] ≡ front ++ byte ∷ more
+pub last_split : (ds front more : List ℕ) (last byte : ℕ) → ds ++ last ∷ [] ≡ front ++ byte ∷ more
     → ((ds ≡ front) × (last ≡ byte)) ⊎ ((rest : List ℕ) × (ds ≡ front ++ byte ∷ rest))
 last_split [] [] more last byte e = inl (refl, same_head last byte [] more e)
 last_split [] (f ∷ front) more last byte e =

@@ -11,3 +11,6 @@ returns-in_default c =
     let text = c.args.text.now in
     subst (λ (n : ℕ). Stops (number_text c.args.end) (IsBelow limit) text n) (sym (ap (λ (s : Stuck). s.left) c.stuck_at.ensures))
     (no_number c.args.end text (λ next others e. absurd (omega (arith, ap length e))))
+
+pub returns : goal.returns
+returns c = let h = c.read_digits.ensures in ?
