@@ -6,10 +6,9 @@ use Rattle.reading.specs.Plain.{Always, AreSoMany, IsBelow, IsNoDigit, after_tex
 use Rattle.reading.proofs.Fields.{first_stops, second_stops, told_otherwise}
 use Rattle.reading.proofs.Literals.{literal_first_stops, literal_second_stops}
 use Rattle.reading.proofs.Numbers.{bytes_tell, number_tells}
-use Rattle.build_manifest.specs.Fields.{Block}
+use Rattle.build_manifest.specs.Fields.{Block, ended}
 use Rattle.build_manifest.specs.Mark.{limit}
 use Rattle.build_manifest.specs.Text.{block_text}
-use Rattle.build_manifest.proofs.Lines.{ended}
 use Rattle.build_manifest.proofs.Parts.{CountedBytes, block_parts, counted_bytes}
 
 told_parts : (word : List ℕ) (p : ℕ × List ℕ) → CountedBytes p → Block p.1 × (block_text word p.1 ≡ after_text word counted_bytes p)

@@ -9,12 +9,10 @@ use Rattle.mx_base.specs.AppName.{IsAppName, fits_at}
 use Rattle.mx_base.specs.Path.{is_outside, is_path, is_refused, is_segment, is_slash}
 use Rattle.mx_base.proofs.PathLemmas.{both, clean_segment, is_clean}
 use Rattle.reading.specs.Field.{TellsItsEnd}
+use Rattle.build_manifest.specs.Fields.{ended}
 use Rattle.reading.proofs.Lists.{GoesFurther, one_goes_further, same_head}
 
 -- ---- what has no newline ends where one stands
-
-abbrev pub ended : List ℕ → List ℕ
-ended text = text ++ 10 ∷ []
 
 abbrev pub HasNoBreak : List ℕ → Type 0
 HasNoBreak text = (front more : List ℕ) → text ≡ front ++ 10 ∷ more → ⊥

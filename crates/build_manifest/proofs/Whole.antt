@@ -7,11 +7,11 @@ use Rattle.reading.proofs.Literals.{literal_tells}
 use Rattle.build_manifest.specs.declared.mark.MarkFormat.{MarkFormat}
 use Rattle.build_manifest.specs.declared.mark.MarkFormat.TheVariants.{One, Two}
 use Rattle.mx_base.specs.declared.row.FileRow.{FileRow}
-use Rattle.build_manifest.specs.Fields.{Block}
+use Rattle.build_manifest.specs.Fields.{Block, LinesFit, tag_text}
 use Rattle.build_manifest.specs.Mark.{HasNoMore, IsMark, Line, LineFits, MarkView, Need, NeedFits, diagnosed, has_diagnostics, limit, plain, source_lines}
 use Rattle.build_manifest.specs.Text.{Spells, block_text, format_text, line_text, lines_text, mark_text, need_text}
 use Rattle.build_manifest.proofs.Pushes.{lines_long}
-use Rattle.build_manifest.proofs.Parts.{LinesFit, block_tells, line_text_tells, lines_tell, need_tells}
+use Rattle.build_manifest.proofs.Parts.{block_tells, line_text_tells, lines_tell, need_tells}
 
 -- ---- the fields of a mark, from the last to the first
 
@@ -47,10 +47,6 @@ sources_part = pair_text (lines_text (codes "sources ") line_text) (λ _. needs_
 
 abbrev options_part : Options → List ℕ
 options_part = pair_text (block_text (codes "options ")) (λ _. sources_part)
-
-abbrev tag_text : Bool → List ℕ
-tag_text false = codes "mark 1" ++ 10 ∷ []
-tag_text true = codes "mark 2" ++ 10 ∷ []
 
 abbrev pub whole_text : Whole → List ℕ
 whole_text = pair_text tag_text (λ _. options_part)

@@ -1,68 +1,126 @@
 // Marks, read.
+ghost use Rattle.std.specs.Prelude.{◌≡◌, ◌<◌, ◌++◌, [], codes, false, flat_map, MatchResult};
 ghost use Rattle.mx_base.specs.Blame.{Computes};
+ghost use Rattle.reading.specs.Field.{ListFits, Stops};
+ghost use Rattle.reading.specs.Plain.{Always};
+ghost use Rattle.build_manifest.specs.Fields.{AreSources, LinesFit, StopsBy, tag_text};
+ghost use Rattle.build_manifest.specs.Mark.{IsMark, LineFits, NeedFits, limit, plain, source_lines};
 ghost use Rattle.build_manifest.specs.Refusal.{IsReading, blame_of};
+ghost use Rattle.build_manifest.specs.Text.{line_text, lines_text, mark_text, need_text};
 
 use crate::error::MarkError;
-use crate::fields::{Fault, after_literal, read_block, read_number, stuck_at};
-use crate::mark::{Digests, Mark, MarkFormat, Need};
-use crate::names::read_need;
+use crate::fields::{Fault, Stuck, after_literal, read_block, read_number, stuck_at};
+use crate::mark::{Mark, MarkFormat, Need};
+use crate::names::{Needs, read_need};
 use crate::rows::{Rows, read_rows};
-use indexmap::IndexSet;
 use mx_base::{Bytes, ListOf, Listing};
 use std::alloc::Global;
 
 // Whether the first line is that of the second form.
-fn read_format(text: &[u8]) -> Result<(bool, &[u8]), Fault> {
+fn read_format(text: &[u8]) -> Result<(bool, &[u8]), Stuck>
+    ensures { MatchResult result (λ read. text.now ≡ tag_text read.0 ++ read.1.now)
+        (λ stuck. Stops tag_text Always text.now stuck.left) }
+{
     let rest = after_literal(b"mark ", text)?;
     let (is_second, rest) = match rest {
         [b'1', rest @ ..] => (false, rest),
         [b'2', rest @ ..] => (true, rest),
-        _ => return Err(Fault::Stuck(stuck_at(rest))),
+        _ => return Err(stuck_at(rest)),
     };
-    Ok((is_second, after_literal(b"\n", rest)?))
+    let rest = after_literal(b"\n", rest)?;
+    Ok((is_second, rest))
 }
 
-fn read_needs<'a>(alloc: Global, text: &'a [u8]) -> Result<(Vec<Need>, &'a [u8]), Fault> {
-    let rest = after_literal(b"needs ", text)?;
-    let (count, rest) = read_number(b'\n', rest)?;
-    let mut needs: Vec<Need> = Vec::new(alloc);
-    let mut apps = IndexSet::new(alloc);
-    let mut rest = rest;
-    for _ in 0..count {
-        let (need, after) = read_need(alloc, &needs, &apps, rest)?;
-        apps.insert(need.1.clone()?)?;
-        needs.push(need)?;
+// So many needs.
+fn read_listed<'a>(
+    alloc: Global,
+    count: u64,
+    text: &'a [u8],
+) -> Result<(Vec<Need>, &'a [u8]), Fault>
+    requires { count < limit }
+    ensures { MatchResult result
+        (λ read. ListFits NeedFits count [] read.0.items
+        × (text.now ≡ flat_map need_text read.0.items ++ read.1.now))
+        (StopsBy (flat_map need_text) (ListFits NeedFits count []) text.now) }
+{
+    let mut needs = Needs::new(alloc);
+    let mut rest = text;
+    'needs: for _ in 0..count {
+        let (need, after) = read_need(alloc, &needs, rest)?;
+        needs = needs.with(need)?;
         rest = after;
     }
-    Ok((needs, rest))
+    Ok((needs.into_vec(), rest))
 }
 
-fn format_of(is_second: bool, digests: Digests) -> MarkFormat {
-    if is_second {
+fn read_needs<'a>(alloc: Global, text: &'a [u8]) -> Result<(Vec<Need>, &'a [u8]), Fault>
+    ensures { MatchResult result
+        (λ read. LinesFit NeedFits read.0.items
+        × (text.now ≡ lines_text (codes "needs ") need_text read.0.items ++ read.1.now))
+        (StopsBy (lines_text (codes "needs ") need_text) (LinesFit NeedFits) text.now) }
+{
+    let rest = after_literal(b"needs ", text)?;
+    let (count, rest) = read_number(b'\n', rest)?;
+    read_listed(alloc, count, rest)
+}
+
+// The form of a mark, and its sources.
+fn read_sources<'a>(
+    alloc: Global,
+    is_second: bool,
+    text: &'a [u8],
+) -> Result<((MarkFormat, Listing), &'a [u8]), Fault>
+    ensures { MatchResult result
+        (λ read. AreSources is_second read.0 × (text.now
+        ≡ lines_text (codes "sources ") line_text (source_lines read.0.0 read.0.1)
+        ++ read.1.now))
+        (StopsBy (lines_text (codes "sources ") line_text) (LinesFit (LineFits is_second))
+        text.now) }
+{
+    let (sources, rest) = read_rows(alloc, b"sources ", is_second, text)?;
+    let Rows { digests, rows } = sources;
+    let format = if is_second {
         MarkFormat::Two {
-            diagnostics: digests,
+            diagnostics: ListOf::from_vec(digests),
         }
     } else {
+        drop(digests);
         MarkFormat::One
-    }
+    };
+    Ok(((format, Listing::from_vec(rows)), rest))
+}
+
+fn read_outputs<'a>(alloc: Global, text: &'a [u8]) -> Result<(Listing, &'a [u8]), Fault>
+    ensures { MatchResult result
+        (λ read. LinesFit (LineFits false) (plain read.0)
+        × (text.now ≡ lines_text (codes "outputs ") line_text (plain read.0) ++ read.1.now))
+        (StopsBy (lines_text (codes "outputs ") line_text) (LinesFit (LineFits false)) text.now) }
+{
+    let (outputs, rest) = read_rows(alloc, b"outputs ", false, text)?;
+    let Rows { digests, rows } = outputs;
+    drop(digests);
+    Ok((Listing::from_vec(rows), rest))
 }
 
 // The mark at the front of the text.
-fn read_front<'a>(alloc: Global, text: &'a [u8]) -> Result<(Mark, &'a [u8]), Fault> {
+fn read_front<'a>(alloc: Global, text: &'a [u8]) -> Result<(Mark, &'a [u8]), Fault>
+    ensures { MatchResult result
+        (λ read. IsMark read.0 × (text.now ≡ mark_text read.0 ++ read.1.now))
+        (StopsBy mark_text IsMark text.now) }
+{
     let (is_second, rest) = read_format(text)?;
     let (options, rest) = read_block(b"options ", rest)?;
-    let (sources, rest) = read_rows(alloc, b"sources ", is_second, rest)?;
+    let ((format, sources), rest) = read_sources(alloc, is_second, rest)?;
     let (needs, rest) = read_needs(alloc, rest)?;
-    let (outputs, rest) = read_rows(alloc, b"outputs ", false, rest)?;
+    let (outputs, rest) = read_outputs(alloc, rest)?;
     let (written, rest) = read_block(b"text ", rest)?;
     let rest = after_literal(b"end\n", rest)?;
-    let Rows { digests, rows } = sources;
     let mark = Mark {
-        format: format_of(is_second, ListOf::from_vec(digests)),
+        format,
         options: Bytes::from_slice(alloc, options)?,
-        sources: Listing::from_vec(rows),
+        sources,
         needs: ListOf::from_vec(needs),
-        outputs: Listing::from_vec(outputs.rows),
+        outputs,
         text: Bytes::from_slice(alloc, written)?,
     };
     Ok((mark, rest))

@@ -1,7 +1,15 @@
 // Paths of rows, read byte by byte.
-use crate::fields::{Fault, stuck_at};
-use mx_base::{PathError, RelPath};
+ghost use Rattle.std.specs.Prelude.{◌≡◌, ◌<◌, ◌≤◌, ◌↔◌, ◌++◌, ◌∷◌, [], ℕ, List, length, drop, slice_get, option_map, MatchResult, IfSome, IfNone, IsTrue, Some};
+ghost use Rattle.reading.specs.Field.{Stops};
+ghost use Rattle.build_manifest.specs.Fields.{NextPath, StopsBy, ended};
+ghost use Rattle.build_manifest.specs.Paths.{EndsCharacters, EndsOrder, EndsPath, EndsSegments, GoesOnAbove, IsStart, MayEnd};
+ghost use Rattle.build_manifest.specs.declared.paths.Order.TheVariants.{Same};
+ghost use Rattle.std.specs.Str.{IsUtf8};
+
+use crate::fields::{Fault, Stuck, stuck_at};
+use mx_base::RelPath;
 use std::alloc::Global;
+use std::str;
 
 // What a segment has so far.
 #[derive(Clone, Copy, PartialEq, Eq)]
@@ -42,12 +50,18 @@ const NONE_MISSING: Missing = Missing {
     high: 0xBF,
 };
 
-fn expecting(count: u8, low: u8, high: u8) -> Missing {
+fn expecting(count: u8, low: u8, high: u8) -> Missing
+    ensures { result ≡ record { count = count; low = low; high = high } }
+{
     Missing { count, low, high }
 }
 
 // Past the first byte of a character.
-fn after_first(byte: u8) -> Option<Missing> {
+fn after_first(byte: u8) -> Option<Missing>
+    ensures some { IfSome result (λ missing. GoesOnAbove missing × ((bytes : List ℕ)
+        → IsUtf8 (byte ∷ bytes) ↔ EndsCharacters missing bytes)) }
+    ensures none { IfNone result ((bytes : List ℕ) → IsUtf8 (byte ∷ bytes) → ⊥) }
+{
     match byte {
         0x00..=0x7F => Some(NONE_MISSING),
         0xC2..=0xDF => Some(expecting(1, 0x80, 0xBF)),
@@ -61,7 +75,11 @@ fn after_first(byte: u8) -> Option<Missing> {
     }
 }
 
-fn next_missing(now: Missing, byte: u8) -> Option<Missing> {
+fn next_missing(now: Missing, byte: u8) -> Option<Missing>
+    ensures some { IfSome result (λ next. GoesOnAbove next × ((bytes : List ℕ)
+        → EndsCharacters now (byte ∷ bytes) ↔ EndsCharacters next bytes)) }
+    ensures none { IfNone result ((bytes : List ℕ) → EndsCharacters now (byte ∷ bytes) → ⊥) }
+{
     if now.count == 0 {
         return after_first(byte);
     }
@@ -71,7 +89,11 @@ fn next_missing(now: Missing, byte: u8) -> Option<Missing> {
     Some(expecting(now.count - 1, 0x80, 0xBF))
 }
 
-fn next_segment(now: Segment, byte: u8) -> Option<Segment> {
+fn next_segment(now: Segment, byte: u8) -> Option<Segment>
+    ensures some { IfSome result (λ next. (bytes : List ℕ)
+        → EndsSegments now (byte ∷ bytes) ↔ EndsSegments next bytes) }
+    ensures none { IfNone result ((bytes : List ℕ) → EndsSegments now (byte ∷ bytes) → ⊥) }
+{
     match (now, byte) {
         (Segment::Name, b'/') => Some(Segment::Nothing),
         (_, b'/') => None,
@@ -83,7 +105,13 @@ fn next_segment(now: Segment, byte: u8) -> Option<Segment> {
 }
 
 // `other` is the byte that the path before has here.
-fn next_order(now: Order, byte: u8, other: Option<u8>) -> Option<Order> {
+fn next_order(now: Order, byte: u8, other: Option<u8>) -> Option<Order>
+    ensures some { IfSome result (λ next. (earlier bytes : List ℕ) → slice_get earlier 0 ≡ other
+        → EndsOrder now earlier (byte ∷ bytes) ↔ EndsOrder next (drop 1 earlier) bytes) }
+    ensures same { IfSome result (λ next. next ≡ Same → (now ≡ Same) × (other ≡ Some byte)) }
+    ensures none { IfNone result ((earlier bytes : List ℕ) → slice_get earlier 0 ≡ other
+        → EndsOrder now earlier (byte ∷ bytes) → ⊥) }
+{
     match (now, other) {
         (Order::After, _) => Some(Order::After),
         (Order::Same, None) => Some(Order::After),
@@ -93,7 +121,15 @@ fn next_order(now: Order, byte: u8, other: Option<u8>) -> Option<Order> {
     }
 }
 
-fn next_place(now: Place, byte: u8, other: Option<u8>) -> Option<Place> {
+fn next_place(now: Place, byte: u8, other: Option<u8>) -> Option<Place>
+    ensures some { IfSome result (λ next. (earlier bytes : List ℕ) → slice_get earlier 0 ≡ other
+        → EndsPath now earlier (byte ∷ bytes) ↔ EndsPath next (drop 1 earlier) bytes) }
+    ensures goes_on { IfSome result (λ next. GoesOnAbove next.missing) }
+    ensures same { IfSome result (λ next. next.order ≡ Same
+        → (now.order ≡ Same) × (other ≡ Some byte)) }
+    ensures none { IfNone result ((earlier bytes : List ℕ) → slice_get earlier 0 ≡ other
+        → EndsPath now earlier (byte ∷ bytes) → ⊥) }
+{
     Some(Place {
         segment: next_segment(now.segment, byte)?,
         order: next_order(now.order, byte, other)?,
@@ -102,34 +138,50 @@ fn next_place(now: Place, byte: u8, other: Option<u8>) -> Option<Place> {
 }
 
 // A path of so many bytes may end here.
-fn may_end(place: Place, length: usize) -> bool {
+fn may_end(place: Place, length: usize) -> bool
+    ensures { IsTrue result ↔ MayEnd place length }
+{
     matches!(place.order, Order::After)
         && place.missing.count == 0
         && (place.segment == Segment::Name || length == 0)
 }
 
-// The bytes of the path at the front, which a newline has to follow.
-fn path_front<'a>(before: Option<&RelPath>, text: &'a [u8]) -> Result<&'a [u8], Fault> {
-    let earlier = before.map_or(b"".as_slice(), |path| path.as_str().as_bytes());
-    let mut place = Place {
+// The bytes of the path before, or none, and where a path that has to come after it begins.
+fn start(before: Option<&RelPath>) -> (&[u8], Place)
+    ensures { IsStart (option_map (λ path. path.now) before) result.0.now result.1 }
+{
+    let (earlier, order) = match before {
+        Some(path) => (path.as_str().as_bytes(), Order::Same),
+        None => (b"".as_slice(), Order::After),
+    };
+    let place = Place {
         segment: Segment::Nothing,
-        order: if before.is_some() {
-            Order::Same
-        } else {
-            Order::After
-        },
+        order,
         missing: NONE_MISSING,
     };
+    (earlier, place)
+}
+
+// The path at the front of a text, which a newline ends.
+fn path_front<'a>(before: Option<&RelPath>, text: &'a [u8]) -> Result<(&'a [u8], &'a [u8]), Stuck>
+    ensures { MatchResult result
+        (λ read. NextPath (option_map (λ path. path.now) before) read.0.now
+        × (text.now ≡ ended read.0.now ++ read.1.now))
+        (λ stuck. Stops ended (NextPath (option_map (λ path. path.now) before)) text.now
+        stuck.left) }
+{
+    let (earlier, first) = start(before);
+    let mut place = first;
     'bytes: for i in 0..text.len() {
         if text[i] == b'\n' && may_end(place, i) {
-            return Ok(&text[..i]);
+            return Ok((&text[..i], &text[i + 1..]));
         }
         let Some(next) = next_place(place, text[i], earlier.get(i).copied()) else {
-            return Err(Fault::Stuck(stuck_at(&text[i..])));
+            return Err(stuck_at(&text[i..]));
         };
         place = next;
     }
-    Err(Fault::Stuck(stuck_at(&text[text.len()..])))
+    Err(stuck_at(&text[text.len()..]))
 }
 
 /// The path at the front and the newline behind it.
@@ -137,16 +189,15 @@ pub(crate) fn read_path<'a>(
     alloc: Global,
     before: Option<&RelPath>,
     text: &'a [u8],
-) -> Result<(RelPath, &'a [u8]), Fault> {
-    let front = path_front(before, text)?;
-    let rest = &text[front.len() + 1..];
-    if front.is_empty() {
-        return Ok((RelPath::root(alloc), rest));
-    }
-    match RelPath::join(alloc, &RelPath::root(alloc), front) {
-        Ok(path) => Ok((path, rest)),
-        Err(PathError::OutOfMemory) => Err(Fault::OutOfMemory),
-        // The bytes are the text of a path, so memory alone can be wanting.
+) -> Result<(RelPath, &'a [u8]), Fault>
+    ensures { MatchResult result
+        (λ read. NextPath (option_map (λ path. path.now) before) read.0
+        × (text.now ≡ ended read.0 ++ read.1.now))
+        (StopsBy ended (NextPath (option_map (λ path. path.now) before)) text.now) }
+{
+    let (front, rest) = path_front(before, text)?;
+    match str::from_utf8(front) {
+        Ok(path) => Ok((RelPath::from_text(String::from_str(alloc, path)?), rest)),
         Err(_) => unreachable!(),
     }
 }

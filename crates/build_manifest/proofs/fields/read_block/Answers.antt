@@ -33,6 +33,6 @@ pub returns : goal.returns
 returns c = (
   omega (arith, c.in_ok-count.ensures.0, c.in_ok-bytes.ensures.0),
   block_read c.args.word.now c.args.text.now c.in_ok-rest.rest.now c.in_ok-count.rest.now c.in_ok-bytes.bytes.now c.in_ok-bytes.rest.now
-  c.in_ok-rest-2.rest.now c.in_ok-count.count c.in_ok-rest.ensures c.in_ok-count.ensures.1 c.in_ok-bytes.ensures.0 c.in_ok-bytes.ensures.1
-  c.in_ok-rest-2.ensures,
+      c.in_ok-rest-2.rest.now c.in_ok-count.count c.in_ok-rest.ensures c.in_ok-count.ensures.1 c.in_ok-bytes.ensures.0 c.in_ok-bytes.ensures.1
+      c.in_ok-rest-2.ensures,
 )
