@@ -1,5 +1,6 @@
 -- What the readers of fields come to.
 use Rattle.std.proofs.Common.{◌≡◌, ◌⊎◌, ℕ, zero, suc, ◌+◌, ◌-◌, ◌*◌, ◌/◌, ◌%◌, ◌^◌, ◌<◌, ◌≤◌, List, [], ◌∷◌, ◌++◌, length, take, drop, get_or, refl, sym, ap, ◌∙◌, arith, subst, append_assoc, append-nil, length-append, decimal, drop-cons}
+use Rattle.std.proofs.Math.Seq.{take-length}
 use Rattle.std.proofs.lemmas.Fmt.{decimal_digit, decimal_step}
 use Rattle.std.proofs.lemmas.List.{length-drop, take-append-drop}
 use Rattle.reading.specs.Plain.{Always, IsBelow, IsNoDigit, literal_text, number_text}
@@ -44,10 +45,20 @@ decimal_more v d some low fits =
 abbrev pub HasCome : List ℕ → List ℕ → ℕ → ℕ → Type 0
 HasCome from text i v = (v < limit) × (from ≡ decimal v ++ drop i text)
 
-pub digits_begin : (first : ℕ) (rest : List ℕ) → 48 ≤ first → first ≤ 57 → decimal (first - 48) ++ rest ≡ first ∷ rest
-digits_begin first rest low high =
-    let e : 48 + (first - 48) ≡ first = omega arith in
-    ap (λ t. t ++ rest) (decimal_digit (first - 48) (omega arith) ∙ ap (λ b. b ∷ []) e)
+-- the text behind its first byte
+abbrev pub behind_first : List ℕ → List ℕ
+behind_first text = take (length text - 1) (drop 1 text)
+
+pub first_and_rest : (text : List ℕ) → 1 ≤ length text → text ≡ get_or text 0 0 ∷ behind_first text
+first_and_rest [] some = absurd (omega arith)
+first_and_rest (b ∷ text) some =
+    let e : length (b ∷ text) - 1 ≡ length text = omega arith in
+    ap (λ t. b ∷ t) (sym (take-length text)) ∙ ap (λ n. b ∷ take n text) (sym e)
+
+pub first_digit : (text : List ℕ) (digit : ℕ) → 1 ≤ length text → get_or text 0 0 ≡ 48 + digit → digit < 10
+    → decimal digit ++ behind_first text ≡ text
+first_digit text digit some is low =
+    ap (λ t. t ++ behind_first text) (decimal_digit digit low) ∙ ap (λ b. b ∷ behind_first text) (sym is) ∙ sym (first_and_rest text some)
 
 pub one_digit_more : (from text : List ℕ) (i v byte more : ℕ) → HasCome from text i v → i < length text → byte ≡ get_or text i 0
     → more ≡ v * 10 + (byte - 48) → more < limit → 48 ≤ byte → byte ≤ 57 → 0 < v → HasCome from text (i + 1) more

@@ -4,4 +4,5 @@ pub mod FieldLemmas
 pub mod Lines
 pub mod Parts
 pub mod Pushes
+pub mod Segments
 pub mod Whole

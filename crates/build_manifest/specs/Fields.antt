@@ -54,13 +54,13 @@ ComesAfter (Some earlier) path = text_cmp earlier path ≡ Less
 
 -- a path that a row may have, after a row of the path before it
 pub record NextPath (before : Option (List ℕ)) (path : List ℕ) : Type 0 where
-  pub path : IsTrue (is_path path)
+  pub proper : IsTrue (is_path path)
   pub utf8 : IsUtf8 path
   pub order : ComesAfter before path
 
 -- such a row
 pub record NextRow (before : Option (List ℕ)) (row : FileRow) : Type 0 where
-  pub row : IsMarkRow row
+  pub sound : IsMarkRow row
   pub order : ComesAfter before row.path
 
 -- such a row with what stands in front of it

@@ -1,6 +1,7 @@
 // Paths of rows, read byte by byte.
 ghost use Rattle.std.specs.Prelude.{◌≡◌, ◌<◌, ◌≤◌, ◌↔◌, ◌++◌, ◌∷◌, [], ℕ, List, length, drop, slice_get, option_map, MatchResult, IfSome, IfNone, IsTrue, Some};
 ghost use Rattle.reading.specs.Field.{Stops};
+ghost use Rattle.mx_base.specs.Path.{is_refused};
 ghost use Rattle.build_manifest.specs.Fields.{NextPath, StopsBy, ended};
 ghost use Rattle.build_manifest.specs.Paths.{EndsCharacters, EndsOrder, EndsPath, EndsSegments, GoesOnAbove, IsStart, MayEnd};
 ghost use Rattle.build_manifest.specs.declared.paths.Order.TheVariants.{Same};
@@ -12,7 +13,7 @@ use std::alloc::Global;
 use std::str;
 
 // What a segment has so far.
-#[derive(Clone, Copy, PartialEq, Eq)]
+#[derive(Clone, Copy)]
 enum Segment {
     Nothing,
     Dot,
@@ -89,19 +90,51 @@ fn next_missing(now: Missing, byte: u8) -> Option<Missing>
     Some(expecting(now.count - 1, 0x80, 0xBF))
 }
 
+// A control, or a backslash.
+fn is_refused(byte: u8) -> bool
+    ensures { result ≡ is_refused byte }
+{
+    byte < 32 || byte == 127 || byte == b'\\'
+}
+
+// Past a slash, which ends a segment.
+fn after_slash(now: Segment) -> Option<Segment>
+    ensures some { IfSome result (λ next. (bytes : List ℕ)
+        → EndsSegments now (47 ∷ bytes) ↔ EndsSegments next bytes) }
+    ensures none { IfNone result ((bytes : List ℕ) → EndsSegments now (47 ∷ bytes) → ⊥) }
+{
+    match now {
+        Segment::Name => Some(Segment::Nothing),
+        Segment::Nothing | Segment::Dot | Segment::TwoDots => None,
+    }
+}
+
+// Past a dot.
+fn after_dot(now: Segment) -> Segment
+    ensures { (bytes : List ℕ) → EndsSegments now (46 ∷ bytes) ↔ EndsSegments result bytes }
+{
+    match now {
+        Segment::Nothing => Segment::Dot,
+        Segment::Dot => Segment::TwoDots,
+        Segment::TwoDots | Segment::Name => Segment::Name,
+    }
+}
+
 fn next_segment(now: Segment, byte: u8) -> Option<Segment>
     ensures some { IfSome result (λ next. (bytes : List ℕ)
         → EndsSegments now (byte ∷ bytes) ↔ EndsSegments next bytes) }
     ensures none { IfNone result ((bytes : List ℕ) → EndsSegments now (byte ∷ bytes) → ⊥) }
 {
-    match (now, byte) {
-        (Segment::Name, b'/') => Some(Segment::Nothing),
-        (_, b'/') => None,
-        (_, 0x00..=0x1F | 0x7F | b'\\') => None,
-        (Segment::Nothing, b'.') => Some(Segment::Dot),
-        (Segment::Dot, b'.') => Some(Segment::TwoDots),
-        _ => Some(Segment::Name),
+    if byte == b'/' {
+        return after_slash(now);
     }
+    if is_refused(byte) {
+        return None;
+    }
+    if byte == b'.' {
+        return Some(after_dot(now));
+    }
+    Some(Segment::Name)
 }
 
 // `other` is the byte that the path before has here.
@@ -143,7 +176,7 @@ fn may_end(place: Place, length: usize) -> bool
 {
     matches!(place.order, Order::After)
         && place.missing.count == 0
-        && (place.segment == Segment::Name || length == 0)
+        && (matches!(place.segment, Segment::Name) || length == 0)
 }
 
 // The bytes of the path before, or none, and where a path that has to come after it begins.
