@@ -1,8 +1,10 @@
 pub mod Blocks
+pub mod Characters
 pub mod DigestLemmas
 pub mod FieldLemmas
 pub mod Lines
 pub mod Parts
+pub mod PathOrders
 pub mod Pushes
 pub mod Segments
 pub mod Whole
