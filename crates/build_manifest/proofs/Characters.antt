@@ -221,8 +221,11 @@ char_three a b d l h bl bh dl dh least most =
     let p : 224 + c / 4096 ≡ a = omega arith in
     let q : next (c / 64) ≡ b = omega arith in
     let r : next c ≡ d = omega arith in
-    let s : scalar c ≡ true = ⊎_elim (λ k. low_scalar c (omega (arith, k, most))) (λ k. high_scalar c (omega (arith, k)) (omega arith)) (cases_lt a 0xEE) in
-    one_char c (a ∷ b ∷ d ∷ []) s (three c (omega (arith, least)) (omega arith) ∙ (λ i. p i ∷ q i ∷ r i ∷ []))
+    let low : 2048 ≤ c = ⊎_elim (λ k. omega (arith, least (omega arith))) (λ k. omega arith) (cases_lt a 0xE1) in
+    let middle : a < 0xEE → scalar c ≡ true =
+    λ k. ⊎_elim (λ m. low_scalar c (omega arith)) (λ m. low_scalar c (omega (arith, most (omega arith)))) (cases_lt a 0xED) in
+    let s : scalar c ≡ true = ⊎_elim middle (λ k. high_scalar c (omega arith) (omega arith)) (cases_lt a 0xEE) in
+    one_char c (a ∷ b ∷ d ∷ []) s (three c low (omega arith) ∙ (λ i. p i ∷ q i ∷ r i ∷ []))
 
 char_four : (a b d f : ℕ) → 0xF0 ≤ a → a ≤ 0xF4 → 0x80 ≤ b → b ≤ 0xBF → 0x80 ≤ d → d ≤ 0xBF → 0x80 ≤ f → f ≤ 0xBF
     → (a ≡ 0xF0 → 0x90 ≤ b) → (a ≡ 0xF4 → b ≤ 0x8F) → IsUtf8 (a ∷ b ∷ d ∷ f ∷ [])
@@ -232,8 +235,9 @@ char_four a b d f l h bl bh dl dh fl fh least most =
     let q : next (c / 4096) ≡ b = omega arith in
     let r : next (c / 64) ≡ d = omega arith in
     let s : next c ≡ f = omega arith in
-    one_char c (a ∷ b ∷ d ∷ f ∷ []) (high_scalar c (omega (arith, least)) (omega (arith, most)))
-    (four c (omega (arith, least)) ∙ (λ i. p i ∷ q i ∷ r i ∷ s i ∷ []))
+    let low : 65536 ≤ c = ⊎_elim (λ k. omega (arith, least (omega arith))) (λ k. omega arith) (cases_lt a 0xF1) in
+    let top : c < 1114112 = ⊎_elim (λ k. omega arith) (λ k. omega (arith, most (omega arith))) (cases_lt a 0xF4) in
+    one_char c (a ∷ b ∷ d ∷ f ∷ []) (high_scalar c (omega arith) top) (four c low ∙ (λ i. p i ∷ q i ∷ r i ∷ s i ∷ []))
 
 back_ascii : (a : ℕ) (bytes : List ℕ) → a < 128 → IsUtf8 bytes → IsUtf8 (a ∷ bytes)
 back_ascii a bytes h u = IsUtf8-append (a ∷ []) bytes (one_char a (a ∷ []) (low_scalar a (omega arith)) (encode_ascii a h)) u
@@ -265,19 +269,19 @@ from_table a bytes e =
     ⊎_elim (λ k. back_ascii a bytes k (at (0, 0x80, 0xBF) (row_ascii a k)))
     (λ l. ⊎_elim (λ k. absurd (none (row_inner a l k)))
     (λ l. ⊎_elim (λ k. back_two a bytes l (omega arith) (at (1, 0x80, 0xBF) (row_two a l k)))
-    (λ l. ⊎_elim (λ k. back_three a 0xA0 0xBF bytes l (omega arith) (omega arith) (omega arith) (λ _. omega arith) (λ k. omega arith)
+    (λ l. ⊎_elim (λ k. back_three a 0xA0 0xBF bytes l (omega arith) (omega arith) (omega arith) (λ j. omega arith) (λ j. omega arith)
     (at (2, 0xA0, 0xBF) (row_three_low a (omega arith))))
-    (λ l. ⊎_elim (λ k. back_three a 0x80 0xBF bytes (omega arith) (omega arith) (omega arith) (omega arith) (λ k. omega arith) (λ k. omega arith)
+    (λ l. ⊎_elim (λ k. back_three a 0x80 0xBF bytes (omega arith) (omega arith) (omega arith) (omega arith) (λ j. omega arith) (λ j. omega arith)
     (at (2, 0x80, 0xBF) (row_three a l k)))
-    (λ l. ⊎_elim (λ k. back_three a 0x80 0x9F bytes (omega arith) (omega arith) (omega arith) (omega arith) (λ k. omega arith) (λ k. omega arith)
+    (λ l. ⊎_elim (λ k. back_three a 0x80 0x9F bytes (omega arith) (omega arith) (omega arith) (omega arith) (λ j. omega arith) (λ j. omega arith)
     (at (2, 0x80, 0x9F) (row_three_high a (omega arith))))
-    (λ l. ⊎_elim (λ k. back_three a 0x80 0xBF bytes (omega arith) (omega arith) (omega arith) (omega arith) (λ k. omega arith) (λ k. omega arith)
+    (λ l. ⊎_elim (λ k. back_three a 0x80 0xBF bytes (omega arith) (omega arith) (omega arith) (omega arith) (λ j. omega arith) (λ j. omega arith)
     (at (2, 0x80, 0xBF) (row_three_last a l k)))
-    (λ l. ⊎_elim (λ k. back_four a 0x90 0xBF bytes l (omega arith) (omega arith) (omega arith) (λ k. omega arith) (λ k. omega arith)
+    (λ l. ⊎_elim (λ k. back_four a 0x90 0xBF bytes l (omega arith) (omega arith) (omega arith) (λ j. omega arith) (λ j. omega arith)
     (at (3, 0x90, 0xBF) (row_four_low a (omega arith))))
-    (λ l. ⊎_elim (λ k. back_four a 0x80 0xBF bytes (omega arith) (omega arith) (omega arith) (omega arith) (λ k. omega arith) (λ k. omega arith)
+    (λ l. ⊎_elim (λ k. back_four a 0x80 0xBF bytes (omega arith) (omega arith) (omega arith) (omega arith) (λ j. omega arith) (λ j. omega arith)
     (at (3, 0x80, 0xBF) (row_four a l k)))
-    (λ l. ⊎_elim (λ k. back_four a 0x80 0x8F bytes (omega arith) (omega arith) (omega arith) (omega arith) (λ k. omega arith) (λ k. omega arith)
+    (λ l. ⊎_elim (λ k. back_four a 0x80 0x8F bytes (omega arith) (omega arith) (omega arith) (omega arith) (λ j. omega arith) (λ j. omega arith)
     (at (3, 0x80, 0x8F) (row_four_high a (omega arith))))
     (λ l. absurd (none (row_above a l)))
     (cases_lt a 0xF5)) (cases_lt a 0xF4)) (cases_lt a 0xF1)) (cases_lt a 0xF0)) (cases_lt a 0xEE)) (cases_lt a 0xED)) (cases_lt a 0xE1)) (cases_lt a 0xE0))

@@ -4,6 +4,8 @@ pub mod DigestLemmas
 pub mod FieldLemmas
 pub mod Lines
 pub mod Parts
+pub mod PathFronts
+pub mod PathLives
 pub mod PathOrders
 pub mod Pushes
 pub mod Segments

@@ -1,6 +1,5 @@
 -- The fields of a mark's text that its readers read.
 use Rattle.std.specs.Prelude.{◌≡◌, ℕ, ◌/◌, ◌%◌, ◌<◌, Bool, true, false, List, [], ◌∷◌, ◌++◌, length, slice_index, codes, IsTrue, Option, Some, None}
-use Rattle.std.specs.Borrow.{Bor}
 use Rattle.std.specs.declared.cmp.Ordering.TheVariants.{Less}
 use Rattle.std.specs.Str.{IsUtf8}
 use Rattle.hex.specs.Hex.{encode_lower, lower_digits}
@@ -47,11 +46,6 @@ tag_text false = codes "mark 1" ++ 10 ∷ []
 tag_text true = codes "mark 2" ++ 10 ∷ []
 
 -- ---- what may follow a row
-
--- the path before, where there is one
-abbrev pub earlier_path : Option (Bor (List ℕ)) → Option (List ℕ)
-earlier_path None = None
-earlier_path (Some path) = Some path.now
 
 -- the path stands after this one, where there is one
 abbrev pub ComesAfter : Option (List ℕ) → List ℕ → Type 0

@@ -64,5 +64,6 @@ pub record MayEnd (place : Place) (length : ℕ) : Type 0 where
 pub record IsStart (before : Option (List ℕ)) (earlier : List ℕ) (place : Place) : Type 0 where
   pub segment : place.segment ≡ Nothing
   pub characters : place.missing.count ≡ 0
+  pub goes_on : GoesOnAbove place.missing
   pub order : (path : List ℕ) → ComesAfter before path ↔ EndsOrder place.order earlier path
   pub same : place.order ≡ Same → (before ≡ Some earlier) × IsTrue (is_path earlier) × IsUtf8 earlier

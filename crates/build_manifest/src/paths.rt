@@ -1,8 +1,8 @@
 // Paths of rows, read byte by byte.
-ghost use Rattle.std.specs.Prelude.{◌≡◌, ◌<◌, ◌≤◌, ◌↔◌, ◌++◌, ◌∷◌, [], ℕ, List, length, drop, slice_get, MatchResult, IfSome, IfNone, IsTrue, Some};
+ghost use Rattle.std.specs.Prelude.{◌≡◌, ◌<◌, ◌≤◌, ◌↔◌, ◌++◌, ◌∷◌, [], ℕ, List, length, drop, slice_get, option_copied, MatchResult, IfSome, IfNone, IsTrue, Some};
 ghost use Rattle.reading.specs.Field.{Stops};
 ghost use Rattle.mx_base.specs.Path.{is_refused};
-ghost use Rattle.build_manifest.specs.Fields.{NextPath, StopsBy, earlier_path, ended};
+ghost use Rattle.build_manifest.specs.Fields.{NextPath, StopsBy, ended};
 ghost use Rattle.build_manifest.specs.Paths.{EndsCharacters, EndsOrder, EndsPath, EndsSegments, GoesOnAbove, IsStart, MayEnd};
 ghost use Rattle.build_manifest.specs.declared.paths.Order.TheVariants.{Same};
 ghost use Rattle.std.specs.Str.{IsUtf8};
@@ -181,7 +181,7 @@ fn may_end(place: Place, length: usize) -> bool
 
 // The bytes of the path before, or none, and where a path that has to come after it begins.
 fn start(before: Option<&RelPath>) -> (&[u8], Place)
-    ensures { IsStart (earlier_path before) result.0.now result.1 }
+    ensures { IsStart (option_copied before.entry) result.0.now result.1 }
 {
     let (earlier, order) = match before {
         Some(path) => (path.as_str().as_bytes(), Order::Same),
@@ -198,9 +198,9 @@ fn start(before: Option<&RelPath>) -> (&[u8], Place)
 // The path at the front of a text, which a newline ends.
 fn path_front<'a>(before: Option<&RelPath>, text: &'a [u8]) -> Result<(&'a [u8], &'a [u8]), Stuck>
     ensures { MatchResult result
-        (λ read. NextPath (earlier_path before) read.0.now
+        (λ read. NextPath (option_copied before.entry) read.0.now
         × (text.now ≡ ended read.0.now ++ read.1.now))
-        (λ stuck. Stops ended (NextPath (earlier_path before)) text.now
+        (λ stuck. Stops ended (NextPath (option_copied before.entry)) text.now
         stuck.left) }
 {
     let (earlier, first) = start(before);
@@ -224,9 +224,9 @@ pub(crate) fn read_path<'a>(
     text: &'a [u8],
 ) -> Result<(RelPath, &'a [u8]), Fault>
     ensures { MatchResult result
-        (λ read. NextPath (earlier_path before) read.0
+        (λ read. NextPath (option_copied before.entry) read.0
         × (text.now ≡ ended read.0 ++ read.1.now))
-        (StopsBy ended (NextPath (earlier_path before)) text.now) }
+        (StopsBy ended (NextPath (option_copied before.entry)) text.now) }
 {
     let (front, rest) = path_front(before, text)?;
     match str::from_utf8(front) {

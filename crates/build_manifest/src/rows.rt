@@ -1,9 +1,9 @@
 // The rows of a mark, read.
-ghost use Rattle.std.specs.Prelude.{◌≡◌, ◌++◌, ◌∷◌, [], flat_map, MatchResult, OnOk};
+ghost use Rattle.std.specs.Prelude.{◌≡◌, ◌++◌, ◌∷◌, [], flat_map, option_copied, MatchResult, OnOk};
 ghost use Rattle.reading.specs.Field.{ListFits, Stops};
 ghost use Rattle.mx_base.specs.Digest.{IsDigest};
 ghost use Rattle.mx_base.specs.Listing.{row_text};
-ghost use Rattle.build_manifest.specs.Fields.{LinesFit, NextLine, NextRow, StopsBy, earlier_path, last_path, lead_text};
+ghost use Rattle.build_manifest.specs.Fields.{LinesFit, NextLine, NextRow, StopsBy, last_path, lead_text};
 ghost use Rattle.build_manifest.specs.Lines.{AreLines, digest_of, lead_part, lines_of};
 ghost use Rattle.build_manifest.specs.Mark.{LeadFits, LineFits};
 ghost use Rattle.build_manifest.specs.Text.{line_text, lines_text};
@@ -68,9 +68,9 @@ fn read_row<'a>(
     text: &'a [u8],
 ) -> Result<(FileRow, &'a [u8]), Fault>
     ensures { MatchResult result
-        (λ read. NextRow (earlier_path before) read.0
+        (λ read. NextRow (option_copied before.entry) read.0
         × (text.now ≡ row_text read.0 ++ read.1.now))
-        (StopsBy row_text (NextRow (earlier_path before)) text.now) }
+        (StopsBy row_text (NextRow (option_copied before.entry)) text.now) }
 {
     let (digest, rest) = read_lead(text)?;
     let (length, rest) = read_number(b' ', rest)?;
@@ -99,9 +99,9 @@ fn read_line<'a>(
     text: &'a [u8],
 ) -> Result<(Line, &'a [u8]), Fault>
     ensures { MatchResult result
-        (λ read. NextLine with_digests (earlier_path before) read.0
+        (λ read. NextLine with_digests (option_copied before.entry) read.0
         × (text.now ≡ line_text read.0 ++ read.1.now))
-        (StopsBy line_text (NextLine with_digests (earlier_path before))
+        (StopsBy line_text (NextLine with_digests (option_copied before.entry))
         text.now) }
 {
     let (digest, rest) = read_lead_of(with_digests, text)?;
@@ -110,7 +110,7 @@ fn read_line<'a>(
 }
 
 fn last_path(rows: &[FileRow]) -> Option<&RelPath>
-    ensures { earlier_path result ≡ last_path rows.now }
+    ensures { option_copied result ≡ last_path rows.now }
 {
     match rows {
         [.., last] => Some(&last.path),
