@@ -1,5 +1,6 @@
 // Paths of rows, read byte by byte.
-ghost use Rattle.std.specs.Prelude.{◌≡◌, ◌<◌, ◌≤◌, ◌↔◌, ◌++◌, ◌∷◌, [], ℕ, List, length, drop, slice_get, option_copied, MatchResult, IfSome, IfNone, IsTrue, Some};
+ghost use Rattle.std.specs.Option.{option_copied};
+ghost use Rattle.std.specs.Prelude.{◌≡◌, ◌<◌, ◌≤◌, ◌↔◌, ◌++◌, ◌∷◌, [], ℕ, List, length, drop, slice_get, MatchResult, IfSome, IfNone, IsTrue, Some};
 ghost use Rattle.reading.specs.Field.{Stops};
 ghost use Rattle.mx_base.specs.Path.{is_refused};
 ghost use Rattle.build_manifest.specs.Fields.{NextPath, StopsBy, ended};

@@ -1,5 +1,6 @@
 // The rows of a mark, read.
-ghost use Rattle.std.specs.Prelude.{◌≡◌, ◌++◌, ◌∷◌, [], flat_map, option_copied, MatchResult, OnOk};
+ghost use Rattle.std.specs.Option.{option_copied};
+ghost use Rattle.std.specs.Prelude.{◌≡◌, ◌++◌, ◌∷◌, [], flat_map, MatchResult, OnOk};
 ghost use Rattle.reading.specs.Field.{ListFits, Stops};
 ghost use Rattle.mx_base.specs.Digest.{IsDigest};
 ghost use Rattle.mx_base.specs.Listing.{row_text};
