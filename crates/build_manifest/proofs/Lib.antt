@@ -8,5 +8,6 @@ pub mod PathFronts
 pub mod PathLives
 pub mod PathOrders
 pub mod Pushes
+pub mod RowStops
 pub mod Segments
 pub mod Whole

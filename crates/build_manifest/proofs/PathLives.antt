@@ -7,7 +7,7 @@ use Rattle.std.specs.Str.{IsUtf8}
 use Rattle.std.proofs.lemmas.Bool.Decides.{nat_tests}
 use Rattle.std.proofs.lemmas.List.{take-append-drop}
 use Rattle.std.proofs.lemmas.List.Splits.{slice_split-cons_no, slice_split-cons_yes}
-use Rattle.std.proofs.lemmas.Str.{IsUtf8-append}
+use Rattle.std.proofs.lemmas.Str.{IsUtf8-append, IsUtf8-nil}
 use Rattle.mx_base.specs.Order.{text_cmp}
 use Rattle.mx_base.proofs.OrderLemmas.{same_front}
 use Rattle.mx_base.specs.Path.{is_outside, is_path, is_refused, is_segment, is_slash}
@@ -15,7 +15,7 @@ use Rattle.build_manifest.specs.declared.paths.Missing.{Missing}
 use Rattle.build_manifest.specs.declared.paths.Order.{Order}
 use Rattle.build_manifest.specs.declared.paths.Order.TheVariants.{Same, After}
 use Rattle.build_manifest.specs.declared.paths.Place.{Place}
-use Rattle.build_manifest.specs.Fields.{ComesAfter, NextPath, ended}
+use Rattle.build_manifest.specs.Fields.{ComesAfter, IsEarlier, NextPath, ended}
 use Rattle.build_manifest.specs.Paths.{EndsCharacter, EndsOrder, EndsPath, GoesOnAbove}
 use Rattle.build_manifest.proofs.Segments.{AreHigh, some_segments}
 
@@ -209,3 +209,15 @@ some_left missing = omega (arith, length-append (fill_from missing.count missing
 
 pub live_after : (before : Option (List ℕ)) (taken : List ℕ) (missing : Missing) → NextPath before (taken ++ after_left missing) → Lives before taken
 live_after before taken missing fits = first_of before taken (after_left missing) (taken ++ after_left missing) fits refl
+
+-- after each path there is one
+pub next_path : (before : Option (List ℕ)) → IsEarlier before → (path : List ℕ) × NextPath before path
+next_path None is = ([], record { proper = refl; utf8 = IsUtf8-nil; order = tt })
+next_path (Some earlier) is = (
+  earlier ++ 97 ∷ [],
+  record {
+    proper = path_behind earlier is.0;
+    utf8 = IsUtf8-append earlier (97 ∷ []) is.1 a_utf8;
+    order = longer earlier;
+  },
+)

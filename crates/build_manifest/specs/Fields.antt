@@ -52,6 +52,11 @@ abbrev pub ComesAfter : Option (List ℕ) → List ℕ → Type 0
 ComesAfter None path = Unit {0}
 ComesAfter (Some earlier) path = text_cmp earlier path ≡ Less
 
+-- what the path before is, where there is one
+abbrev pub IsEarlier : Option (List ℕ) → Type 0
+IsEarlier None = Unit {0}
+IsEarlier (Some path) = IsTrue (is_path path) × IsUtf8 path
+
 -- a path that a row may have, after a row of the path before it
 pub record NextPath (before : Option (List ℕ)) (path : List ℕ) : Type 0 where
   pub proper : IsTrue (is_path path)

@@ -4,7 +4,7 @@ ghost use Rattle.std.specs.Prelude.{◌≡◌, ◌++◌, ◌∷◌, [], flat_map
 ghost use Rattle.reading.specs.Field.{ListFits, Stops};
 ghost use Rattle.mx_base.specs.Digest.{IsDigest};
 ghost use Rattle.mx_base.specs.Listing.{row_text};
-ghost use Rattle.build_manifest.specs.Fields.{LinesFit, NextLine, NextRow, StopsBy, last_path, lead_text};
+ghost use Rattle.build_manifest.specs.Fields.{IsEarlier, LinesFit, NextLine, NextRow, StopsBy, last_path, lead_text};
 ghost use Rattle.build_manifest.specs.Lines.{AreLines, digest_of, lead_part, lines_of};
 ghost use Rattle.build_manifest.specs.Mark.{LeadFits, LineFits};
 ghost use Rattle.build_manifest.specs.Text.{line_text, lines_text};
@@ -68,6 +68,7 @@ fn read_row<'a>(
     before: Option<&RelPath>,
     text: &'a [u8],
 ) -> Result<(FileRow, &'a [u8]), Fault>
+    requires { IsEarlier (option_copied before.entry) }
     ensures { MatchResult result
         (λ read. NextRow (option_copied before.entry) read.0
         × (text.now ≡ row_text read.0 ++ read.1.now))
@@ -99,6 +100,7 @@ fn read_line<'a>(
     before: Option<&RelPath>,
     text: &'a [u8],
 ) -> Result<(Line, &'a [u8]), Fault>
+    requires { IsEarlier (option_copied before.entry) }
     ensures { MatchResult result
         (λ read. NextLine with_digests (option_copied before.entry) read.0
         × (text.now ≡ line_text read.0 ++ read.1.now))
