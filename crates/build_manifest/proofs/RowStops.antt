@@ -1,10 +1,7 @@
 -- Where the readers of rows and lines stop.
 use Rattle.std.proofs.Common.{◌≡◌, ℕ, ◌^◌, ◌<◌, ◌≤◌, Bool, true, false, List, [], ◌∷◌, ◌++◌, length, Option, Some, None, refl, sym, ap, ◌∙◌, arith, subst, inl, append_assoc, decimal}
-use Rattle.std.specs.Prelude.{replicate}
-use Rattle.std.proofs.lemmas.List.{length-replicate}
-use Rattle.std.proofs.lemmas.Str.{IsUtf8-nil}
 use Rattle.hex.specs.Hex.{encode_lower}
-use Rattle.reading.specs.Field.{FitInTurn, PairFits, Stops, TellsItsEnd, pair_text}
+use Rattle.reading.specs.Field.{PairFits, Stops, TellsItsEnd, pair_text}
 use Rattle.reading.specs.Plain.{Always, IsBelow, IsNoDigit, literal_text, number_text}
 use Rattle.reading.proofs.Fields.{first_stops, pair_tells, second_stops, tells_otherwise, told_otherwise}
 use Rattle.reading.proofs.Literals.{literal_tells}
@@ -12,14 +9,20 @@ use Rattle.reading.proofs.Numbers.{number_tells}
 use Rattle.mx_base.specs.declared.row.FileRow.{FileRow}
 use Rattle.mx_base.specs.Digest.{IsDigest}
 use Rattle.mx_base.specs.Listing.{row_text}
-use Rattle.build_manifest.specs.Fields.{IsEarlier, NextLine, NextPath, NextRow, ended, lead_text}
-use Rattle.build_manifest.specs.Lines.{lead_part}
-use Rattle.build_manifest.specs.Mark.{IsMarkRow, LeadFits, Line, limit}
-use Rattle.build_manifest.specs.Text.{line_text}
-use Rattle.build_manifest.proofs.DigestLemmas.{ByteFits, digest_from, zeros}
+use Rattle.build_manifest.specs.declared.fields.Fault.{Fault}
+use Rattle.build_manifest.specs.declared.fields.Fault.TheVariants.{Stuck, OutOfMemory}
+use Rattle.build_manifest.specs.Fields.{IsEarlier, NextPath, NextRow, StopsBy, ended, lead_text}
+use Rattle.build_manifest.specs.Mark.{limit}
 use Rattle.build_manifest.proofs.Lines.{line_tells, path_has_no_break}
 use Rattle.build_manifest.proofs.Parts.{digest_tells}
 use Rattle.build_manifest.proofs.PathLives.{next_path}
+
+-- a field stops where a part of it does, or memory ran out for both
+pub stops_by : {A B : Type 0} (text : A → List ℕ) (Fits : A → Type 0) (from : List ℕ) (whole : B → List ℕ) (WholeFits : B → Type 0) (whole_from : List ℕ)
+    → ((left : ℕ) → Stops text Fits from left → Stops whole WholeFits whole_from left) → (fault : Fault) → StopsBy text Fits from fault
+    → StopsBy whole WholeFits whole_from fault
+stops_by text Fits from whole WholeFits whole_from on (Stuck stuck) s = on stuck.left s
+stops_by text Fits from whole WholeFits whole_from on OutOfMemory s = tt
 
 -- ---- a digest and the space behind it
 
