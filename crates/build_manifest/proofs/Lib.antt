@@ -1,7 +1,9 @@
 pub mod Blocks
 pub mod Characters
+pub mod CountedStops
 pub mod DigestLemmas
 pub mod FieldLemmas
+pub mod LineStops
 pub mod Lines
 pub mod Parts
 pub mod PathFronts
