@@ -5,6 +5,7 @@ pub mod DigestLemmas
 pub mod FieldLemmas
 pub mod LineStops
 pub mod Lines
+pub mod MarkStops
 pub mod Parts
 pub mod PathFronts
 pub mod PathLives
