@@ -3,9 +3,9 @@ ghost use Rattle.std.specs.Prelude.{◌≡◌, ℕ, ◌<◌, ◌++◌, slice_ind
 ghost use Rattle.hex.specs.Hex.{encode_lower, lower_digits};
 ghost use Rattle.reading.specs.Field.{Stops};
 ghost use Rattle.mx_base.specs.Digest.{IsDigest};
-ghost use Rattle.build_manifest.specs.Fields.{IsByte, byte_text};
+ghost use Rattle.build_manifest.specs.Fields.{IsByte, byte_text, lead_text};
 
-use crate::fields::{Stuck, stuck_at};
+use crate::fields::{Stuck, after_literal, stuck_at};
 use mx_base::Digest32;
 
 // The value of a digit, where letters are in lower case.
@@ -55,4 +55,15 @@ pub(crate) fn read_digest(text: &[u8]) -> Result<(Digest32, &[u8]), Stuck>
         rest = after;
     }
     Ok((Digest32::from_bytes(bytes), rest))
+}
+
+/// A digest and the space behind it.
+pub(crate) fn read_lead(text: &[u8]) -> Result<(Digest32, &[u8]), Stuck>
+    ensures { MatchResult result
+        (λ read. IsDigest read.0 × (text.now ≡ lead_text read.0 ++ read.1.now))
+        (λ stuck. Stops lead_text IsDigest text.now stuck.left) }
+{
+    let (digest, rest) = read_digest(text)?;
+    let rest = after_literal(b" ", rest)?;
+    Ok((digest, rest))
 }

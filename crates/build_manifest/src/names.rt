@@ -8,8 +8,8 @@ ghost use Rattle.build_manifest.specs.Mark.{NeedFits, limit};
 ghost use Rattle.build_manifest.specs.Names.{BeginsFree, HasApps, IsFreeFront, IsFreeName, IsLongestFront, IsNameFront, names_from};
 ghost use Rattle.build_manifest.specs.Text.{need_text};
 
-use crate::digits::read_digest;
-use crate::fields::{Fault, after_literal, stuck_at};
+use crate::digits::read_lead;
+use crate::fields::{Fault, stuck_at};
 use crate::mark::Need;
 use indexmap::IndexSet;
 use mx_base::{AppName, NameError};
@@ -160,8 +160,7 @@ pub(crate) fn read_need<'a>(
         (λ read. NeedFits needs.now.listed.items read.0 × (text.now ≡ need_text read.0 ++ read.1.now))
         (StopsBy need_text (NeedFits needs.now.listed.items) text.now) }
 {
-    let (digest, rest) = read_digest(text)?;
-    let rest = after_literal(b" ", rest)?;
+    let (digest, rest) = read_lead(text)?;
     let (app, rest) = read_name(alloc, needs, rest)?;
     Ok(((digest, app), rest))
 }

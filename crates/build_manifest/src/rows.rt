@@ -2,14 +2,13 @@
 ghost use Rattle.std.specs.Option.{option_copied};
 ghost use Rattle.std.specs.Prelude.{◌≡◌, ◌++◌, ◌∷◌, [], flat_map, MatchResult, OnOk};
 ghost use Rattle.reading.specs.Field.{ListFits, Stops};
-ghost use Rattle.mx_base.specs.Digest.{IsDigest};
 ghost use Rattle.mx_base.specs.Listing.{row_text};
-ghost use Rattle.build_manifest.specs.Fields.{IsEarlier, LinesFit, NextLine, NextRow, StopsBy, last_path, lead_text};
+ghost use Rattle.build_manifest.specs.Fields.{IsEarlier, LinesFit, NextLine, NextRow, StopsBy, last_path};
 ghost use Rattle.build_manifest.specs.Lines.{AreLines, digest_of, lead_part, lines_of};
 ghost use Rattle.build_manifest.specs.Mark.{LeadFits, LineFits};
 ghost use Rattle.build_manifest.specs.Text.{line_text, lines_text};
 
-use crate::digits::read_digest;
+use crate::digits::read_lead;
 use crate::fields::{Fault, Stuck, after_literal, read_number};
 use crate::paths::read_path;
 use mx_base::{Digest32, FileRow, RelPath};
@@ -49,17 +48,6 @@ impl Rows {
         self.rows.push(row)?;
         Ok(())
     }
-}
-
-// A digest and the space behind it.
-fn read_lead(text: &[u8]) -> Result<(Digest32, &[u8]), Stuck>
-    ensures { MatchResult result
-        (λ read. IsDigest read.0 × (text.now ≡ lead_text read.0 ++ read.1.now))
-        (λ stuck. Stops lead_text IsDigest text.now stuck.left) }
-{
-    let (digest, rest) = read_digest(text)?;
-    let rest = after_literal(b" ", rest)?;
-    Ok((digest, rest))
 }
 
 // A row that comes after the path before it.

@@ -1,6 +1,6 @@
 use Rattle.std.proofs.lemmas.Result.{err_from_is_err_and}
 use Rattle.build_manifest.proofs.RowStops.{lead_digest_stops, lead_read, lead_space_stops}
-use Rattle.build_manifest.proofs.rows.read_lead.Goals as goal
+use Rattle.build_manifest.proofs.digits.read_lead.Goals as goal
 
 pub returns-in_err-digest : goal.returns-in_err-digest
 returns-in_err-digest c =
