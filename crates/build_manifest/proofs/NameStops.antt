@@ -51,7 +51,7 @@ name_stuck listed text front long free open = record {
     begins = refl;
     refuses = λ next others further other e fits whole. ⊎_elim
         (λ (one : (other ≡ front) × (10 ≡ next)). open others (e ∙ ap (λ b. b ∷ others) (sym one.1)))
-        (λ (on : (more : List ℕ) × (other ≡ front ++ next ∷ more)). none_goes_on front long.rest on.0 other others next long.ends e fits.name on.1)
+        (λ (on : (more : List ℕ) × (other ≡ front ++ next ∷ more)). none_goes_on front long.rest on.0 other others next long.ends e fits.proper on.1)
         (last_split other front further 10 next whole);
   };
 }
@@ -93,14 +93,14 @@ name_used listed text name front after cut free ends goes = record {
 need_fits : (listed : List Need) (p : List ℕ × List ℕ) → PairFits IsDigest (λ _. IsFreeName listed) p
     → NeedFits listed p × (need_text p ≡ pair_text lead_text (λ _. ended) p)
 need_fits listed p fits = (
-  record { digest = fits.0; app = fits.1.name; differs = fits.1.free },
+  record { digest = fits.0; app = fits.1.proper; differs = fits.1.free },
   sym (append_assoc _ (32 ∷ []) (ended p.1)),
 )
 
 fits_need : (listed : List Need) (need : Need) → NeedFits listed need
     → PairFits IsDigest (λ _. IsFreeName listed) need × (pair_text lead_text (λ _. ended) need ≡ need_text need)
 fits_need listed need fits = (
-  (fits.digest, record { name = fits.app; free = fits.differs }),
+  (fits.digest, record { proper = fits.app; free = fits.differs }),
   append_assoc _ (32 ∷ []) (ended need.1),
 )
 

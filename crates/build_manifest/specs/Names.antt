@@ -7,7 +7,7 @@ use Rattle.build_manifest.specs.Mark.{Need}
 
 -- a name that none of these needs has
 pub record IsFreeName (listed : List Need) (name : List ℕ) : Type 0 where
-  pub name : IsAppName name
+  pub proper : IsAppName name
   pub free : AllByRecursion (λ earlier. earlier.1 ≡ name → ⊥) listed
 
 -- some such name begins so

@@ -19,13 +19,12 @@ const MAX_NAME_LEN: usize = 255;
 // How many bytes may stand in a name past its first place.
 const NAME_BYTES: u64 = 63;
 
-/// Needs of different apps so far, and these apps.
+/// Needs so far, and their apps.
 #[derive(Drop)]
 pub(crate) struct Needs {
     listed: Vec<Need>,
     apps: IndexSet<AppName>,
     ghost same: { HasApps apps listed.items },
-    ghost apart: { FitInTurn NeedFits [] listed.items },
 }
 
 impl Needs {
@@ -38,7 +37,7 @@ impl Needs {
         }
     }
 
-    /// With one need more, of an app that none of them has.
+    /// With one need more.
     pub(crate) fn with(self, need: Need) -> Result<Needs, AllocError>
         requires { NeedFits self.listed.items need }
         ensures { IfOk result (λ needs. needs.listed.items ≡ self.listed.items ++ need ∷ []) }
@@ -53,8 +52,7 @@ impl Needs {
     }
 
     pub(crate) fn into_vec(self) -> Vec<Need>
-        ensures needs { result.items ≡ self.listed.items }
-        ensures apart { FitInTurn NeedFits [] self.listed.items }
+        ensures { result.items ≡ self.listed.items }
     {
         let Needs { listed, apps } = self;
         drop(apps);
@@ -63,7 +61,8 @@ impl Needs {
 
     // All names that begin so have a need.
     fn is_used_up(&self, front: &[u8]) -> bool
-        requires { IsNameFront front.now }
+        requires front { IsNameFront front.now }
+        requires apart { FitInTurn NeedFits [] self.now.listed.items }
         ensures yes { IsTrue result → BeginsFree self.now.listed.items front.now → ⊥ }
         ensures no { IsFalse result → BeginsFree self.now.listed.items front.now }
     {
@@ -79,6 +78,7 @@ impl Needs {
     // The longest front of a name with which some name begins that no need has.
     fn free_front<'a>(&self, name: &'a [u8]) -> &'a [u8]
         requires few { length self.now.listed.items < limit }
+        requires apart { FitInTurn NeedFits [] self.now.listed.items }
         requires name { IsNameFront name.now }
         requires listed { Contains (map (λ need. need.1) self.now.listed.items) name.now }
         ensures { IsFreeFront self.now.listed.items name.now result.now }
@@ -127,7 +127,8 @@ fn names_from(length: usize) -> Option<u64>
 
 // The name at the front of a text, which no need has and which a newline ends.
 fn read_name<'a>(alloc: Global, needs: &Needs, text: &'a [u8]) -> Result<(AppName, &'a [u8]), Fault>
-    requires { length needs.now.listed.items < limit }
+    requires few { length needs.now.listed.items < limit }
+    requires apart { FitInTurn NeedFits [] needs.now.listed.items }
     ensures { MatchResult result
         (λ read. IsFreeName needs.now.listed.items read.0 × (text.now ≡ ended read.0 ++ read.1.now))
         (StopsBy ended (IsFreeName needs.now.listed.items) text.now) }
@@ -155,7 +156,8 @@ pub(crate) fn read_need<'a>(
     needs: &Needs,
     text: &'a [u8],
 ) -> Result<(Need, &'a [u8]), Fault>
-    requires { length needs.now.listed.items < limit }
+    requires few { length needs.now.listed.items < limit }
+    requires apart { FitInTurn NeedFits [] needs.now.listed.items }
     ensures { MatchResult result
         (λ read. NeedFits needs.now.listed.items read.0 × (text.now ≡ need_text read.0 ++ read.1.now))
         (StopsBy need_text (NeedFits needs.now.listed.items) text.now) }

@@ -56,7 +56,7 @@ fn read_row<'a>(
     before: Option<&RelPath>,
     text: &'a [u8],
 ) -> Result<(FileRow, &'a [u8]), Fault>
-    requires { IsEarlier (option_copied before.entry) }
+    requires { IsEarlier (option_copied before) }
     ensures { MatchResult result
         (λ read. NextRow (option_copied before.entry) read.0
         × (text.now ≡ row_text read.0 ++ read.1.now))
@@ -88,7 +88,7 @@ fn read_line<'a>(
     before: Option<&RelPath>,
     text: &'a [u8],
 ) -> Result<(Line, &'a [u8]), Fault>
-    requires { IsEarlier (option_copied before.entry) }
+    requires { IsEarlier (option_copied before) }
     ensures { MatchResult result
         (λ read. NextLine with_digests (option_copied before.entry) read.0
         × (text.now ≡ line_text read.0 ++ read.1.now))
