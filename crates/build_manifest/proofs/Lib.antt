@@ -14,4 +14,5 @@ pub mod PathOrders
 pub mod Pushes
 pub mod RowStops
 pub mod Segments
+pub mod TagStops
 pub mod Whole
