@@ -25,7 +25,7 @@ four c l = rw (le-ltb c 128 (omega arith), le-ltb c 2048 (omega arith), le-ltb c
 high_scalar : (c : ℕ) → 57344 ≤ c → c < 1114112 → scalar c ≡ true
 high_scalar c l h = rw (le-ltb c 55296 (omega arith), le-leb 57344 c l, lt-ltb c 1114112 h)
 
-one_char : (c : ℕ) (bytes : List ℕ) → scalar c ≡ true → encode c ≡ bytes → IsUtf8 bytes
+pub one_char : (c : ℕ) (bytes : List ℕ) → scalar c ≡ true → encode c ≡ bytes → IsUtf8 bytes
 one_char c bytes s e = (c ∷ [], (ap (λ t. t && true) s, append-nil (encode c) ∙ e))
 
 -- ---- the table: how many bytes follow a first byte, and the range of the next

@@ -11,6 +11,7 @@ use Rattle.reading.proofs.Lists.{same_head, same_tail}
 use Rattle.reading.proofs.Repeats.{GoesOn, list_stops}
 use Rattle.mx_base.specs.Digest.{IsDigest}
 use Rattle.build_manifest.specs.Fields.{IsByte, byte_text}
+use Rattle.build_manifest.proofs.FieldLemmas.{behind_first, first_and_rest}
 
 -- ---- digits
 
@@ -110,6 +111,19 @@ read_as high low first second rest below under is also =
     let bottom : (high * 16 + low) % 16 ≡ low = omega arith in
     rw (top, bottom, is, also) refl
 
+pub second_stuck : (text : List ℕ) (high : ℕ) → 1 ≤ length text → (high < 16) × (slice_index lower_digits high ≡ get_or text 0 0)
+    → ((next : ℕ) (others : List ℕ) → behind_first text ≡ next ∷ others → IsNoHex next) → Stops byte_text IsByte text (length (behind_first text))
+second_stuck text high some is none =
+    subst (λ t. Stops byte_text IsByte t (length (behind_first text))) (ap (λ b. b ∷ behind_first text) is.1 ∙ sym (first_and_rest text some))
+    (second_stops_byte high (behind_first text) is.0 none)
+
+pub two_digits : (text : List ℕ) (high low : ℕ) → 1 ≤ length text → 1 ≤ length (behind_first text)
+    → (high < 16) × (slice_index lower_digits high ≡ get_or text 0 0) → (low < 16) × (slice_index lower_digits low ≡ get_or (behind_first text) 0 0)
+    → text ≡ byte_text (high * 16 + low) ++ behind_first (behind_first text)
+two_digits text high low some more is also =
+    first_and_rest text some ∙ ap (λ t. get_or text 0 0 ∷ t) (first_and_rest (behind_first text) more)
+    ∙ read_as high low (get_or text 0 0) (get_or (behind_first text) 0 0) (behind_first (behind_first text)) is.0 also.0 is.1 also.1
+
 -- ---- digests are lists of bytes
 
 pub digest_bytes : (bytes : List ℕ) → flat_map byte_text bytes ≡ encode_lower bytes
@@ -129,7 +143,7 @@ bytes_from before [] fits i = omega arith
 bytes_from before (b ∷ bytes) fits zero = fits.0
 bytes_from before (b ∷ bytes) fits (suc i) = bytes_from (before ++ b ∷ []) bytes fits.1 i
 
-zeros : (before : List ℕ) (n : ℕ) → ListFits ByteFits n before (replicate n 0)
+pub zeros : (before : List ℕ) (n : ℕ) → ListFits ByteFits n before (replicate n 0)
 zeros before zero = (refl, tt)
 zeros before (suc n) = (ap suc (zeros (before ++ 0 ∷ []) n).0, (omega arith, (zeros (before ++ 0 ∷ []) n).1))
 

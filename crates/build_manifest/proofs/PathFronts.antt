@@ -9,6 +9,7 @@ use Rattle.std.specs.Str.{IsUtf8}
 use Rattle.mx_base.specs.Order.{text_cmp}
 use Rattle.mx_base.specs.Path.{is_path}
 use Rattle.reading.specs.Field.{Stops}
+use Rattle.reading.proofs.Lists.{same_head}
 use Rattle.reading.proofs.Numbers.{last_split}
 use Rattle.build_manifest.specs.declared.paths.Order.{Order}
 use Rattle.build_manifest.specs.declared.paths.Order.TheVariants.{Same, After}
@@ -59,13 +60,15 @@ one_more text i b bytes within is =
     rw add-one (ap (λ t. t ++ bytes) (take-suc text i 0 within) ∙ ap (λ x. (take i text ++ x ∷ []) ++ bytes) (sym is)
     ∙ append_assoc (take i text) (b ∷ []) bytes)
 
-get_at : (list : List ℕ) (i : ℕ) → slice_get (drop i list) 0 ≡ slice_get list i
-get_at [] i = refl
+pub get_at : (list : List ℕ) (i : ℕ) → slice_get (drop i list) 0 ≡ slice_get list i
+get_at [] zero = refl
+get_at [] (suc i) = refl
 get_at (x ∷ list) zero = refl
 get_at (x ∷ list) (suc i) = get_at list i
 
 drop_one : (list : List ℕ) (i : ℕ) → drop 1 (drop i list) ≡ drop (suc i) list
-drop_one [] i = refl
+drop_one [] zero = refl
+drop_one [] (suc i) = refl
 drop_one (x ∷ list) zero = refl
 drop_one (x ∷ list) (suc i) = drop_one list i
 
@@ -82,7 +85,8 @@ pub led_further : (before : Option (List ℕ)) (earlier text : List ℕ) (i b : 
     → (next.order ≡ Same → (now.order ≡ Same) × (other ≡ Some b)) → HasLed before earlier text (i + 1) next
 led_further before earlier text i b other now next led within is other_is leads goes_on same =
     let head : slice_get (drop i earlier) 0 ≡ other = get_at earlier i ∙ sym other_is in
-    let left : drop 1 (drop i earlier) ≡ drop (i + 1) earlier = drop_one earlier i ∙ ap (λ n. drop n earlier) (sym (add-one {n = i})) in
+    let step : i + 1 ≡ suc i = omega arith in
+    let left : drop 1 (drop i earlier) ≡ drop (i + 1) earlier = drop_one earlier i ∙ ap (λ n. drop n earlier) (sym step) in
     record {
       ends = λ bytes some.
           let cut = one_more text i b bytes within is in
@@ -108,9 +112,12 @@ pub path_read : (before : Option (List ℕ)) (earlier text : List ℕ) (i : ℕ)
 path_read before earlier text i place led within break may = (
   at i refl,
   sym (take-append-drop i text) ∙ ap (λ t. take i text ++ t) (drop-cons text i 0 within) ∙ ap (λ b. take i text ++ b ∷ drop (suc i) text) break
-      ∙ sym (append_assoc (take i text) (10 ∷ []) (drop (suc i) text)) ∙ ap (λ n. ended (take i text) ++ drop n text) (sym (add-one {n = i})),
+      ∙ sym (append_assoc (take i text) (10 ∷ []) (drop (suc i) text)) ∙ ap (λ n. ended (take i text) ++ drop n text) (sym step),
 )
   where
+    step : i + 1 ≡ suc i
+    step = omega arith
+
     order : EndsOrder place.order (drop i earlier) []
     order = subst (λ o. EndsOrder o (drop i earlier) []) (sym may.order) tt
 
@@ -196,3 +203,16 @@ path_stuck before earlier text i place led within none =
         let left = after_left place.missing in
         live_after before (take i text) place.missing ((led.ends left
         (omega (arith, some_left place.missing, length-append (take i text) left))).1 (after_ends place (drop i earlier) is led.goes_on))
+
+-- the same, by the byte that stands there
+pub path_stuck_at : (before : Option (List ℕ)) (earlier text : List ℕ) (i : ℕ) (place : Place) → HasLed before earlier text i place → i ≤ length text
+    → (i < length text → (get_or text i 0 ≡ 10 → MayEnd place i → ⊥)
+    × ((bytes : List ℕ) → EndsPath place (drop i earlier) (get_or text i 0 ∷ bytes) → ⊥))
+    → Stops ended (NextPath before) text (length (drop i text))
+path_stuck_at before earlier text i place led within none =
+    path_stuck before earlier text i place led within (λ b others e.
+    let inside : i < length text = omega (arith, ap length e, length-drop i text) in
+    let same : get_or text i 0 ≡ b = same_head (get_or text i 0) b (drop (suc i) text) others (sym (drop-cons text i 0 inside) ∙ e) in (
+      λ is may. (none inside).0 (same ∙ is) may,
+      λ bytes ends. (none inside).1 bytes (subst (λ x. EndsPath place (drop i earlier) (x ∷ bytes)) (sym same) ends),
+    ))

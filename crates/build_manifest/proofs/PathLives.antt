@@ -7,7 +7,7 @@ use Rattle.std.specs.Str.{IsUtf8}
 use Rattle.std.proofs.lemmas.Bool.Decides.{nat_tests}
 use Rattle.std.proofs.lemmas.List.{take-append-drop}
 use Rattle.std.proofs.lemmas.List.Splits.{slice_split-cons_no, slice_split-cons_yes}
-use Rattle.std.proofs.lemmas.Str.{IsUtf8-append, IsUtf8-nil}
+use Rattle.std.proofs.lemmas.Str.{IsUtf8-append, IsUtf8-nil, encode_ascii}
 use Rattle.mx_base.specs.Order.{text_cmp}
 use Rattle.mx_base.proofs.OrderLemmas.{same_front}
 use Rattle.mx_base.specs.Path.{is_outside, is_path, is_refused, is_segment, is_slash}
@@ -17,12 +17,13 @@ use Rattle.build_manifest.specs.declared.paths.Order.TheVariants.{Same, After}
 use Rattle.build_manifest.specs.declared.paths.Place.{Place}
 use Rattle.build_manifest.specs.Fields.{ComesAfter, IsEarlier, NextPath, ended}
 use Rattle.build_manifest.specs.Paths.{EndsCharacter, EndsOrder, EndsPath, GoesOnAbove}
+use Rattle.build_manifest.proofs.Characters.{one_char}
 use Rattle.build_manifest.proofs.Segments.{AreHigh, some_segments}
 
 -- ---- an `a` behind a path
 
 a_utf8 : IsUtf8 (97 ∷ [])
-a_utf8 = (97 ∷ [], (refl, refl))
+a_utf8 = one_char 97 (97 ∷ []) refl (encode_ascii 97 (omega arith))
 
 -- the last part gets it
 abbrev onto_last : List (List ℕ) → List (List ℕ)
@@ -59,14 +60,15 @@ onto_moved b parts has =
 
 split_behind : (text : List ℕ) → slice_split is_slash (text ++ 97 ∷ []) ≡ onto_last (slice_split is_slash text)
 split_behind [] = refl
-split_behind (b ∷ bs) = at (is_slash b) refl
+split_behind (b ∷ bs) = at (is_slash b) refl (split_behind bs)
   where
-    at : (t : Bool) → is_slash b ≡ t → slice_split is_slash (b ∷ bs ++ 97 ∷ []) ≡ onto_last (slice_split is_slash (b ∷ bs))
-    at true e =
-        slice_split-cons_yes is_slash b (bs ++ 97 ∷ []) e ∙ ap (λ p. [] ∷ p) (split_behind bs)
+    at : (t : Bool) → is_slash b ≡ t → slice_split is_slash (bs ++ 97 ∷ []) ≡ onto_last (slice_split is_slash bs)
+        → slice_split is_slash (b ∷ bs ++ 97 ∷ []) ≡ onto_last (slice_split is_slash (b ∷ bs))
+    at true e rest =
+        slice_split-cons_yes is_slash b (bs ++ 97 ∷ []) e ∙ ap (λ p. [] ∷ p) rest
         ∙ sym (onto_skipped (slice_split is_slash bs) (split_first bs)) ∙ ap onto_last (sym (slice_split-cons_yes is_slash b bs e))
-    at false e =
-        slice_split-cons_no is_slash b (bs ++ 97 ∷ []) e ∙ ap (onto_first b) (split_behind bs)
+    at false e rest =
+        slice_split-cons_no is_slash b (bs ++ 97 ∷ []) e ∙ ap (onto_first b) rest
         ∙ onto_moved b (slice_split is_slash bs) (split_first bs) ∙ ap onto_last (sym (slice_split-cons_no is_slash b bs e))
 
 any_behind : (part : List ℕ) → list_any is_outside (part ++ 97 ∷ []) ≡ list_any is_outside part

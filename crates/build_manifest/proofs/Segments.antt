@@ -63,26 +63,26 @@ NoDots Name byte = Unit {0}
 
 name_of : (now : Segment) (byte : ℕ) (part : List ℕ) → is_outside byte ≡ false → NoDots now byte
     → (more : List (List ℕ)) → list_all is_segment (onto now ((byte ∷ part) ∷ more)) ≡ list_all is_segment ((97 ∷ part) ∷ more)
-name_of Nothing byte part clean no more = rw (no, clean) refl
-name_of Dot byte part clean no more = rw (no, clean) refl
-name_of TwoDots byte part clean no more = rw clean refl
-name_of Name byte part clean no more = rw clean refl
+name_of Nothing byte part clean plain more = rw (plain, clean) refl
+name_of Dot byte part clean plain more = rw (plain, clean) refl
+name_of TwoDots byte part clean plain more = rw clean refl
+name_of Name byte part clean plain more = rw clean refl
 
 name_onto : (now : Segment) (byte : ℕ) (parts : List (List ℕ)) → is_outside byte ≡ false → NoDots now byte
     → list_all is_segment (onto now (onto_first byte parts)) ≡ list_all is_segment (onto_first 97 parts)
-name_onto now byte [] clean no = name_of now byte [] clean no []
-name_onto now byte (part ∷ parts) clean no = name_of now byte part clean no parts
+name_onto now byte [] clean plain = name_of now byte [] clean plain []
+name_onto now byte (part ∷ parts) clean plain = name_of now byte part clean plain parts
 
 -- with any other byte it is a name
 pub becomes_name : (now : Segment) (byte : ℕ) (bytes : List ℕ) → is_slash byte ≡ false → is_refused byte ≡ false → NoDots now byte
     → EndsSegments now (byte ∷ bytes) ↔ EndsSegments Name bytes
-becomes_name now byte bytes other good no =
+becomes_name now byte bytes other good plain =
     let parts = slice_split is_slash bytes in
     let clean : is_outside byte ≡ false = ap (λ (t : Bool). t || is_refused byte) other ∙ good in
     let cut : slice_split is_slash (segment_text now ++ byte ∷ bytes) ≡ onto now (onto_first byte parts) =
     split_with now (byte ∷ bytes) ∙ ap (onto now) (slice_split-cons_no is_slash byte bytes other) in
     let same : list_all is_segment (slice_split is_slash (segment_text now ++ byte ∷ bytes)) ≡ list_all is_segment (onto_first 97 parts) =
-    ap (list_all is_segment) cut ∙ name_onto now byte parts clean no in
+    ap (list_all is_segment) cut ∙ name_onto now byte parts clean plain in
     (λ h. sym same ∙ h, λ h. same ∙ h)
 
 -- ---- dots

@@ -63,7 +63,10 @@ pub(crate) fn read_lead(text: &[u8]) -> Result<(Digest32, &[u8]), Stuck>
         (λ read. IsDigest read.0 × (text.now ≡ lead_text read.0 ++ read.1.now))
         (λ stuck. Stops lead_text IsDigest text.now stuck.left) }
 {
-    let (digest, rest) = read_digest(text)?;
+    let (digest, rest) = match read_digest(text) {
+        Ok(read) => read,
+        Err(stuck) => return Err(stuck),
+    };
     let rest = after_literal(b" ", rest)?;
     Ok((digest, rest))
 }
