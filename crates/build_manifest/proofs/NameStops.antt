@@ -38,7 +38,7 @@ none_goes_on front (b ∷ rest) more name others next ends e is on =
 -- no listed name stands there, and what follows ends none
 pub name_stuck : (listed : List Need) (text front : List ℕ) (long : IsLongestFront text front) → IsFreeName listed front
     → ((others : List ℕ) → long.rest ≡ 10 ∷ others → ⊥) → Stops ended (IsFreeName listed) text (length long.rest)
-name_stuck listed text front long free open = record {
+name_stuck listed text front long free unended = record {
   taken = front;
   rest = long.rest;
   bytes = long.cut;
@@ -50,7 +50,7 @@ name_stuck listed text front long free open = record {
     more = [];
     begins = refl;
     refuses = λ next others further other e fits whole. ⊎_elim
-        (λ (one : (other ≡ front) × (10 ≡ next)). open others (e ∙ ap (λ b. b ∷ others) (sym one.1)))
+        (λ (one : (other ≡ front) × (10 ≡ next)). unended others (e ∙ ap (λ b. b ∷ others) (sym one.1)))
         (λ (on : (more : List ℕ) × (other ≡ front ++ next ∷ more)). none_goes_on front long.rest on.0 other others next long.ends e fits.proper on.1)
         (last_split other front further 10 next whole);
   };
@@ -78,12 +78,18 @@ name_used listed text name front after cut free ends goes = record {
 
     sticks : (more : List ℕ) → IsFreeName listed (front ++ more) → Sticks ended (IsFreeName listed) front (free.rest ++ after)
     sticks [] is = record {
-      value = front ++ []; fits = is; byte = 10; more = [];
+      value = front ++ [];
+      fits = is;
+      byte = 10;
+      more = [];
       begins = ap ended (append-nil front);
       refuses = refused;
     }
     sticks (b ∷ more) is = record {
-      value = front ++ b ∷ more; fits = is; byte = b; more = more ++ 10 ∷ [];
+      value = front ++ b ∷ more;
+      fits = is;
+      byte = b;
+      more = more ++ 10 ∷ [];
       begins = append_assoc front (b ∷ more) (10 ∷ []);
       refuses = refused;
     }

@@ -26,14 +26,14 @@ returns-in_default c =
     let left : c.stuck_at.result.left ≡ length (drop c.bytes.i text) =
     ap (λ (s : Stuck). s.left) c.stuck_at.ensures ∙ ap length (take_rest text c.bytes.i) in
     let other : c.copied.result ≡ slice_get earlier c.bytes.i = cc (c.copied.ensures, c.get.ensures.lookup) in
-    let open : get_or text c.bytes.i 0 ≡ 10 → MayEnd c.bytes.place c.bytes.i → ⊥ =
+    let unended : get_or text c.bytes.i 0 ≡ 10 → MayEnd c.bytes.place c.bytes.i → ⊥ =
     elim c.else-text-i-eq10.branch [
       | else-text-i-eq10-via-then-text-i-eq10+else-may_end w ↦ λ is may. cc (w.if-may_end.false, w.may_end.ensures.1 may)
       | else-text-i-eq10-via-else-text-i-eq10 w ↦ λ is may. absurd (omega (arith, is))
     ] in
     subst (λ (n : ℕ). Stops ended (NextPath (option_copied c.args.before)) text n) (sym left)
     (path_stuck_at (option_copied c.args.before) earlier text c.bytes.i c.bytes.place c.bytes.invariant (omega arith)
-    (λ inside. (open, λ bytes. c.in_default.ensures.none (drop c.bytes.i earlier) bytes (get_at earlier c.bytes.i ∙ sym other))))
+    (λ inside. (unended, λ bytes. c.in_default.ensures.none (drop c.bytes.i earlier) bytes (get_at earlier c.bytes.i ∙ sym other))))
 
 pub bytes-preserved : goal.bytes-preserved
 bytes-preserved c =
