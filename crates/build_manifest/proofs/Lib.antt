@@ -6,6 +6,7 @@ pub mod FieldLemmas
 pub mod LineStops
 pub mod Lines
 pub mod MarkStops
+pub mod NameFronts
 pub mod NameStops
 pub mod Parts
 pub mod PathFronts

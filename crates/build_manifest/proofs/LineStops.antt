@@ -1,5 +1,5 @@
 -- Where the readers of lines stop.
-use Rattle.std.proofs.Common.{◌≡◌, ◌⊎◌, ℕ, zero, suc, ◌+◌, ◌<◌, ◌≤◌, Bool, true, false, List, [], ◌∷◌, ◌++◌, length, map, Option, Some, None, refl, sym, ap, ◌∙◌, arith, subst, inl, inr, ⊎_elim, append_assoc, append-nil, length-append}
+use Rattle.std.proofs.Common.{◌≡◌, ◌⊎◌, ℕ, zero, suc, ◌+◌, ◌-◌, ◌<◌, ◌≤◌, Bool, true, false, List, [], ◌∷◌, ◌++◌, length, get_or, map, Option, Some, None, refl, sym, ap, ◌∙◌, arith, subst, inl, inr, ⊎_elim, append_assoc, append-nil, length-append}
 use Rattle.std.specs.Prelude.{replicate}
 use Rattle.std.specs.declared.cmp.Ordering.TheVariants.{Less}
 use Rattle.std.specs.Cmp.Lexicographic.{nat_list_cmp_total}
@@ -37,6 +37,13 @@ last_of : (front : List Line) (line : Line) → last_path (rows_in (front ++ lin
 last_of [] line = refl
 last_of (one ∷ []) line = refl
 last_of (one ∷ next ∷ front) line = last_of (next ∷ front) line
+
+pub last_is : (rows : List FileRow) (row : FileRow) → 1 ≤ length rows → row ≡ get_or rows (length rows - 1) row → Some row.path ≡ last_path rows
+last_is [] row some is = absurd (omega arith)
+last_is (one ∷ []) row some is = ap (λ (r : FileRow). Some r.path) is
+last_is (one ∷ next ∷ rows) row some is =
+    let e : length (one ∷ next ∷ rows) - 1 ≡ suc (length (next ∷ rows) - 1) = omega arith in
+    last_is (next ∷ rows) row (omega arith) (is ∙ ap (λ n. get_or (one ∷ next ∷ rows) n row) e)
 
 fit_last : (leads : Bool) (before front : List Line) (line : Line) → FitInTurn (LineFits leads) before (front ++ line ∷ [])
     → FitInTurn (LineFits leads) before front × LineFits leads (before ++ front) line

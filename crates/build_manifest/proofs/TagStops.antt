@@ -1,5 +1,5 @@
 -- Where the reader of a first line stops.
-use Rattle.std.proofs.Common.{◌≡◌, ℕ, Bool, true, false, List, [], ◌∷◌, ◌++◌, length, refl, sym, ap, ◌∙◌, arith, subst, append_assoc, codes}
+use Rattle.std.proofs.Common.{◌≡◌, ◌⊎◌, inl, inr, ℕ, Bool, true, false, List, [], ◌∷◌, ◌++◌, length, refl, sym, ap, ◌∙◌, arith, subst, append_assoc, codes}
 use Rattle.reading.specs.Field.{Stops}
 use Rattle.reading.specs.Plain.{Always, after_text, literal_text}
 use Rattle.reading.proofs.Fields.{told_otherwise}
@@ -29,6 +29,10 @@ tag_word_stops text left s = tag_told text left (literal_first_stops (codes "mar
 
 tail_stops : (text rest : List ℕ) (left : ℕ) → text ≡ codes "mark " ++ rest → Stops tag_tail Always rest left → Stops tag_text Always text left
 tail_stops text rest left cut s = tag_told text left (literal_second_stops (codes "mark ") tag_tail Always text rest left cut s)
+
+pub one_digit : (tag : Bool) → (tag_digit tag ≡ 49) ⊎ (tag_digit tag ≡ 50)
+one_digit false = inl refl
+one_digit true = inr refl
 
 -- neither digit stands there
 pub tag_digit_stops : (text rest : List ℕ) → text ≡ codes "mark " ++ rest
