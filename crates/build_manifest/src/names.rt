@@ -162,7 +162,10 @@ pub(crate) fn read_need<'a>(
         (λ read. NeedFits needs.now.listed.items read.0 × (text.now ≡ need_text read.0 ++ read.1.now))
         (StopsBy need_text (NeedFits needs.now.listed.items) text.now) }
 {
-    let (digest, rest) = read_lead(text)?;
+    let (digest, rest) = match read_lead(text) {
+        Ok(read) => read,
+        Err(stuck) => return Err(Fault::Stuck(stuck)),
+    };
     let (app, rest) = read_name(alloc, needs, rest)?;
     Ok(((digest, app), rest))
 }

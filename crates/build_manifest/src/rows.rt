@@ -62,7 +62,10 @@ fn read_row<'a>(
         × (text.now ≡ row_text read.0 ++ read.1.now))
         (StopsBy row_text (NextRow (option_copied before.entry)) text.now) }
 {
-    let (digest, rest) = read_lead(text)?;
+    let (digest, rest) = match read_lead(text) {
+        Ok(read) => read,
+        Err(stuck) => return Err(Fault::Stuck(stuck)),
+    };
     let (length, rest) = read_number(b' ', rest)?;
     let (path, rest) = read_path(alloc, before, rest)?;
     Ok((FileRow::new(path, length, digest), rest))
@@ -77,8 +80,10 @@ fn read_lead_of(with_digests: bool, text: &[u8]) -> Result<(Option<Digest32>, &[
     if !with_digests {
         return Ok((None, text));
     }
-    let (digest, rest) = read_lead(text)?;
-    Ok((Some(digest), rest))
+    match read_lead(text) {
+        Ok((digest, rest)) => Ok((Some(digest), rest)),
+        Err(stuck) => Err(stuck),
+    }
 }
 
 // A line whose row comes after the path before it.
@@ -95,7 +100,10 @@ fn read_line<'a>(
         (StopsBy line_text (NextLine with_digests (option_copied before.entry))
         text.now) }
 {
-    let (digest, rest) = read_lead_of(with_digests, text)?;
+    let (digest, rest) = match read_lead_of(with_digests, text) {
+        Ok(read) => read,
+        Err(stuck) => return Err(Fault::Stuck(stuck)),
+    };
     let (row, rest) = read_row(alloc, before, rest)?;
     Ok(((digest, row), rest))
 }
