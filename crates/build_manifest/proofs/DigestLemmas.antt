@@ -1,14 +1,14 @@
 -- Digests as hexadecimal digits.
-use Rattle.std.proofs.Common.{◌≡◌, ◌⊎◌, ℕ, zero, suc, ◌+◌, ◌-◌, ◌*◌, ◌/◌, ◌%◌, ◌^◌, ◌<◌, ◌≤◌, ◌==◌, ◌&&◌, Bool, true, false, List, [], ◌∷◌, ◌++◌, length, take, get_or, replicate, slice_index, Option, Some, None, refl, sym, ap, ◌∙◌, arith, subst, inl, inr, append_assoc, append-nil, length-append}
+use Rattle.std.proofs.Common.{◌≡◌, ◌⊎◌, ℕ, zero, suc, ◌+◌, ◌-◌, ◌*◌, ◌/◌, ◌%◌, ◌^◌, ◌<◌, ◌≤◌, ◌==◌, ◌&&◌, Bool, true, false, List, [], ◌∷◌, ◌++◌, length, take, set, get_or, replicate, slice_index, Option, Some, None, refl, sym, ap, ◌∙◌, arith, subst, inl, inr, append_assoc, append-nil, length-append}
 use Rattle.std.specs.Prelude.{flat_map, nat_lt, if◌then◌else◌}
-use Rattle.std.proofs.Math.Seq.{take-length}
+use Rattle.std.proofs.Math.Seq.{take-length, take-suc-set}
 use Rattle.std.proofs.lemmas.Bool.{and_parts, cases_lt, eqb-true}
 use Rattle.hex.specs.Hex.{IsBytes, encode_lower, encode_with, hex_digit_value, lower_digits}
 use Rattle.hex.proofs.HexLemmas.{IsDigits-lower_digits}
 use Rattle.reading.specs.Field.{FitInTurn, ListFits, Sticks, Stops, TellsItsEnd}
 use Rattle.reading.proofs.Fields.{told_otherwise}
 use Rattle.reading.proofs.Lists.{same_head, same_tail}
-use Rattle.reading.proofs.Repeats.{GoesOn, list_stops}
+use Rattle.reading.proofs.Repeats.{fit_one_more, flat_map_one_more, list_stops}
 use Rattle.mx_base.specs.Digest.{IsDigest}
 use Rattle.build_manifest.specs.Fields.{IsByte, byte_text}
 use Rattle.build_manifest.proofs.FieldLemmas.{behind_first, first_and_rest}
@@ -157,3 +157,17 @@ digest_stops text after done left less fits cut s =
     (λ bytes fits. (digest_from bytes fits.0 fits.1, sym (digest_bytes bytes)))
     (λ bytes is. ((is.long, bytes_fit [] bytes is.fits), digest_bytes bytes)) text left
     (list_stops byte_text ByteFits (λ _. byte_tells) 32 (λ before n _ _. (replicate n 0, zeros before n)) [] done 32 refl tt fits text after left less cut s)
+
+-- ---- one byte more
+
+pub more_bytes : (text rest after bytes : List ℕ) (i b : ℕ) → i < length bytes → FitInTurn ByteFits [] (take i bytes)
+    → text ≡ flat_map byte_text (take i bytes) ++ rest → IsByte b → rest ≡ byte_text b ++ after
+    → FitInTurn ByteFits [] (take (i + 1) (set bytes i b)) × (text ≡ flat_map byte_text (take (i + 1) (set bytes i b)) ++ after)
+more_bytes text rest after bytes i b within fits cut is next =
+    let step : i + 1 ≡ suc i = omega arith in
+    let taken : take (i + 1) (set bytes i b) ≡ take i bytes ++ b ∷ [] =
+    ap (λ n. take n (set bytes i b)) step ∙ take-suc-set bytes i b within in (
+      subst (FitInTurn ByteFits []) (sym taken) (fit_one_more ByteFits [] (take i bytes) b fits is),
+      cut ∙ ap (λ t. flat_map byte_text (take i bytes) ++ t) next ∙ sym (append_assoc (flat_map byte_text (take i bytes)) (byte_text b) after)
+          ∙ ap (λ t. t ++ after) (sym (flat_map_one_more byte_text (take i bytes) b)) ∙ ap (λ l. flat_map byte_text l ++ after) (sym taken),
+    )
