@@ -172,3 +172,12 @@ more_bytes text rest after bytes i b within fits cut is next =
       cut ∙ ap (λ t. flat_map byte_text (take i bytes) ++ t) next ∙ sym (append_assoc (flat_map byte_text (take i bytes)) (byte_text b) after)
           ∙ ap (λ t. t ++ after) (sym (flat_map_one_more byte_text (take i bytes) b)) ∙ ap (λ l. flat_map byte_text l ++ after) (sym taken),
     )
+
+pub whole_digest : (text rest bytes digest : List ℕ) (i : ℕ) → i ≡ 32 → length bytes ≡ 32 → digest ≡ bytes → FitInTurn ByteFits [] (take i bytes)
+    → text ≡ flat_map byte_text (take i bytes) ++ rest → IsDigest digest × (text ≡ encode_lower digest ++ rest)
+whole_digest text rest bytes digest i end long is fits cut =
+    let all : take i bytes ≡ bytes = ap (λ n. take n bytes) (end ∙ sym long) ∙ take-length bytes in
+    subst (λ d. IsDigest d × (text ≡ encode_lower d ++ rest)) (sym is) (
+      digest_from bytes long (subst (FitInTurn ByteFits []) all fits),
+      cut ∙ ap (λ l. flat_map byte_text l ++ rest) all ∙ ap (λ t. t ++ rest) (digest_bytes bytes),
+    )

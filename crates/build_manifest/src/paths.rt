@@ -196,6 +196,12 @@ fn start(before: Option<&RelPath>) -> (&[u8], Place)
     (earlier, place)
 }
 
+fn byte_at(bytes: &[u8], i: usize) -> Option<u8>
+    ensures { result ≡ slice_get bytes.now i }
+{
+    bytes.get(i).copied()
+}
+
 // The path at the front of a text, which a newline ends.
 fn path_front<'a>(before: Option<&RelPath>, text: &'a [u8]) -> Result<(&'a [u8], &'a [u8]), Stuck>
     ensures { MatchResult result
@@ -210,7 +216,7 @@ fn path_front<'a>(before: Option<&RelPath>, text: &'a [u8]) -> Result<(&'a [u8],
         if text[i] == b'\n' && may_end(place, i) {
             return Ok((&text[..i], &text[i + 1..]));
         }
-        let Some(next) = next_place(place, text[i], earlier.get(i).copied()) else {
+        let Some(next) = next_place(place, text[i], byte_at(earlier, i)) else {
             return Err(stuck_at(&text[i..]));
         };
         place = next;

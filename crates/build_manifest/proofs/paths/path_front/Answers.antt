@@ -25,7 +25,6 @@ returns-in_default c =
     let earlier = c.start.result.0.now in
     let left : c.stuck_at.result.left ≡ length (drop c.bytes.i text) =
     ap (λ (s : Stuck). s.left) c.stuck_at.ensures ∙ ap length (take_rest text c.bytes.i) in
-    let other : c.copied.result ≡ slice_get earlier c.bytes.i = cc (c.copied.ensures, c.get.ensures.lookup) in
     let unended : get_or text c.bytes.i 0 ≡ 10 → MayEnd c.bytes.place c.bytes.i → ⊥ =
     elim c.else-text-i-eq10.branch [
       | else-text-i-eq10-via-then-text-i-eq10+else-may_end w ↦ λ is may. cc (w.if-may_end.false, w.may_end.ensures.1 may)
@@ -33,15 +32,14 @@ returns-in_default c =
     ] in
     subst (λ (n : ℕ). Stops ended (NextPath (option_copied c.args.before)) text n) (sym left)
     (path_stuck_at (option_copied c.args.before) earlier text c.bytes.i c.bytes.place c.bytes.invariant (omega arith)
-    (λ inside. (unended, λ bytes. c.in_default.ensures.none (drop c.bytes.i earlier) bytes (get_at earlier c.bytes.i ∙ sym other))))
+    (λ inside. (unended, λ bytes. c.in_default.ensures.none (drop c.bytes.i earlier) bytes (get_at earlier c.bytes.i ∙ sym c.byte_at.ensures))))
 
 pub bytes-preserved : goal.bytes-preserved
 bytes-preserved c =
     let text = c.args.text.now in
     let earlier = c.start.result.0.now in
-    let other : c.copied.result ≡ slice_get earlier c.bytes.i = cc (c.copied.ensures, c.get.ensures.lookup) in
-    led_further (option_copied c.args.before) earlier text c.bytes.i (get_or text c.bytes.i 0) c.copied.result c.bytes.place c.in-Some.next
-    c.bytes.invariant c.bytes-test.true refl other c.in-Some.ensures.some c.in-Some.ensures.goes_on c.in-Some.ensures.same
+    led_further (option_copied c.args.before) earlier text c.bytes.i (get_or text c.bytes.i 0) c.byte_at.result c.bytes.place c.in-Some.next
+    c.bytes.invariant c.bytes-test.true refl c.byte_at.ensures c.in-Some.ensures.some c.in-Some.ensures.goes_on c.in-Some.ensures.same
 
 pub returns : goal.returns
 returns c =
