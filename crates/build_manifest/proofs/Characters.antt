@@ -302,7 +302,10 @@ pub leads : (byte n low high : ℕ) → table byte ≡ Some (n, low, high) → (
 leads byte n low high row missing is least some most =
     subst (λ (m : Missing). GoesOnAbove m × ((bytes : List ℕ) → IsUtf8 (byte ∷ bytes) ↔ EndsCharacters m bytes)) (sym is) (
       record { low = least; some = some; high = most },
-      λ bytes. (λ u. subst (λ r. LeadsOn r bytes) row (told u.0 (byte ∷ bytes) u.1.0 u.1.1), λ e. from_table byte bytes (subst (λ r. LeadsOn r bytes) (sym row) e)),
+      λ bytes. (
+        λ u. subst (λ r. LeadsOn r bytes) row (told u.0 (byte ∷ bytes) u.1.0 u.1.1),
+        λ e. from_table byte bytes (subst (λ r. LeadsOn r bytes) (sym row) e),
+      ),
     )
 
 -- the table has none

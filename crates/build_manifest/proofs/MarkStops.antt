@@ -137,7 +137,8 @@ whole_again whole fits =
     let outputs = whole.1.1.1.1.0 in
     let sources = lines_again whole.0 lines fits.1.1.0.1 in
     let plain_outputs = plain_again [] outputs fits.1.1.1.1.0.1 in
-    ap (λ (tag : Bool). (tag, (whole.1.0, (source_lines (form whole.0 lines) (rows lines), (whole.1.1.1.0, (plain (rows outputs), (whole.1.1.1.1.1.0, tt))))))) (tag_again whole.0 lines)
+    ap (λ (tag : Bool). (tag, (whole.1.0, (source_lines (form whole.0 lines) (rows lines), (whole.1.1.1.0, (plain (rows outputs), (whole.1.1.1.1.1.0, tt)))))))
+    (tag_again whole.0 lines)
     ∙ ap (λ (l : List Line). (whole.0, (whole.1.0, (l, (whole.1.1.1.0, (plain (rows outputs), (whole.1.1.1.1.1.0, tt))))))) sources
     ∙ ap (λ (l : List Line). (whole.0, (whole.1.0, (lines, (whole.1.1.1.0, (l, (whole.1.1.1.1.1.0, tt))))))) plain_outputs
 

@@ -28,12 +28,13 @@ goes_on front more name next is e =
       sym (ap (fits_at (length front)) (ap (λ t. slice_index t (length front)) e ∙ byte_at front more next)) ∙ is.bytes (length front) within,
     )
 
-none_goes_on : (front rest more name others : List ℕ) (next : ℕ) → NoneGoesOn front rest → rest ≡ next ∷ others → IsAppName name → name ≡ front ++ next ∷ more → ⊥
+none_goes_on : (front rest more name others : List ℕ) (next : ℕ) → NoneGoesOn front rest → rest ≡ next ∷ others → IsAppName name → name ≡ front ++ next ∷ more
+    → ⊥
 none_goes_on front [] more name others next ends e is on = cc
 none_goes_on front (b ∷ rest) more name others next ends e is on =
     let same : b ≡ next = cc in
-    let on = goes_on front more name next is on in
-    cc (on.1, ends on.0, ap (fits_at (length front)) same)
+    let further = goes_on front more name next is on in
+    cc (further.1, ends further.0, ap (fits_at (length front)) same)
 
 -- no listed name stands there, and what follows ends none
 pub name_stuck : (listed : List Need) (text front : List ℕ) (long : IsLongestFront text front) → IsFreeName listed front
@@ -69,7 +70,8 @@ name_used listed text name front after cut free ends goes = record {
   sticks = sticks free.free.0 free.free.1;
 }
   where
-    refused : (next : ℕ) (others further other : List ℕ) → free.rest ++ after ≡ next ∷ others → IsFreeName listed other → ended other ≡ front ++ next ∷ further → ⊥
+    refused : (next : ℕ) (others further other : List ℕ) → free.rest ++ after ≡ next ∷ others → IsFreeName listed other → ended other ≡ front ++ next ∷ further
+        → ⊥
     refused next others further other e fits whole = ⊎_elim
         (λ (one : (other ≡ front) × (10 ≡ next)). ends others (e ∙ ap (λ b. b ∷ others) (sym one.1)) (subst (IsFreeName listed) one.0 fits))
         (λ (on : (more : List ℕ) × (other ≡ front ++ next ∷ more)).

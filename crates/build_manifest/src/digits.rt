@@ -11,7 +11,8 @@ use mx_base::Digest32;
 // The value of a digit, where letters are in lower case.
 fn digit_value(byte: u8) -> Option<u8>
     ensures some { IfSome result (λ value. (value < 16) × (slice_index lower_digits value ≡ byte)) }
-    ensures none { IfNone result ((value : ℕ) → value < 16 → slice_index lower_digits value ≡ byte → ⊥) }
+    ensures none { IfNone result ((value : ℕ) → value < 16
+        → slice_index lower_digits value ≡ byte → ⊥) }
 {
     match byte {
         b'0'..=b'9' => Some(byte - b'0'),

@@ -89,7 +89,8 @@ fn read_digits(end: u8, first: u64, text: &[u8]) -> Result<(u64, &[u8]), Stuck>
     requires end { IsNoDigit end }
     requires first { first < 10 }
     ensures { MatchResult result
-        (λ read. (read.0 < limit) × (decimal first ++ text.now ≡ number_text end read.0 ++ read.1.now))
+        (λ read. (read.0 < limit)
+        × (decimal first ++ text.now ≡ number_text end read.0 ++ read.1.now))
         (λ stuck. Stops (number_text end) (IsBelow limit) (decimal first ++ text.now) stuck.left) }
 {
     let mut value = first;

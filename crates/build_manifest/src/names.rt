@@ -159,7 +159,8 @@ pub(crate) fn read_need<'a>(
     requires few { length needs.now.listed.items < limit }
     requires apart { FitInTurn NeedFits [] needs.now.listed.items }
     ensures { MatchResult result
-        (λ read. NeedFits needs.now.listed.items read.0 × (text.now ≡ need_text read.0 ++ read.1.now))
+        (λ read. NeedFits needs.now.listed.items read.0
+        × (text.now ≡ need_text read.0 ++ read.1.now))
         (StopsBy need_text (NeedFits needs.now.listed.items) text.now) }
 {
     let (digest, rest) = match read_lead(text) {
