@@ -14,3 +14,6 @@ returns c = (
   c.in-Ok.ensures.0,
   lead_read c.in-Ok.read.0 c.args.text.now c.in-Ok.read.1.now c.in_ok-rest.rest.now c.in-Ok.ensures.1 c.in_ok-rest.ensures,
 )
+
+pub returns-in-Err : goal.returns-in-Err
+returns-in-Err c = lead_digest_stops c.args.text.now c.in-Err.stuck.left c.in-Err.ensures
