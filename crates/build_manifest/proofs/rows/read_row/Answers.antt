@@ -23,8 +23,8 @@ returns-in_err-path c =
     let p = err_from_is_err_and c.from_residual-in_err-path.result c.from_residual-in_err-path.ensures.1 in
     rw (p.1, p.2)
     (stops_by ended (NextPath before) c.in_ok-length.rest.now row_text (NextRow before) c.args.text.now
-    (row_path_stops before c.in-Ok.read.0 c.args.text.now c.in-Ok.read.1.now c.in_ok-length.rest.now c.in_ok-length.length
-    c.in-Ok.ensures.0 c.in-Ok.ensures.1 c.in_ok-length.ensures.0 c.in_ok-length.ensures.1)
+    (λ left s. row_path_stops before c.in-Ok.read.0 c.args.text.now c.in-Ok.read.1.now c.in_ok-length.rest.now c.in_ok-length.length left
+    c.in-Ok.ensures.0 c.in-Ok.ensures.1 c.in_ok-length.ensures.0 c.in_ok-length.ensures.1 s)
     c.in_err-path.field-0.0 c.in_err-path.ensures)
 
 pub returns : goal.returns
