@@ -11,7 +11,7 @@ use Rattle.mx_base.specs.declared.row.FileRow.{FileRow}
 use Rattle.mx_base.specs.Digest.{IsDigest}
 use Rattle.mx_base.specs.Listing.{row_text}
 use Rattle.mx_base.specs.Order.{text_cmp}
-use Rattle.build_manifest.specs.Fields.{ComesAfter, IsEarlier, NextLine, NextRow, last_path}
+use Rattle.build_manifest.specs.Fields.{ComesAfter, IsEarlier, NextLine, NextRow, last_path, lead_text}
 use Rattle.build_manifest.specs.Lines.{lead_part}
 use Rattle.build_manifest.specs.Mark.{LeadFits, Line, LineFits, limit}
 use Rattle.build_manifest.specs.Text.{line_text}
@@ -153,6 +153,20 @@ lead_part_tells false (Some a) b x y fa fb e = absurd fa
 lead_part_tells true None b x y fa fb e = absurd fa
 lead_part_tells true (Some a) None x y fa fb e = absurd fb
 lead_part_tells true (Some a) (Some b) x y fa fb e = ap Some (lead_tells a b x y fa fb e)
+
+abbrev digest_or_none : Option (List ℕ) → List ℕ
+digest_or_none None = []
+digest_or_none (Some digest) = digest
+
+is_led : (lead : Option (List ℕ)) → LeadFits true lead → IsDigest (digest_or_none lead) × (lead_text (digest_or_none lead) ≡ lead_part lead)
+is_led None fits = absurd fits
+is_led (Some digest) fits = (fits, refl)
+
+pub lead_part_stops : (leads : Bool) (text : List ℕ) (left : ℕ) → leads ≡ true → Stops lead_text IsDigest text left
+    → Stops lead_part (LeadFits leads) text left
+lead_part_stops false text left is s = cc
+lead_part_stops true text left is s =
+    told_otherwise lead_text IsDigest lead_part (LeadFits true) (λ digest. Some digest) digest_or_none (λ digest fits. (fits, refl)) is_led text left s
 
 line_parts : (line : Line) → pair_text lead_part (λ _. row_text) line ≡ line_text line
 line_parts (None, row) = refl
