@@ -22,6 +22,7 @@ impl FileRow {
         ensures row { result ≡ record { path = path; length = length; digest = digest } }
         ensures sound { IsRow result }
     {
+        // These calls tell what holds of a path and of a digest.
         let _ = path.as_str();
         let _ = digest.as_slice();
         FileRow {
