@@ -2,7 +2,7 @@
 use Rattle.std.specs.Prelude.{ℕ, List, [], ◌∷◌}
 use Rattle.compile_model.specs.declared.job.Job.{Job}
 use Rattle.compile_model.specs.declared.outcome.Outcome.{Outcome}
-pub use Rattle.build_manifest.specs.declared.description.Description.{Description}
+use Rattle.build_manifest.specs.declared.description.Description.{Description}
 use Rattle.build_manifest.specs.Mark.{MarkView, Need}
 
 -- for each need in order the digest of its outputs, and its app

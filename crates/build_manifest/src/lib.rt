@@ -13,6 +13,7 @@ mod making;
 mod mark;
 mod writing;
 
+pub use description::Description;
 pub use laws::{no_mark_begins_another, one_mark, upgrade_of_an_outcome};
 pub use making::{mark_of, upgrade};
 pub use mark::{Digests, Mark, MarkFormat, NeedDigests};

@@ -5,7 +5,8 @@ use Rattle.std.proofs.lemmas.List.{length-map}
 use Rattle.mx_base.specs.declared.row.FileRow.{FileRow}
 use Rattle.compile_model.specs.declared.job.Job.{Job}
 use Rattle.compile_model.specs.declared.outcome.Outcome.{Outcome}
-use Rattle.build_manifest.specs.Description.{Description, description_of, need_digests, said_by}
+use Rattle.build_manifest.specs.declared.description.Description.{Description}
+use Rattle.build_manifest.specs.Description.{description_of, need_digests, said_by}
 use Rattle.build_manifest.specs.Mark.{MarkView, Need}
 use Rattle.staleness.specs.Matching.{AllNeedsMatch, Matches, MatchesJob, MatchesNeed}
 
