@@ -6,7 +6,6 @@ ghost use Rattle.build_manifest.specs.Mark.{MarkView};
 ghost use Rattle.staleness.specs.Matching.{AllNeedsMatch, Matches, MatchesJob};
 
 /// A mark matches an input exactly where it matches the job, and each need's outcome.
-#[tactic(auto, using(crate::proofs::MatchingLemmas::by_parts))]
 pub fn matches_by_parts()
     ensures { (mark : MarkView) (job : Job) (outcomes : List Outcome)
         → length outcomes ≡ length job.need_apps
