@@ -1,16 +1,10 @@
 -- The rows of a root, the versions of their winners, and what is said of their divergences.
-use Rattle.std.proofs.Common.{◌≡◌, ℕ, ◌<◌, List, [], ◌∷◌, length, map, Option, Some, Result, Ok, Err, refl, sym, ◌∙◌, ap, ap₂, subst, arith}
-use Rattle.std.specs.Prelude.{option_map}
+use Rattle.std.proofs.Common.{◌≡◌, ℕ, List, Option, Some, Result, Ok, Err, refl, sym, ◌∙◌, ap, ap₂, subst}
 use Rattle.std.proofs.lemmas.List.{map-id}
-use Rattle.std.proofs.lemmas.List.Elements.{All-weaker}
-use Rattle.semver.specs.Identifiers.{parts_of}
-use Rattle.semver.specs.Parse.{version_parts}
-use Rattle.semver.specs.declared.Version.{Version}
+use Rattle.semver.specs.Parse.{Parts, version_parts}
 use Rattle.mx_base.specs.declared.file.File.{File}
 use Rattle.converger.specs.declared.divergence.Divergence.{Divergence}
-use Rattle.converger.specs.Converged.{NoneDiverges}
-use Rattle.converger.specs.Divergence.{AreDivergences, Diverges}
-use Rattle.converger.proofs.OneAnswer.{by_parts, one_divergence_list}
+use Rattle.converger.proofs.OneAnswer.{one_divergence_list}
 use Rattle.dep_options.specs.declared.decl.Decl.{Decl}
 use Rattle.dep_options.specs.declared.decl.DepSource.{DepSource}
 use Rattle.dep_options.specs.declared.decl.DepSource.TheVariants.{Path}
@@ -31,15 +25,42 @@ use Rattle.build_plan.specs.Stages.{ListsRows, LivesTogether, LiveWith}
 use Rattle.build_plan.specs.Stages.ListsRows.{meets, passes, lists}
 use Rattle.build_plan.specs.Stages.LiveWith.{diverges, lives}
 use Rattle.build_plan.proofs.Steps.{HasOne, same_ok}
+use Rattle.build_plan.proofs.VersionsLemmas.{some_diverges}
 
 one_path : (source : DepSource) (dir other : List ℕ) → source ≡ Path dir → source ≡ Path other → dir ≡ other
 one_path source dir other is also = let same : Path dir ≡ Path other = sym is ∙ also in cc
 
 -- what is found in the folder of one declaration is one thing
-pub one_found : OneProject → (files : List File) (source : DepSource) (dir other : List ℕ) (found more : Option Project) → source ≡ Path dir → source ≡ Path other → IsLoaded files dir (Ok found) → IsLoaded files other (Ok more) → (dir ≡ other) × (found ≡ more)
+pub one_found : OneProject → (files : List File) (source : DepSource) (dir other : List ℕ) (found more : Option Project) → source ≡ Path dir
+    → source ≡ Path other → IsLoaded files dir (Ok found) → IsLoaded files other (Ok more) → (dir ≡ other) × (found ≡ more)
 one_found one files source dir other found more is also says tells =
     let same = one_path source dir other is also in
     (same, same_ok found more (one files dir (Ok found) (Ok more) says (subst (λ (d : List ℕ). IsLoaded files d (Ok more)) (sym same) tells)))
+
+-- what is said of divergences is one thing
+one_line : (rows : List Row) (divergence : Divergence) (line other : DivergedLine) → IsLine rows divergence line → IsLine rows divergence other → line ≡ other
+one_line rows divergence line other is also =
+    is.says
+    ∙ ap₂ (line_of rows divergence.rule)
+    (one_at rows divergence.winner divergence.winner is.winner also.winner refl is.wins also.wins)
+    (one_at rows divergence.other divergence.other is.other also.other refl is.stands also.stands)
+    ∙ sym also.says
+
+same_lines : (rows : List Row) (divergences : List Divergence) (lines others : List DivergedLine) → AreLines rows divergences lines
+    → AreLines rows divergences others → lines ≡ others
+same_lines rows divergences lines others are also =
+    sym (map-id lines) ∙ same_zip (IsLine rows) (λ (l : DivergedLine). l) (one_line rows) divergences lines others are also ∙ map-id others
+
+-- with the same versions rows live together, or there is one list of lines
+live_same : (listed : Listed) (versions : List (Option Parts)) {a b : Result Listed PlanError} → LiveWith listed versions a → LiveWith listed versions b → a ≡ b
+live_same listed versions (diverges list {lines = lines} are some said) (diverges other_list {lines = other_lines} also more tells) =
+    let rows = listed.rows in
+    let same : list ≡ other_list = one_divergence_list rows listed.winners versions list other_list are also in
+    let also_said = subst (λ (ds : List Divergence). AreLines rows ds other_lines) (sym same) tells in
+    ap (λ (ls : List DivergedLine). Err (refused.Diverged ls)) (same_lines rows list lines other_lines said also_said)
+live_same listed versions (diverges list are some said) (lives none) = absurd (some_diverges listed.rows listed.winners versions list none are some)
+live_same listed versions (lives none) (diverges list are some said) = absurd (some_diverges listed.rows listed.winners versions list none are some)
+live_same listed versions (lives none) (lives also) = refl
 
 module _ (one : OneProject) (files : List File) where
   children_once : AnswersOnce (AreChildren files)
@@ -62,49 +83,25 @@ module _ (one : OneProject) (files : List File) where
   rows_one root a b p q = rows_same p q
 
   module _ (rows : List Row) where
-    -- the parts of a winner's version
-    same_parts : (place : ℕ) (version other : Option Version) → HasVersion files rows place version → HasVersion files rows place other → option_map parts_of version ≡ option_map parts_of other
-    same_parts place version other has also =
+    -- a winner has one version
+    one_version : (place : ℕ) (version other : Option Parts) → HasVersion files rows place version → HasVersion files rows place other → version ≡ other
+    one_version place version other has also =
         let row : has.row ≡ also.row = one_at rows place place has.row also.row refl has.stands also.stands in
-        let found = one_found one files has.row.decl.source has.dir also.dir has.found also.found has.source (ap (λ (r : Row). r.decl.source) row ∙ also.source) has.loaded also.loaded in
-        let parts : parts_of has.number ≡ parts_of also.number = same_ok (parts_of has.number) (parts_of also.number) (sym has.parts ∙ ap (λ (p : Option Project). version_parts (version_by p)) found.1 ∙ also.parts) in
-        ap (option_map parts_of) has.known ∙ ap (λ (p : ℕ × ℕ × ℕ × List ℕ × List ℕ). Some p) parts ∙ sym (ap (option_map parts_of) also.known)
+        let source = ap (λ (r : Row). r.decl.source) row ∙ also.source in
+        let found = one_found one files has.row.decl.source has.dir also.dir has.found also.found has.source source has.loaded also.loaded in
+        let parts : has.number ≡ also.number = same_ok has.number also.number
+        (sym has.parts ∙ ap (λ (p : Option Project). version_parts (version_by p)) found.1 ∙ also.parts) in
+        has.known ∙ ap (λ (p : Parts). Some p) parts ∙ sym also.known
 
-    module _ (winners : List ℕ) where
-      all_parts : (versions others : List (Option Version)) → AreVersions files rows winners versions → AreVersions files rows winners others → map (option_map parts_of) versions ≡ map (option_map parts_of) others
-      all_parts versions others are also = same_zip (HasVersion files rows) (option_map parts_of) same_parts winners versions others are also
+    same_versions : (winners : List ℕ) (versions others : List (Option Parts)) → AreVersions files rows winners versions
+        → AreVersions files rows winners others → versions ≡ others
+    same_versions winners versions others are also =
+        sym (map-id versions) ∙ same_zip (HasVersion files rows) (λ (v : Option Parts). v) one_version winners versions others are also ∙ map-id others
 
-      -- divergences, whichever of two lists of versions they are told by
-      also_divergences : (versions others : List (Option Version)) (list : List Divergence) → map (option_map parts_of) versions ≡ map (option_map parts_of) others → AreDivergences rows winners others list → AreDivergences rows winners versions list
-      also_divergences versions others list same are = record {
-        in_order = are.in_order;
-        only = All-weaker (λ (d : Divergence). Diverges rows winners others d.rule d.winner d.other) (λ (d : Divergence). Diverges rows winners versions d.rule d.winner d.other) (λ d. by_parts rows winners others versions (sym same) d.rule d.winner d.other) list are.only;
-        all = λ rule place other diverging. are.all rule place other (by_parts rows winners versions others same rule place other diverging);
-      }
-
-      one_line : (divergence : Divergence) (line other : DivergedLine) → IsLine rows divergence line → IsLine rows divergence other → line ≡ other
-      one_line divergence line other is also =
-          is.says
-          ∙ ap₂ (line_of rows divergence.rule) (one_at rows divergence.winner divergence.winner is.winner also.winner refl is.wins also.wins) (one_at rows divergence.other divergence.other is.other also.other refl is.stands also.stands)
-          ∙ sym also.says
-
-      same_lines : (divergences : List Divergence) (lines others : List DivergedLine) → AreLines rows divergences lines → AreLines rows divergences others → lines ≡ others
-      same_lines divergences lines others are also = sym (map-id lines) ∙ same_zip (IsLine rows) (λ (l : DivergedLine). l) one_line divergences lines others are also ∙ map-id others
-
-      clash : (versions others : List (Option Version)) (divergences : List Divergence) → AreVersions files rows winners versions → AreVersions files rows winners others → AreDivergences rows winners versions divergences → 0 < length divergences → NoneDiverges rows winners others → ⊥
-      clash versions others [] known also are some none = omega (arith, some)
-      clash versions others (d ∷ ds) known also are some none =
-          none d.rule d.winner d.other (by_parts rows winners versions others (all_parts versions others known also) d.rule d.winner d.other (are.only 0 d (omega arith)))
-
-  together_same : (listed : Listed) {a b : Result Listed PlanError} → (versions others : List (Option Version)) → AreVersions files listed.rows listed.winners versions → AreVersions files listed.rows listed.winners others → LiveWith listed versions a → LiveWith listed others b → a ≡ b
-  together_same listed versions others known also_known (diverges list {lines = lines} are some said) (diverges other_list {lines = other_lines} also more tells) =
-      let rows = listed.rows in
-      let winners = listed.winners in
-      let same : list ≡ other_list = one_divergence_list rows winners versions list other_list are (also_divergences rows winners versions others other_list (all_parts rows winners versions others known also_known) also) in
-      ap (λ (ls : List DivergedLine). Err (refused.Diverged ls)) (same_lines rows winners list lines other_lines said (subst (λ (ds : List Divergence). AreLines rows ds other_lines) (sym same) tells))
-  together_same listed versions others known also_known (diverges list are some said) (lives none) = absurd (clash listed.rows listed.winners versions others list known also_known are some none)
-  together_same listed versions others known also_known (lives none) (diverges list are some said) = absurd (clash listed.rows listed.winners others versions list also_known known are some none)
-  together_same listed versions others known also_known (lives none) (lives also) = refl
+  together_same : (listed : Listed) {a b : Result Listed PlanError} (p : LivesTogether files listed a) (q : LivesTogether files listed b) → a ≡ b
+  together_same listed {b = b} p q =
+      let same = same_versions listed.rows listed.winners p.versions q.versions p.known q.known in
+      live_same listed p.versions p.together (subst (λ (vs : List (Option Parts)). LiveWith listed vs b) (sym same) q.together)
 
   pub together_one : (listed : Listed) → HasOne (LivesTogether files listed)
-  together_one listed a b p q = together_same listed p.versions q.versions p.known q.known p.together q.together
+  together_one listed a b p q = together_same listed p q

@@ -1,6 +1,6 @@
 -- The plan of a project, from one stage after another.
-use Rattle.std.proofs.Common.{◌≡◌, ℕ, List, sym, subst, All, IfSome, Option, Some, None, Result, Ok, Err}
-use Rattle.semver.specs.declared.Version.{Version}
+use Rattle.std.proofs.Common.{ℕ, List, sym, subst, All, IfSome, Option, Some, None, Result, Ok, Err}
+use Rattle.semver.specs.Parse.{Parts}
 use Rattle.mx_base.specs.declared.file.File.{File}
 use Rattle.compile_model.specs.declared.job.Job.{Job}
 use Rattle.dep_rows.specs.declared.row.Row.{Row}
@@ -12,7 +12,6 @@ use Rattle.build_plan.specs.declared.error.PlanError.TheVariants as refused
 use Rattle.build_plan.specs.declared.found.Found.{Found}
 use Rattle.build_plan.specs.Found.{IsFound}
 use Rattle.build_plan.specs.Dependencies.{AreVersions}
-use Rattle.build_plan.specs.Jobs.{Schedule}
 use Rattle.build_plan.specs.Plan.{Converge, IsPlan, IsRoot}
 use Rattle.build_plan.specs.Plan.IsPlan.{settings as by_settings, no_project as by_no_project, project as by_project, dependency as by_dependency, too_many as by_too_many, diverged as by_diverged, cycle as by_cycle, too_large as by_too_large, planned as by_planned}
 use Rattle.build_plan.specs.Stages.{SetsUp, HasRoot, ListsRows, LivesTogether, LiveWith, MakesJobs, Schedules, Then}
@@ -35,18 +34,18 @@ module _ (files : List File) (env : List ℕ) where
     root_refused error set why = absurd why
 
     module _ (root : Project) (is : IsRoot files settings root) where
-      rows_refused : {error : PlanError} → ListsRows files root.decls (Err error) → IsPlan files env (Err error)
+      pub rows_refused : {error : PlanError} → ListsRows files root.decls (Err error) → IsPlan files env (Err error)
       rows_refused (meets met) = by_dependency settings root is met
       rows_refused (passes many) = by_too_many settings root is many
 
-      diverged : {listed : Listed} {error : PlanError} → ListsRows files root.decls (Ok listed) → (versions : List (Option Version)) → AreVersions files listed.rows listed.winners versions → LiveWith listed versions (Err error) → IsPlan files env (Err error)
+      pub diverged : {listed : Listed} {error : PlanError} → ListsRows files root.decls (Ok listed) → (versions : List (Option Parts)) → AreVersions files listed.rows listed.winners versions → LiveWith listed versions (Err error) → IsPlan files env (Err error)
       diverged (lists listed are few) versions known (diverges divergences apart some told) =
           by_diverged settings root listed versions divergences is (record { rows = are; few = few; known = known }) apart some told
 
-      live_rows : {listed : Listed} {live : Listed} → ListsRows files root.decls (Ok listed) → (versions : List (Option Version)) → AreVersions files listed.rows listed.winners versions → LiveWith listed versions (Ok live) → Converge files root.decls listed.rows
+      pub live_rows : {listed : Listed} {live : Listed} → ListsRows files root.decls (Ok listed) → (versions : List (Option Parts)) → AreVersions files listed.rows listed.winners versions → LiveWith listed versions (Ok live) → Converge files root.decls listed.rows
       live_rows (lists listed are few) versions known (lives none) = record { winners = listed.winners; versions = versions; listed = record { rows = are; few = few; known = known }; together = none }
 
-      jobs_made : (rows : List Row) {answer : Result (List Job) PlanError} → Converge files root.decls rows → Then (Schedules settings rows env) (MakesJobs files) answer → IsPlan files env answer
+      pub jobs_made : (rows : List Row) {answer : Result (List Job) PlanError} → Converge files root.decls rows → Then (Schedules settings rows env) (MakesJobs files) answer → IsPlan files env answer
       jobs_made rows live (stops (circles places nodes reached around)) = by_cycle settings root rows places nodes is live reached around
       jobs_made rows live (goes_on _ (orders places order reached is_order) (passes_size jobs job first fit large)) =
           by_too_large root (record { settings = settings; rows = rows; places = places; order = order }) jobs job (record { is_root = is; converge = live; reached = reached; ordered = is_order }) first fit large

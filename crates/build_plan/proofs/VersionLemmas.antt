@@ -1,6 +1,6 @@
 -- The versions of what was found.
 use Rattle.std.proofs.Common.{◌≡◌, ℕ, List, [], ◌∷◌, Option, Some, None, Ok, codes, refl, sym, ◌∙◌, subst, Bool, true, false, ◌&&◌, is_ok, IsTrue, length, take, get_or, suc, ap, ◌≤◌, ◌<◌, ◌+◌, ◌++◌}
-use Rattle.std.specs.Prelude.{IsSome}
+use Rattle.std.specs.Prelude.{IsSome, option_map}
 use Rattle.std.specs.List.{All, AllZip}
 use Rattle.std.specs.Str.{is_utf8, chars, IsUtf8}
 use lib.Utf8.{encode}
@@ -14,6 +14,7 @@ use Rattle.semver.specs.Identifiers.{parts_of}
 use Rattle.semver.specs.Parse.{version_parts}
 use Rattle.semver.specs.declared.Version.{Version}
 use Rattle.mx_base.specs.declared.file.File.{File}
+use Rattle.converger.specs.Divergence.{parts_in}
 use Rattle.dep_rows.specs.declared.row.Row.{Row}
 use Rattle.build_plan.specs.declared.found.Found.{Found}
 use Rattle.build_plan.specs.Dependencies.{AreVersions, version_by}
@@ -32,7 +33,7 @@ all_known (one ∷ found) [] are = absurd are
 all_known (one ∷ found) (version ∷ versions) are =
     All-cons (λ v. IsSome v) version versions (subst (λ (v : Option Version). IsSome v) (sym are.0.known) refl) (all_known found versions are.1)
 
-pub are_versions : (files : List File) (rows : List Row) (winners : List ℕ) (found : List Found) (versions : List (Option Version)) → AllZip IsVersionOf found versions → All (IsFound files) found → AllZip (IsFoundAt rows) winners found → AreVersions files rows winners versions
+pub are_versions : (files : List File) (rows : List Row) (winners : List ℕ) (found : List Found) (versions : List (Option Version)) → AllZip IsVersionOf found versions → All (IsFound files) found → AllZip (IsFoundAt rows) winners found → AreVersions files rows winners (parts_in versions)
 are_versions files rows [] [] [] are told at = tt
 are_versions files rows [] [] (version ∷ versions) are told at = absurd are
 are_versions files rows [] (one ∷ found) versions are told at = absurd at
@@ -44,12 +45,12 @@ are_versions files rows (winner ∷ winners) (one ∷ found) (version ∷ versio
         row = at.0.row;
         dir = one.dir;
         found = one.project;
-        number = are.0.number;
+        number = parts_of are.0.number;
         stands = at.0.stands;
         source = at.0.source;
         loaded = here.loaded;
         parts = are.0.parts;
-        known = are.0.known;
+        known = ap (option_map parts_of) are.0.known;
       },
       are_versions files rows winners found versions are.1 (All-tail (IsFound files) one found told) at.1,
     )

@@ -2,6 +2,7 @@
 use Rattle.std.proofs.Common.{◌≡◌, ℕ, ◌<◌, Bool, true, false, eqb, List, [], ◌∷◌, length, get_or, All, sym, ◌∙◌, ap, subst, arith, Option, Some, None, Ok, IsSome}
 use Rattle.std.proofs.lemmas.Option.{slice_get_within, get_or_from_slice_get}
 use Rattle.std.proofs.lemmas.Bool.{eqb-true, eqb-false}
+use Rattle.semver.specs.Parse.{Parts}
 use Rattle.semver.specs.declared.Version.{Version}
 use Rattle.dep_rows.specs.declared.row.Row.{Row}
 use Rattle.dep_rows.specs.Listed.{Listed}
@@ -14,7 +15,7 @@ use Rattle.build_plan.specs.Stages.{LiveWith}
 use Rattle.build_plan.specs.Stages.LiveWith.{lives}
 
 -- where no divergence is listed there is none
-pub none_diverges : (rows : List Row) (winners : List ℕ) (versions : List (Option Version)) (list : List Divergence) → length list ≡ 0 → AreDivergences rows winners versions list → NoneDiverges rows winners versions
+pub none_diverges : (rows : List Row) (winners : List ℕ) (versions : List (Option Parts)) (list : List Divergence) → length list ≡ 0 → AreDivergences rows winners versions list → NoneDiverges rows winners versions
 none_diverges rows winners versions list none are rule place other diverging =
     let has = are.all rule place other diverging in
     omega (arith, none, has.1)
@@ -23,13 +24,13 @@ under_within : (rows : List Row) (place other : ℕ) (winner row : Row) → IsUn
 under_within rows place other winner row under =
     (slice_get_within rows place winner under.wins.stands, slice_get_within rows other row under.stands)
 
-diverges_within : (rows : List Row) (winners : List ℕ) (versions : List (Option Version)) (rule : Rule) (place other : ℕ) → Diverges rows winners versions rule place other → (place < length rows) × (other < length rows)
+diverges_within : (rows : List Row) (winners : List ℕ) (versions : List (Option Parts)) (rule : Rule) (place other : ℕ) → Diverges rows winners versions rule place other → (place < length rows) × (other < length rows)
 diverges_within rows winners versions _ place other (source winner row under _ _ _) = under_within rows place other winner row under
 diverges_within rows winners versions _ place other (compiled winner row under _ _ _) = under_within rows place other winner row under
 diverges_within rows winners versions _ place other (version winner row _ _ under _ _ _ _) = under_within rows place other winner row under
 diverges_within rows winners versions _ place other (environment _ winner row _ _ under _ _ _ _ _ _) = under_within rows place other winner row under
 
-pub within_rows : (rows copies : List Row) (winners : List ℕ) (versions : List (Option Version)) (list : List Divergence) → copies ≡ rows → AreDivergences rows winners versions list → All (λ d. (d.winner < length copies) × (d.other < length copies)) list
+pub within_rows : (rows copies : List Row) (winners : List ℕ) (versions : List (Option Parts)) (list : List Divergence) → copies ≡ rows → AreDivergences rows winners versions list → All (λ d. (d.winner < length copies) × (d.other < length copies)) list
 within_rows rows copies winners versions list same are =
     subst (λ (rs : List Row). All (λ d. (d.winner < length rs) × (d.other < length rs)) list) (sym same)
     (λ k d within. let it = get_or list k d in diverges_within rows winners versions it.rule it.winner it.other (are.only k d within))
@@ -56,9 +57,9 @@ some_left list shown empty same is some =
     omega (arith, differ, long)
 
 -- so nothing stands against the rows but want of memory
-pub some_diverges : (rows : List Row) (winners : List ℕ) (versions : List (Option Version)) (list : List Divergence) → NoneDiverges rows winners versions → AreDivergences rows winners versions list → 0 < length list → ⊥
+pub some_diverges : (rows : List Row) (winners : List ℕ) (versions : List (Option Parts)) (list : List Divergence) → NoneDiverges rows winners versions → AreDivergences rows winners versions list → 0 < length list → ⊥
 some_diverges rows winners versions [] none are some = omega (arith, some)
 some_diverges rows winners versions (d ∷ list) none are some = none d.rule d.winner d.other (are.only 0 d (omega arith))
 
-pub live_none : (listed : Listed) (versions : List (Option Version)) {live : Listed} → LiveWith listed versions (Ok live) → NoneDiverges listed.rows listed.winners versions
+pub live_none : (listed : Listed) (versions : List (Option Parts)) {live : Listed} → LiveWith listed versions (Ok live) → NoneDiverges listed.rows listed.winners versions
 live_none listed versions (lives none) = none

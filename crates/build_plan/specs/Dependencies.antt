@@ -1,9 +1,7 @@
 -- What the files say of a dependency: its version, and what it declares in turn.
 use Rattle.std.specs.Prelude.{◌≡◌, ℕ, Bool, true, false, not, List, [], ◌∷◌, filter, Option, Some, None, Result, Ok, Err, IsTrue, IsFalse, slice_get, codes}
 use Rattle.std.specs.List.{AllZip}
-use Rattle.semver.specs.Identifiers.{parts_of}
-use Rattle.semver.specs.Parse.{version_parts}
-use Rattle.semver.specs.declared.Version.{Version}
+use Rattle.semver.specs.Parse.{Parts, version_parts}
 use Rattle.mx_base.specs.declared.file.File.{File}
 use Rattle.tree_store.specs.Files.{paths_below}
 use Rattle.dep_options.specs.declared.decl.Decl.{Decl}
@@ -41,18 +39,18 @@ pub data AreChildren (files : List File) (app : List ℕ) (winner : Decl) : Resu
   refused : (dir : List ℕ) {fault : ProjectError} → winner.source ≡ Path dir → IsTrue (has_files files dir) → IsLoaded files dir (Err fault) → AreChildren files app winner (Err (Refused (manifest_at dir) fault))
   declared : (dir : List ℕ) {found : Option Project} → winner.source ≡ Path dir → IsTrue (has_files files dir) → IsLoaded files dir (Ok found) → AreChildren files app winner (Ok (filter (λ decl. admits decl.only winner.env) (declared_by found)))
 
--- the version of a winner, by the manifest in its folder
-pub record HasVersion (files : List File) (rows : List Row) (place : ℕ) (version : Option Version) : Type 0 where
+-- the numbers and texts of a winner's version, by the manifest in its folder
+pub record HasVersion (files : List File) (rows : List Row) (place : ℕ) (version : Option Parts) : Type 0 where
   pub row : Row
   pub dir : List ℕ
   pub found : Option Project
-  pub number : Version
+  pub number : Parts
   pub stands : slice_get rows place ≡ Some row
   pub source : row.decl.source ≡ Path dir
   pub loaded : IsLoaded files dir (Ok found)
-  pub parts : version_parts (version_by found) ≡ Ok (parts_of number)
+  pub parts : version_parts (version_by found) ≡ Ok number
   pub known : version ≡ Some number
 
 -- the versions of the winners, in their order
-abbrev pub AreVersions : List File → List Row → List ℕ → List (Option Version) → Type 0
+abbrev pub AreVersions : List File → List Row → List ℕ → List (Option Parts) → Type 0
 AreVersions files rows winners versions = AllZip (HasVersion files rows) winners versions

@@ -1,6 +1,6 @@
 -- The plan of a project in an environment, or the first refusal of its files.
 use Rattle.std.specs.Prelude.{◌≡◌, ℕ, ◌<◌, ◌≤◌, List, [], ◌∷◌, ◌++◌, length, Option, Some, None, Result, Ok, Err, IsTrue}
-use Rattle.semver.specs.declared.Version.{Version}
+use Rattle.semver.specs.Parse.{Parts}
 use Rattle.mx_base.specs.declared.file.File.{File}
 use Rattle.compile_model.specs.declared.job.Job.{Job}
 use Rattle.converger.specs.declared.divergence.Divergence.{Divergence}
@@ -32,7 +32,7 @@ pub record IsRoot (files : List File) (settings : Settings) (root : Project) : T
   pub loaded : IsLoaded files [] (Ok (Some root))
 
 -- the rows of the root, within the limit, with the versions of their winners
-pub record AreListed (files : List File) (root : List Decl) (listed : Listed) (versions : List (Option Version)) : Type 0 where
+pub record AreListed (files : List File) (root : List Decl) (listed : Listed) (versions : List (Option Parts)) : Type 0 where
   pub rows : AreRows (AreChildren files) root listed.rows listed.winners
   pub few : length listed.rows ≤ most_rows
   pub known : AreVersions files listed.rows listed.winners versions
@@ -40,7 +40,7 @@ pub record AreListed (files : List File) (root : List Decl) (listed : Listed) (v
 -- rows that live together
 pub record Converge (files : List File) (root : List Decl) (rows : List Row) : Type 0 where
   pub winners : List ℕ
-  pub versions : List (Option Version)
+  pub versions : List (Option Parts)
   pub listed : AreListed files root (record { rows = rows; winners = winners }) versions
   pub together : NoneDiverges rows winners versions
 
@@ -59,7 +59,7 @@ pub data IsPlan (files : List File) (env : List ℕ) : Result (List Job) PlanErr
   project : (settings : Settings) {fault : ProjectError} → AreSettings files (Ok settings) → IsLoaded files [] (Err fault) → IsPlan files env (Err (refused.Project (manifest_at []) fault))
   dependency : (settings : Settings) (root : Project) {error : PlanError} → IsRoot files settings root → Meets (AreChildren files) root.decls error → IsPlan files env (Err error)
   too_many : (settings : Settings) (root : Project) → IsRoot files settings root → PassesLimit (AreChildren files) root.decls → IsPlan files env (Err refused.TooManyRows)
-  diverged : (settings : Settings) (root : Project) (listed : Listed) (versions : List (Option Version)) (divergences : List Divergence) {lines : List DivergedLine} → IsRoot files settings root → AreListed files root.decls listed versions → AreDivergences listed.rows listed.winners versions divergences → 0 < length divergences → AreLines listed.rows divergences lines → IsPlan files env (Err (refused.Diverged lines))
+  diverged : (settings : Settings) (root : Project) (listed : Listed) (versions : List (Option Parts)) (divergences : List Divergence) {lines : List DivergedLine} → IsRoot files settings root → AreListed files root.decls listed versions → AreDivergences listed.rows listed.winners versions divergences → 0 < length divergences → AreLines listed.rows divergences lines → IsPlan files env (Err (refused.Diverged lines))
   cycle : (settings : Settings) (root : Project) (rows : List Row) (places nodes : List ℕ) → IsRoot files settings root → Converge files root.decls rows → AreReached rows env places → IsCycleOf (graph_of rows places) nodes → IsPlan files env (Err (refused.Cycle (apps_of rows places nodes)))
   too_large : (root : Project) (schedule : Schedule) (jobs : List Job) (job : Job) → IsSchedule files env root schedule → AreFirstJobs files schedule (jobs ++ job ∷ []) → AllFit jobs → IsTrue (is_too_large jobs job) → IsPlan files env (Err (refused.TooLarge job.app))
   planned : (root : Project) (schedule : Schedule) {jobs : List Job} → IsSchedule files env root schedule → AreFirstJobs files schedule jobs → length jobs ≡ length schedule.order → AllFit jobs → IsPlan files env (Ok jobs)

@@ -1,6 +1,6 @@
 -- The stages of a plan: what each one finds, or why it refuses the files.
 use Rattle.std.specs.Prelude.{◌≡◌, ℕ, ◌<◌, ◌≤◌, List, [], ◌∷◌, ◌++◌, length, Option, Some, None, Result, Ok, Err, IsTrue}
-use Rattle.semver.specs.declared.Version.{Version}
+use Rattle.semver.specs.Parse.{Parts}
 use Rattle.mx_base.specs.declared.file.File.{File}
 use Rattle.compile_model.specs.declared.job.Job.{Job}
 use Rattle.converger.specs.declared.divergence.Divergence.{Divergence}
@@ -44,13 +44,13 @@ pub data ListsRows (files : List File) (root : List Decl) : Result Listed PlanEr
   lists : (listed : Listed) → AreRows (AreChildren files) root listed.rows listed.winners → length listed.rows ≤ most_rows → ListsRows files root (Ok listed)
 
 -- rows with these versions live together, or there is a line of each divergence
-pub data LiveWith (listed : Listed) (versions : List (Option Version)) : Result Listed PlanError → Type 0 where
+pub data LiveWith (listed : Listed) (versions : List (Option Parts)) : Result Listed PlanError → Type 0 where
   diverges : (divergences : List Divergence) {lines : List DivergedLine} → AreDivergences listed.rows listed.winners versions divergences → 0 < length divergences → AreLines listed.rows divergences lines → LiveWith listed versions (Err (refused.Diverged lines))
   lives : NoneDiverges listed.rows listed.winners versions → LiveWith listed versions (Ok listed)
 
 -- the same with the versions that the files say
 pub record LivesTogether (files : List File) (listed : Listed) (answer : Result Listed PlanError) : Type 0 where
-  pub versions : List (Option Version)
+  pub versions : List (Option Parts)
   pub known : AreVersions files listed.rows listed.winners versions
   pub together : LiveWith listed versions answer
 

@@ -5,6 +5,7 @@ ghost use Rattle.mx_base.specs.Blame.{AnswersBy, fails};
 ghost use Rattle.mx_base.specs.declared.file.File.{File};
 ghost use Rattle.compile_model.specs.Planned.{ArePlanned};
 ghost use Rattle.tree_store.specs.Known.{Told, OnlyReads};
+ghost use Rattle.converger.specs.Divergence.{parts_in};
 ghost use Rattle.build_plan.specs.Blame.{blame_of};
 ghost use Rattle.build_plan.specs.Found.{AreFoundFor, IsFound};
 ghost use Rattle.build_plan.specs.Jobs.{AllFit};
@@ -93,7 +94,8 @@ fn converged(alloc: Global, rows: Rows, found: &[Found]) -> Result<Converged, Pl
 /// Refuses rows that can't live together.
 fn judge(alloc: Global, rows: &Rows, versions: &[Option<Version>]) -> Result<(), PlanError>
     requires { length versions.now ≡ length rows.now.winners }
-    ensures answer { AnswersBy (λ _. rows.now) blame_of result (LiveWith rows.now versions.now) }
+    ensures answer { AnswersBy (λ _. rows.now) blame_of result (LiveWith rows.now
+        (parts_in versions.now)) }
     ensures alone { IsFalse (fails blame_of result) }
 {
     let list = divergences(alloc, rows, versions)?;

@@ -5,6 +5,7 @@ ghost use Rattle.semver.specs.Identifiers.{parts_of};
 ghost use Rattle.semver.specs.Parse.{version_parts};
 ghost use Rattle.mx_base.specs.declared.file.File.{File};
 ghost use Rattle.project_file.specs.Version.{is_version};
+ghost use Rattle.converger.specs.Divergence.{parts_in};
 ghost use Rattle.dep_rows.specs.declared.row.Row.{Row};
 ghost use Rattle.build_plan.specs.Dependencies.{AreVersions};
 ghost use Rattle.build_plan.specs.Found.{IsFound, IsFoundAt};
@@ -20,7 +21,8 @@ pub(crate) fn versions(alloc: Global, found: &[Found]) -> Result<Versions, Alloc
     ensures known { IfOk result (λ versions. All (λ version. IsSome version) versions) }
     ensures told { IfOk result (λ versions. (files : List File) (rows : List Row)
         (winners : List ℕ) → All (IsFound files) found.now
-        → AllZip (IsFoundAt rows) winners found.now → AreVersions files rows winners versions) }
+        → AllZip (IsFoundAt rows) winners found.now
+        → AreVersions files rows winners (parts_in versions)) }
 {
     let mut versions = Versions::new(alloc);
     for folder in found {

@@ -1,19 +1,53 @@
 -- A row beside the winner of its app.
 use Rattle.std.proofs.Common.{◌≡◌, ◌≢◌, ◌↔◌, ℕ, Bool, true, false, eqb, eqb-true, eq-eqb, List, sym, ◌∙◌, ap, subst, refl, IsTrue, Option, Some, None}
+use Rattle.std.specs.Prelude.{option_map}
 use Rattle.std.specs.List.{slice_get}
 use Rattle.std.proofs.lemmas.Bool.{both_ways}
-use Rattle.std.proofs.lemmas.Option.{none-some}
+use Rattle.std.proofs.lemmas.Option.{none-some, slice_get-map}
+use Rattle.semver.specs.Identifiers.{parts_of}
+use Rattle.semver.specs.Parse.{Parts}
 use Rattle.semver.specs.declared.Version.{Version}
+use Rattle.version_req.specs.Meaning.{sat}
 use Rattle.dep_rows.specs.declared.row.Row.{Row}
 use Rattle.dep_rows.proofs.WinnerOf.{is_winner, winner_is}
 use Rattle.dep_rows.specs.Listed.{Listed}
 use Rattle.dep_rows.specs.Rows.{winner_of}
 use Rattle.converger.specs.declared.divergence.Rule.{Rule}
 use Rattle.converger.specs.declared.divergence.Rule.TheVariants.{V1, V2, V3, V4}
-use Rattle.converger.specs.Divergence.{Diverges, source, compiled, version, environment, HasVersion, IsUnder}
+use Rattle.converger.specs.Divergence.{Diverges, source, compiled, version, environment, HasVersion, IsUnder, is_path, parts_in}
 use Rattle.converger.specs.Cases.{IsScene, IsUnderAt, Meets}
 use Rattle.converger.specs.Strays.{is_marked, IsStraySomewhere}
 use Rattle.converger.proofs.WebLemmas.{one_value}
+
+-- a version whose parts are known
+version_behind : (found : Option Version) (parts : Parts) → option_map parts_of found ≡ Some parts → (v : Version) × (found ≡ Some v) × (parts_of v ≡ parts)
+version_behind None parts is = cc
+version_behind (Some v) parts is = (v, refl, one_value is)
+
+-- where a version is known, its parts are
+by_parts : (winners : List ℕ) (versions : List (Option Version)) (place : ℕ) (found : Option Version)
+    → ((v : Version) → (found ≡ Some v) ↔ HasVersion winners versions place (Some v)) → (parts : Parts)
+    → (option_map parts_of found ≡ Some parts) ↔ HasVersion winners (parts_in versions) place (Some parts)
+by_parts winners versions place found known parts = (to, from)
+  where
+    to : option_map parts_of found ≡ Some parts → HasVersion winners (parts_in versions) place (Some parts)
+    to is =
+        let behind = version_behind found parts is in
+        let has = (known behind.0).0 behind.1 in (
+          has.0,
+          has.1,
+          slice_get-map (option_map parts_of) versions has.0 ∙ ap (option_map (option_map parts_of)) has.2
+              ∙ ap (λ (p : Parts). Some (Some p)) behind.2,
+        )
+
+    there : (k : ℕ) → slice_get winners k ≡ Some place → (o : Option (Option Version)) → slice_get versions k ≡ o
+        → option_map (option_map parts_of) o ≡ Some (Some parts) → option_map parts_of found ≡ Some parts
+    there k wins None stands is = cc
+    there k wins (Some None) stands is = cc
+    there k wins (Some (Some v)) stands is = ap (option_map parts_of) ((known v).1 (k, wins, stands)) ∙ one_value is
+
+    from : HasVersion winners (parts_in versions) place (Some parts) → option_map parts_of found ≡ Some parts
+    from (k, wins, has) = there k wins (slice_get versions k) refl (sym (slice_get-map (option_map parts_of) versions k) ∙ has)
 
 pub under_at : (rows : List Row) (place other : ℕ) (row : Row) → slice_get rows other ≡ Some row → winner_of rows row.app ≡ Some place
     → IsUnderAt rows place other
@@ -21,7 +55,7 @@ under_at rows place other row stands wins =
     let w = winner_is rows row.app place wins in
     record { winner = w.row; row = row; under = record { wins = w.wins; stands = stands; app = w.named } }
 
-module _ (rows : List Row) (winners : List ℕ) (versions : List (Option Version)) where
+module _ (rows : List Row) (winners : List ℕ) (versions : List (Option Parts)) where
   pub stands_under : (rule : Rule) (place other : ℕ) → Diverges rows winners versions rule place other → IsUnderAt rows place other
   stands_under _ place other (source winner row under apart kept differs) = record { winner = winner; row = row; under = under }
   stands_under _ place other (compiled winner row under apart kept differs) = record { winner = winner; row = row; under = under }
@@ -70,7 +104,7 @@ module _ (rows : List Row) (winners : List ℕ) (versions : List (Option Version
     pub stray : Bool
     pub under : IsUnder rows place winner other row
     pub is_same : IsTrue same ↔ (other ≡ place)
-    pub version : (version : Version) → (found ≡ Some version) ↔ HasVersion winners versions place (Some version)
+    pub version : (version : Parts) → (option_map parts_of found ≡ Some version) ↔ HasVersion winners versions place (Some version)
     pub is_stray : IsTrue stray ↔ IsStraySomewhere rows other
 
   module _ (place other : ℕ) (winner row : Row) (case : IsCase place other winner row) where
@@ -93,7 +127,8 @@ module _ (rows : List Row) (winners : List ℕ) (versions : List (Option Version
     pub meets_diverges : (rule : Rule) → Meets rule winner row case.same case.found case.stray → Diverges rows winners versions rule place other
     meets_diverges V1 m = source winner row case.under (apart_from m.0) m.1.0 m.1.1
     meets_diverges V2 m = compiled winner row case.under (apart_from m.0) m.1.0 m.1.1
-    meets_diverges V3 m = version winner row m.version m.requirement case.under m.kept ((case.version m.version).0 m.has) m.asks m.fails
+    meets_diverges V3 m = version winner row (parts_of m.version) m.requirement case.under m.kept
+        ((case.version (parts_of m.version)).0 (ap (option_map parts_of) m.has)) m.asks m.fails
     meets_diverges V4 m =
         let at = case.is_stray.0 m in
         let s = at.1 in
@@ -113,13 +148,14 @@ module _ (rows : List Row) (winners : List ℕ) (versions : List (Option Version
     diverges_meets V3 (version w r v requirement under kept has asks fails) =
         let is_w = one_winner w r under in
         let is_r = one_row w r under in
+        let behind = version_behind case.found v ((case.version v).1 has) in
         record {
           kept = rw (is_w, is_r) at kept;
-          version = v;
-          has = (case.version v).1 has;
+          version = behind.0;
+          has = behind.1;
           requirement = requirement;
           asks = rw is_r at asks;
-          fails = rw is_w at fails;
+          fails = ap (λ (parts : Parts). sat requirement parts (is_path winner.decl.source)) behind.2 ∙ rw is_w at fails;
         }
     diverges_meets V4 (environment by w r parent env under root barred required declared stands reached) =
         case.is_stray.1 (
@@ -146,14 +182,14 @@ module _ (rows : List Row) (winners : List ℕ) (versions : List (Option Version
 pub case_in_scene : (listed : Listed) (versions : List (Option Version)) (strays : List Bool) → IsScene listed versions strays
     → (place other : ℕ) (winner row : Row) → IsUnder listed.rows place winner other row → (found : Option Version)
     → ((v : Version) → (found ≡ Some v) ↔ HasVersion listed.winners versions place (Some v)) → (rule : Rule)
-    → Meets rule winner row (eqb place other) found (is_marked strays other) ↔ Diverges listed.rows listed.winners versions rule place other
+    → Meets rule winner row (eqb place other) found (is_marked strays other) ↔ Diverges listed.rows listed.winners (parts_in versions) rule place other
 case_in_scene listed versions strays scene place other winner row under found known rule =
-    case_iff listed.rows listed.winners versions place other winner row (record {
+    case_iff listed.rows listed.winners (parts_in versions) place other winner row (record {
       same = eqb place other;
       found = found;
       stray = is_marked strays other;
       under = under;
       is_same = (λ h. sym (eqb-true place other h), λ e. eq-eqb place other (sym e));
-      version = known;
+      version = by_parts listed.winners versions place found known;
       is_stray = scene.are_strays other;
     }) rule

@@ -3,8 +3,7 @@ use Rattle.std.proofs.Common.{◌≡◌, ◌≢◌, ℕ, zero, suc, ◌+◌, Boo
 use Rattle.std.specs.List.{slice_get, range_with_len}
 use Rattle.std.proofs.lemmas.List.FromFn.{get_or-range_with_len, length-range_with_len}
 use Rattle.std.proofs.lemmas.Option.{none-some, slice_get_within}
-use Rattle.semver.specs.Identifiers.{parts_of}
-use Rattle.semver.specs.declared.Version.{Version}
+use Rattle.semver.specs.Parse.{Parts}
 use Rattle.version_req.specs.Condition.{Alternatives}
 use Rattle.version_req.specs.Meaning.{sat}
 use Rattle.dep_rows.specs.declared.row.Row.{Row}
@@ -22,28 +21,28 @@ use Rattle.converger.proofs.SomeStray.{dec_stray}
 use Rattle.converger.proofs.Turns.{before_found, before_none, before_first, before_same, before_all}
 use Rattle.converger.proofs.WebLemmas.{one_value}
 
-module _ (rows : List Row) (winners : List ℕ) (versions : List (Option Version)) where
+module _ (rows : List Row) (winners : List ℕ) (versions : List (Option Parts)) where
   -- a version of the winner that isn't asked for
   record IsMissed (requirement : Alternatives) (pre : Bool) (place k : ℕ) : Type 0 where
-    known : Version
+    known : Parts
     wins : slice_get winners k ≡ Some place
     has : slice_get versions k ≡ Some (Some known)
-    fails : IsFalse (sat requirement (parts_of known) pre)
+    fails : IsFalse (sat requirement known pre)
 
   dec_missed : (requirement : Alternatives) (pre : Bool) (place k : ℕ) → IsDecided (IsMissed requirement pre place k)
   dec_missed requirement pre place k = at (slice_get winners k) refl (slice_get versions k) refl
     where
-      with_version : slice_get winners k ≡ Some place → (o : Option (Option Version)) → slice_get versions k ≡ o → IsDecided (IsMissed requirement pre place k)
+      with_version : slice_get winners k ≡ Some place → (o : Option (Option Parts)) → slice_get versions k ≡ o → IsDecided (IsMissed requirement pre place k)
       with_version wins None is = inr (λ m. none-some (Some m.known) (sym is ∙ m.has))
       with_version wins (Some None) is = inr (λ m. none-some m.known (one_value (sym is ∙ m.has)))
       with_version wins (Some (Some known)) is =
           dec_map (λ fails. record { known = known; wins = wins; has = is; fails = fails })
           (λ m.
           let same : known ≡ m.known = one_value (one_value (sym is ∙ m.has)) in
-          ap (λ (v : Version). sat requirement (parts_of v) pre) same ∙ m.fails)
-          (dec_isnt (sat requirement (parts_of known) pre))
+          ap (λ (v : Parts). sat requirement v pre) same ∙ m.fails)
+          (dec_isnt (sat requirement known pre))
 
-      at : (w : Option ℕ) → slice_get winners k ≡ w → (o : Option (Option Version)) → slice_get versions k ≡ o → IsDecided (IsMissed requirement pre place k)
+      at : (w : Option ℕ) → slice_get winners k ≡ w → (o : Option (Option Parts)) → slice_get versions k ≡ o → IsDecided (IsMissed requirement pre place k)
       at None none o is = inr (λ m. none-some place (sym none ∙ m.wins))
       at (Some other) there o is = elim (dec_number other place) [
         | inl same ↦ with_version (there ∙ ap (λ (n : ℕ). Some n) same) o is

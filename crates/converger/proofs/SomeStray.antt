@@ -6,7 +6,7 @@ use Rattle.std.proofs.lemmas.List.Sums.{sum_by-cons}
 use Rattle.std.proofs.lemmas.List.Folds.{list_any-append}
 use Rattle.std.proofs.lemmas.Bool.{both_ways, cases_Bool, or_left, or_right, or_cases}
 use Rattle.std.proofs.lemmas.Option.{none-some}
-use Rattle.semver.specs.declared.Version.{Version}
+use Rattle.semver.specs.Parse.{Parts}
 use Rattle.dep_rows.specs.declared.row.Row.{Row}
 use Rattle.dep_rows.specs.Rows.{winner_of}
 use Rattle.dep_order.specs.Reach.{IsReachedFrom}
@@ -161,7 +161,7 @@ module _ (rows : List Row) where
           (fresh, in_front fresh (names_in rows), (also_stray rows has_name are_named env fresh not fresh_unnamed other s.0, same ∙ s.1))
     ]
 
-    module _ (winners : List ℕ) (versions : List (Option Version)) where
+    module _ (winners : List ℕ) (versions : List (Option Parts)) where
       abbrev D : Type 0
       D = Diverges rows winners versions V4 place other
 
@@ -217,6 +217,6 @@ module _ (rows : List Row) where
       pub dec_v4 : IsDecided D
       dec_v4 = decided (dec_beside row.by refl)
 
-pub dec_stray : (rows : List Row) (winners : List ℕ) (versions : List (Option Version)) (place other : ℕ) (winner row : Row)
+pub dec_stray : (rows : List Row) (winners : List ℕ) (versions : List (Option Parts)) (place other : ℕ) (winner row : Row)
     (under : IsUnder rows place winner other row) → IsDecided (Diverges rows winners versions V4 place other)
 dec_stray rows winners versions place other winner row under = dec_v4 rows place other winner row under winners versions

@@ -4,7 +4,7 @@ use Rattle.std.proofs.lemmas.Bool.{cases_eq, cases_lt}
 use Rattle.std.proofs.lemmas.Option.{slice_get_within}
 use Rattle.std.proofs.lemmas.List.Elements.{All-push, All-weaker, Contains-append_left, Contains-push}
 use Rattle.std.proofs.lemmas.List.Quantifiers.{all_pairs_push}
-use Rattle.semver.specs.declared.Version.{Version}
+use Rattle.semver.specs.Parse.{Parts}
 use Rattle.dep_rows.specs.Listed.{Listed}
 use Rattle.converger.specs.declared.divergence.Divergence.{Divergence}
 use Rattle.converger.specs.declared.divergence.Rule.{Rule}
@@ -53,7 +53,7 @@ rank_of V2 = refl
 rank_of V3 = refl
 rank_of V4 = refl
 
-module _ (listed : Listed) (versions : List (Option Version)) where
+module _ (listed : Listed) (versions : List (Option Parts)) where
   abbrev turn : Divergence → ℕ
   turn d = turn_of d.other d.rule
 

@@ -2,6 +2,7 @@
 use Rattle.std.specs.Prelude.{◌≡◌, ◌≢◌, ◌↔◌, ℕ, ◌+◌, ◌*◌, ◌<◌, ◌≤◌, ◌⊎◌, Bool, List, length, Option, Some, IsTrue, IsFalse}
 use Rattle.std.specs.List.{All, AllPairs, Contains}
 use Rattle.semver.specs.Identifiers.{parts_of}
+use Rattle.semver.specs.Parse.{Parts}
 use Rattle.semver.specs.declared.Version.{Version}
 use Rattle.version_req.specs.Condition.{Alternatives}
 use Rattle.version_req.specs.Meaning.{sat}
@@ -64,11 +65,11 @@ abbrev pub turn_of : ℕ → Rule → ℕ
 turn_of other rule = 4 * other + index_of rule
 
 -- the row at a place can't live together with its winner by this rule
-abbrev pub DivergesIn : Listed → List (Option Version) → Divergence → Type 0
+abbrev pub DivergesIn : Listed → List (Option Parts) → Divergence → Type 0
 DivergesIn listed versions d = Diverges listed.rows listed.winners versions d.rule d.winner d.other
 
 -- the divergences of all turns before this one
-pub record AreBefore (listed : Listed) (versions : List (Option Version)) (turn : ℕ) (list : List Divergence) : Type 0 where
+pub record AreBefore (listed : Listed) (versions : List (Option Parts)) (turn : ℕ) (list : List Divergence) : Type 0 where
   pub in_order : AllPairs (λ earlier later. turn_of earlier.other earlier.rule < turn_of later.other later.rule) list
   pub only : All (λ d. (turn_of d.other d.rule < turn) × DivergesIn listed versions d) list
   pub all : (d : Divergence) → turn_of d.other d.rule < turn → DivergesIn listed versions d → Contains list d

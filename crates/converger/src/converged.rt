@@ -4,7 +4,7 @@ ghost use Rattle.std.specs.List.{All};
 ghost use Rattle.dep_rows.specs.Rows.{most_rows};
 ghost use Rattle.converger.specs.Converged.{AreConverged, HasCause};
 ghost use Rattle.converger.specs.Reach.{AreReached};
-ghost use Rattle.converger.specs.Divergence.{AreDivergences, IsWithoutVersion};
+ghost use Rattle.converger.specs.Divergence.{AreDivergences, IsWithoutVersion, parts_in};
 
 use crate::divergence::Divergences;
 use crate::reach::reach;
@@ -89,7 +89,8 @@ pub fn divergences(
     versions: &[Option<Version>],
 ) -> Result<Divergences, AllocError>
     requires { length versions.now ≡ length rows.now.winners }
-    ensures { IfOk result (AreDivergences rows.now.rows rows.now.winners versions.now) }
+    ensures { IfOk result
+        (AreDivergences rows.now.rows rows.now.winners (parts_in versions.now)) }
 {
     let web = web_of(alloc, rows)?;
     let strays = strays(alloc, &web)?;

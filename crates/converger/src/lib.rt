@@ -16,7 +16,5 @@ mod web;
 
 pub use converged::{ConvergeError, Converged, Versions, converge, divergences, for_env};
 pub use divergence::{Divergence, Divergences, Rule};
-pub use laws::{
-    divergences_by_parts, one_divergence_list, one_reach, some_divergence_list, some_reach,
-};
+pub use laws::{one_divergence_list, one_reach, some_divergence_list, some_reach};
 pub use reach::admits;

@@ -3,7 +3,7 @@ ghost use Rattle.std.specs.Prelude.{◌≡◌, ◌↔◌, ℕ, ◌+◌, ◌<◌,
 ghost use Rattle.std.specs.List.{AllPairs};
 ghost use Rattle.std.specs.Option.{option_copied};
 ghost use Rattle.semver.specs.declared.Version.{Version};
-ghost use Rattle.converger.specs.Divergence.{Diverges, AreDivergences, HasVersion};
+ghost use Rattle.converger.specs.Divergence.{Diverges, AreDivergences, HasVersion, parts_in};
 ghost use Rattle.converger.specs.Cases.{AreBefore, IsScene, IsUnderAt, Meets, turn_of};
 
 use crate::cases::Case;
@@ -24,8 +24,8 @@ impl Scene<'_> {
     /// All divergences, by row and then by rule.
     pub(crate) fn divergences(&self, alloc: Global) -> Result<Divergences, AllocError>
         requires { IsScene self.now.rows.now self.now.versions.now self.now.strays.now }
-        ensures { IfOk result
-            (AreDivergences self.now.rows.now.rows self.now.rows.now.winners self.now.versions.now) }
+        ensures { IfOk result (AreDivergences self.now.rows.now.rows self.now.rows.now.winners
+            (parts_in self.now.versions.now)) }
     {
         let mut list = Divergences::new(alloc);
         for other in 0..self.rows.rows().len() {
@@ -40,9 +40,9 @@ impl Scene<'_> {
     fn add(&self, list: &mut Divergences, rule: Rule, other: usize) -> Result<(), AllocError>
         requires scene { IsScene self.now.rows.now self.now.versions.now self.now.strays.now }
         requires other { other < length self.now.rows.now.rows }
-        requires before { AreBefore self.now.rows.now self.now.versions.now
+        requires before { AreBefore self.now.rows.now (parts_in self.now.versions.now)
             (turn_of other rule) list.old }
-        ensures { OnOk result (AreBefore self.now.rows.now self.now.versions.now
+        ensures { OnOk result (AreBefore self.now.rows.now (parts_in self.now.versions.now)
             (turn_of other rule + 1) list.new) }
     {
         if let Some(winner) = self.diverging(rule, other) {
@@ -60,7 +60,8 @@ impl Scene<'_> {
         requires scene { IsScene self.now.rows.now self.now.versions.now self.now.strays.now }
         requires other { other < length self.now.rows.now.rows }
         ensures { (place : ℕ) → (result ≡ Some place)
-            ↔ Diverges self.now.rows.now.rows self.now.rows.now.winners self.now.versions.now rule place other }
+            ↔ Diverges self.now.rows.now.rows self.now.rows.now.winners
+            (parts_in self.now.versions.now) rule place other }
     {
         let row = &self.rows.rows()[other];
         let place = self.rows.winner_of(&row.app)?;
@@ -78,7 +79,8 @@ impl Scene<'_> {
         ensures { (rule : Rule) →
             Meets rule result.winner.now result.row.now result.is_winner
             (option_copied result.version) result.is_stray
-            ↔ Diverges self.now.rows.now.rows self.now.rows.now.winners self.now.versions.now rule place other }
+            ↔ Diverges self.now.rows.now.rows self.now.rows.now.winners
+            (parts_in self.now.versions.now) rule place other }
     {
         Case {
             winner: &self.rows.rows()[place as usize],

@@ -1,6 +1,7 @@
 use Rattle.std.proofs.Common.{◌∙◌, List, Option, Ok, ap, length, subst}
 use Rattle.std.proofs.lemmas.Slice.Zip.{AllZip-long}
 use Rattle.semver.specs.declared.Version.{Version}
+use Rattle.converger.specs.Divergence.{parts_in}
 use Rattle.build_plan.specs.Found.{IsFoundAt}
 use Rattle.build_plan.specs.Stages.{LiveWith}
 use Rattle.build_plan.proofs.VersionsLemmas.{live_none, none_missing, some_diverges}
@@ -15,8 +16,8 @@ converge-requires c = c.in_ok-versions.ensures.long ∙ AllZip-long (IsFoundAt c
 pub unreachable-requires : goal.unreachable-requires
 unreachable-requires c =
     let cause = rw c.in-Err-Diverged.field-0-is at c.in-Err-Diverged.ensures.refused in
-    let live = subst (λ (vs : List (Option Version)). LiveWith c.args.rows vs (Ok c.args.rows)) c.as_slice.ensures c.in_ok-judge.ensures.answer in
-    some_diverges c.args.rows.rows c.args.rows.winners c.in_ok-versions.versions c.in-Err-Diverged.field-0-0 (live_none c.args.rows c.in_ok-versions.versions live) cause.0 cause.1
+    let live = subst (λ (vs : List (Option Version)). LiveWith c.args.rows (parts_in vs) (Ok c.args.rows)) c.as_slice.ensures c.in_ok-judge.ensures.answer in
+    some_diverges c.args.rows.rows c.args.rows.winners (parts_in c.in_ok-versions.versions) c.in-Err-Diverged.field-0-0 (live_none c.args.rows (parts_in c.in_ok-versions.versions) live) cause.0 cause.1
 
 pub unreachable-requires-in-Err-NoVersion : goal.unreachable-requires-in-Err-NoVersion
 unreachable-requires-in-Err-NoVersion c =

@@ -1,5 +1,6 @@
 use Rattle.std.proofs.Common.{◌<◌, List, length, All, sym, subst}
 use Rattle.converger.specs.declared.divergence.Divergence.{Divergence}
+use Rattle.converger.specs.Divergence.{parts_in}
 use Rattle.dep_rows.specs.declared.row.Row.{Row}
 use Rattle.build_plan.specs.Lines.{AreLines}
 use Rattle.build_plan.specs.Stages.LiveWith.{diverges, lives}
@@ -10,14 +11,14 @@ pub returns-then-is_empty-clause-answer : goal.returns-then-is_empty-clause-answ
 returns-then-is_empty-clause-answer c =
     let rows = c.args.rows.now in
     let list = c.in_ok-list.list in
-    lives (none_diverges rows.rows rows.winners c.args.versions.now list (none_left list c.as_slice.result.now c.is_empty.result c.as_slice.ensures c.is_empty.ensures c.if-is_empty.true) c.in_ok-list.ensures)
+    lives (none_diverges rows.rows rows.winners (parts_in c.args.versions.now) list (none_left list c.as_slice.result.now c.is_empty.result c.as_slice.ensures c.is_empty.ensures c.if-is_empty.true) c.in_ok-list.ensures)
 
 pub lines-requires : goal.lines-requires
 lines-requires c =
     let rows = c.args.rows.now in
     let seen = c.rows.result.now in
     subst (λ (ds : List Divergence). All (λ d. (d.winner < length seen) × (d.other < length seen)) ds) (sym c.as_slice-2.ensures)
-    (within_rows rows.rows seen rows.winners c.args.versions.now c.in_ok-list.list c.rows.ensures.rows c.in_ok-list.ensures)
+    (within_rows rows.rows seen rows.winners (parts_in c.args.versions.now) c.in_ok-list.list c.rows.ensures.rows c.in_ok-list.ensures)
 
 pub returns-clause-answer : goal.returns-clause-answer
 returns-clause-answer c = λ input.
