@@ -18,6 +18,9 @@ pub mod ReadLemmas
 pub mod RootLemmas
 pub mod SceneLemmas
 pub mod SearchLemmas
+pub mod SomeOrder
+pub mod SomePlan
+pub mod SomeRoot
 pub mod SourceLemmas
 pub mod Stages
 pub mod Steps

@@ -27,13 +27,13 @@ use Rattle.build_plan.specs.Stages.ListsRows.{meets, passes, lists}
 use Rattle.build_plan.specs.ChildLaws.{OneProject, once}
 
 -- the children of the winner at a place are known
-record IsAnswered {Fault : Type 0} (children : ChildrenOf Fault) (rows : List Row) (place : ℕ) : Type 0 where
-  row : Row
-  decls : List Decl
-  stands : slice_get rows place ≡ Some row
-  answer : children row.app row.decl (Ok decls)
+pub record IsAnswered {Fault : Type 0} (children : ChildrenOf Fault) (rows : List Row) (place : ℕ) : Type 0 where
+  pub row : Row
+  pub decls : List Decl
+  pub stands : slice_get rows place ≡ Some row
+  pub answer : children row.app row.decl (Ok decls)
 
-all_answered : {Fault : Type 0} (children : ChildrenOf Fault) (rows : List Row) {start : ℕ} {winners : List ℕ} {below : List Row} → Blocks children rows start winners below → All (IsAnswered children rows) winners
+pub all_answered : {Fault : Type 0} (children : ChildrenOf Fault) (rows : List Row) {start : ℕ} {winners : List ℕ} {below : List Row} → Blocks children rows start winners below → All (IsAnswered children rows) winners
 all_answered children rows none = All-nil (IsAnswered children rows)
 all_answered children rows (next {winner = winner} {winners = winners} {row = row} {decls = decls} before stands answer rest) =
     All-cons (IsAnswered children rows) winner winners (record { row = row; decls = decls; stands = stands; answer = answer }) (all_answered children rows rest)

@@ -26,5 +26,5 @@ mod sources;
 mod versions;
 
 pub use error::{DivergedLine, DivergedLines, PlanError};
-pub use laws::one_plan;
+pub use laws::{one_plan, some_plan};
 pub use planning::plan;
