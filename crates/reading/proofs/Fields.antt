@@ -135,6 +135,19 @@ told_otherwise text Fits other OtherFits on back there here from left s = record
   };
 }
 
+-- what fits more narrowly tells its end too
+pub tells_narrower : {A : Type 0} (text : A → List ℕ) (Fits Narrow : A → Type 0) → ((a : A) → Narrow a → Fits a)
+    → TellsItsEnd text Fits → TellsItsEnd text Narrow
+tells_narrower text Fits Narrow wider tells a b x y fa fb e = tells a b x y (wider a fa) (wider b fb) e
+
+-- values that are told otherwise
+pub tells_otherwise : {A B : Type 0} (text : A → List ℕ) (Fits : A → Type 0) (other : B → List ℕ) (OtherFits : B → Type 0) (back : B → A)
+    → ((b : B) → OtherFits b → Fits (back b) × (text (back b) ≡ other b)) → ((b c : B) → OtherFits b → OtherFits c → back b ≡ back c → b ≡ c)
+    → TellsItsEnd text Fits → TellsItsEnd other OtherFits
+tells_otherwise text Fits other OtherFits back here apart tells b c x y fb fc e =
+    apart b c fb fc (tells (back b) (back c) x y (here b fb).0 (here c fc).0
+    (ap (λ t. t ++ x) (here b fb).1 ∙ e ∙ ap (λ t. t ++ y) (sym (here c fc).1)))
+
 -- ---- a whole text that is one field
 
 abbrev pub IsTextOf : {A : Type 0} → (A → List ℕ) → (A → Type 0) → List ℕ → Type 0
@@ -142,7 +155,8 @@ IsTextOf {A} text Fits whole = (a : A) × Fits a × (whole ≡ text a)
 
 nothing_sticks : {A : Type 0} (text : A → List ℕ) (Fits : A → Type 0) → TellsItsEnd text Fits → (taken left : List ℕ) → Sticks text Fits taken left
     → (a : A) → Fits a → taken ++ left ≡ text a → ⊥
-nothing_sticks text Fits tells taken [] s a fits e = outgrows_front text Fits tells taken [] s a fits [] (sym (append-nil taken) ∙ e ∙ sym (append-nil (text a)))
+nothing_sticks text Fits tells taken [] s a fits e =
+    outgrows_front text Fits tells taken [] s a fits [] (sym (append-nil taken) ∙ e ∙ sym (append-nil (text a)))
 nothing_sticks text Fits tells taken (byte ∷ others) s a fits e = s.refuses byte others others a refl fits (sym e)
 
 -- where a reader of the field stops, the text is refused

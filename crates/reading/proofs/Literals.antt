@@ -2,16 +2,11 @@
 use Rattle.std.proofs.Common.{◌≡◌, ℕ, List, ◌∷◌, ◌++◌, length, refl, sym, ◌∙◌, append_assoc}
 use Rattle.std.proofs.lemmas.List.{append_cancel_left}
 use Rattle.reading.specs.Field.{PairFits, Stops, TellsItsEnd, pair_text}
+use Rattle.reading.specs.Plain.{Always, after_text, literal_text}
 use Rattle.reading.proofs.Fields.{first_stops, second_stops, told_otherwise}
 use Rattle.reading.proofs.Lists.{same_head}
 
-abbrev pub literal_text : List ℕ → Unit {0} → List ℕ
-literal_text literal _ = literal
-
-abbrev pub Always : {A : Type 0} → A → Type 0
-Always _ = Unit {0}
-
-literal_tells : (literal : List ℕ) → TellsItsEnd (literal_text literal) Always
+pub literal_tells : (literal : List ℕ) → TellsItsEnd (literal_text literal) Always
 literal_tells literal a b x y fa fb e = refl
 
 pub literal_stops : (literal taken more rest : List ℕ) (byte : ℕ) → literal ≡ taken ++ byte ∷ more
@@ -34,9 +29,6 @@ literal_stops literal taken more rest byte front other = record {
 }
 
 -- ---- a field behind a literal
-
-abbrev pub after_text : {A : Type 0} → List ℕ → (A → List ℕ) → A → List ℕ
-after_text literal text value = literal ++ text value
 
 pub after_tells : {A : Type 0} (literal : List ℕ) (text : A → List ℕ) (Fits : A → Type 0) → TellsItsEnd text Fits
     → TellsItsEnd (after_text literal text) Fits

@@ -4,14 +4,8 @@ use Rattle.std.specs.Prelude.{replicate}
 use Rattle.std.proofs.lemmas.Fmt.{decimal_by_steps, decimal_digit, decimal_injective, decimal_nonempty, decimal_step}
 use Rattle.std.proofs.lemmas.List.{length-replicate}
 use Rattle.reading.specs.Field.{Stops, TellsItsEnd}
+use Rattle.reading.specs.Plain.{AreSoMany, IsBelow, IsNoDigit, bytes_text, number_text}
 use Rattle.reading.proofs.Lists.{GoesFurther, one_goes_further, same_head}
-
--- a number in decimal digits, and the byte behind it
-abbrev pub number_text : ℕ → ℕ → List ℕ
-number_text end n = decimal n ++ end ∷ []
-
-abbrev pub IsBelow : ℕ → ℕ → Type 0
-IsBelow limit n = n < limit
 
 -- what may follow the digits of a number in those of another
 record GoesOnBy (v byte w : ℕ) : Type 0 where
@@ -30,7 +24,7 @@ extends_digit n low _ = (
       absurd (omega (arith, ap length e, length-append (decimal v) (byte ∷ more), decimal_nonempty v fits)),
 )
 
-last_split : (ds front more : List ℕ) (last byte : ℕ) → ds ++ last ∷ [] ≡ front ++ byte ∷ more
+pub last_split : (ds front more : List ℕ) (last byte : ℕ) → ds ++ last ∷ [] ≡ front ++ byte ∷ more
     → ((ds ≡ front) × (last ≡ byte)) ⊎ ((rest : List ℕ) × (ds ≡ front ++ byte ∷ rest))
 last_split [] [] more last byte e = inl (refl, same_head last byte [] more e)
 last_split [] (f ∷ front) more last byte e =
@@ -68,10 +62,6 @@ StartsLow n ds = (b : ℕ) × (rest : List ℕ) × (ds ≡ b ∷ rest) × (48 �
 starts_low : (n : ℕ) → n < 2 ^ 64 → StartsLow n (decimal n)
 starts_low n fits = decimal_by_steps StartsLow (λ k low. (48 + k, [], refl, omega arith, omega arith))
     (λ k ds big ih. (ih.0, ih.1 ++ (48 + k % 10) ∷ [], ap (λ t. t ++ (48 + k % 10) ∷ []) ih.2, ih.3, ih.4)) n fits
-
--- a byte that isn't a digit
-pub record IsNoDigit (byte : ℕ) : Type 0 where
-  pub holds : (byte < 48) ⊎ (57 < byte)
 
 not_digit : (byte : ℕ) → IsNoDigit byte → 48 ≤ byte → byte ≤ 57 → ⊥
 not_digit byte none low high = ⊎_elim (λ (h : byte < 48). omega arith) (λ (h : 57 < byte). omega arith) none.holds
@@ -143,13 +133,7 @@ number_stops end limit v small fits rest none = record {
 
 -- ---- so many bytes
 
-abbrev pub bytes_text : List ℕ → List ℕ
-bytes_text bytes = bytes
-
-abbrev pub AreSoMany : ℕ → List ℕ → Type 0
-AreSoMany count bytes = length bytes ≡ count
-
-same_front : (a b x y : List ℕ) → length a ≡ length b → a ++ x ≡ b ++ y → a ≡ b
+pub same_front : (a b x y : List ℕ) → length a ≡ length b → a ++ x ≡ b ++ y → a ≡ b
 same_front [] [] x y long e = refl
 same_front [] (d ∷ b) x y long e = absurd (omega (arith, long))
 same_front (c ∷ a) [] x y long e = absurd (omega (arith, long))

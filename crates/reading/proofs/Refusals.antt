@@ -58,3 +58,13 @@ refused_where_stuck Spells Leads start state taken left accepts spells on back s
     (stuck.lives.0, spells (taken ++ stuck.lives.0) (back stuck.lives.0 stuck.lives.1))
     (λ byte others e begins. stuck.refuses byte others begins.0 e
     (on (byte ∷ begins.0) (subst (Leads start) (append_assoc taken (byte ∷ []) begins.0) (accepts _ begins.1))))
+
+-- the same language told otherwise
+pub refused_same : (Spells Other : List ℕ → Type 0) → ((text : List ℕ) → Spells text → Other text) → ((text : List ℕ) → Other text → Spells text)
+    → (text : List ℕ) (at : ℕ) → IsRefusedAt Spells text at → IsRefusedAt Other text at
+refused_same Spells Other on back text at refused = record {
+  nothing = λ h. refused.nothing (back text h);
+  within = refused.within;
+  begins = (refused.begins.0, on _ refused.begins.1);
+  longest = λ k over within begins. refused.longest k over within (begins.0, back _ begins.1);
+}

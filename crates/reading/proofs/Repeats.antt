@@ -42,32 +42,6 @@ as_list text Fits before count n more from left s =
     (λ p fits. ((omega (arith, fits.1.0), (fits.0, fits.1.1)), refl))
     (λ values fits. back_fits text Fits before count n more s.sticks.value.0 values fits) from left s
 
--- however far a list has come, there are values for the rest of it
-abbrev pub GoesOn : {A : Type 0} → (List A → A → Type 0) → ℕ → Type 0
-GoesOn {A} Fits total = (before : List A) (n : ℕ) → length before + n ≡ total → (values : List A) × ListFits Fits n before values
-
--- the values done fit, and the next one sticks
-pub list_stops : {A : Type 0} (text : A → List ℕ) (Fits : List A → A → Type 0) → ((before : List A) → TellsItsEnd text (Fits before))
-    → (total : ℕ) → GoesOn Fits total → (before done : List A) (count : ℕ) → length before + count ≡ total → FitInTurn Fits before done
-    → (from after : List ℕ) (left : ℕ) → length done < count → from ≡ flat_map text done ++ after
-    → Stops text (Fits (before ++ done)) after left → Stops (flat_map text) (ListFits Fits count before) from left
-list_stops text Fits tells total some before [] count sum fits from after left less cut s =
-    let n = count - 1 in
-    let more : count ≡ suc n = omega arith in
-    as_list text Fits before count n more from left
-    (first_stops text (Fits before) (λ _. flat_map text) (λ a. ListFits Fits n (before ++ a ∷ [])) (tells before)
-    (λ a _. some (before ++ a ∷ []) n (omega (arith, length-append before (a ∷ [])))) from left
-    (subst (λ t. Stops text (Fits before) t left) (sym cut) (subst (λ b. Stops text (Fits b) after left) (append-nil before) s)))
-list_stops text Fits tells total some before (v ∷ vs) count sum fits from after left less cut s =
-    let n = count - 1 in
-    let more : count ≡ suc n = omega arith in
-    let here : before ++ v ∷ vs ≡ (before ++ v ∷ []) ++ vs = sym (append_assoc before (v ∷ []) vs) in
-    as_list text Fits before count n more from left
-    (second_stops text (Fits before) (λ _. flat_map text) (λ a. ListFits Fits n (before ++ a ∷ [])) (tells before) v fits.0
-    from (flat_map text vs ++ after) left (cut ∙ append_assoc (text v) (flat_map text vs) after)
-    (list_stops text Fits tells total some (before ++ v ∷ []) vs n (omega (arith, length-append before (v ∷ []))) fits.1
-    (flat_map text vs ++ after) after left (omega arith) refl (subst (λ b. Stops text (Fits b) after left) here s)))
-
 -- ---- one value more
 
 pub fit_one_more : {A : Type 0} (Fits : List A → A → Type 0) (before done : List A) (value : A) → FitInTurn Fits before done
@@ -75,6 +49,36 @@ pub fit_one_more : {A : Type 0} (Fits : List A → A → Type 0) (before done : 
 fit_one_more Fits before [] value fits next = (subst (λ b. Fits b value) (append-nil before) next, tt)
 fit_one_more Fits before (v ∷ vs) value fits next =
     (fits.0, fit_one_more Fits (before ++ v ∷ []) vs value fits.1 (subst (λ b. Fits b value) (sym (append_assoc before (v ∷ []) vs)) next))
+
+-- however far values that fit have come, there are values for the rest of the list
+abbrev pub GoesOn : {A : Type 0} → (List A → A → Type 0) → ℕ → Type 0
+GoesOn {A} Fits total =
+    (before : List A) (n : ℕ) → length before + n ≡ total → FitInTurn Fits [] before → (values : List A) × ListFits Fits n before values
+
+-- the values done fit, and the next one sticks
+pub list_stops : {A : Type 0} (text : A → List ℕ) (Fits : List A → A → Type 0) → ((before : List A) → TellsItsEnd text (Fits before))
+    → (total : ℕ) → GoesOn Fits total → (before done : List A) (count : ℕ) → length before + count ≡ total → FitInTurn Fits [] before
+    → FitInTurn Fits before done → (from after : List ℕ) (left : ℕ) → length done < count → from ≡ flat_map text done ++ after
+    → Stops text (Fits (before ++ done)) after left → Stops (flat_map text) (ListFits Fits count before) from left
+list_stops text Fits tells total some before [] count sum start fits from after left less cut s =
+    let n = count - 1 in
+    let more : count ≡ suc n = omega arith in
+    as_list text Fits before count n more from left
+    (first_stops text (Fits before) (λ _. flat_map text) (λ a. ListFits Fits n (before ++ a ∷ [])) (tells before)
+    (λ a next. some (before ++ a ∷ []) n (omega (arith, length-append before (a ∷ []))) (fit_one_more Fits [] before a start next)) from left
+    (subst (λ t. Stops text (Fits before) t left) (sym cut) (subst (λ b. Stops text (Fits b) after left) (append-nil before) s)))
+list_stops text Fits tells total some before (v ∷ vs) count sum start fits from after left less cut s =
+    let n = count - 1 in
+    let more : count ≡ suc n = omega arith in
+    let here : before ++ v ∷ vs ≡ (before ++ v ∷ []) ++ vs = sym (append_assoc before (v ∷ []) vs) in
+    as_list text Fits before count n more from left
+    (second_stops text (Fits before) (λ _. flat_map text) (λ a. ListFits Fits n (before ++ a ∷ [])) (tells before) v fits.0
+    from (flat_map text vs ++ after) left (cut ∙ append_assoc (text v) (flat_map text vs) after)
+    (list_stops text Fits tells total some (before ++ v ∷ []) vs n (omega (arith, length-append before (v ∷ [])))
+    (fit_one_more Fits [] before v start fits.0) fits.1 (flat_map text vs ++ after) after left (omega arith) refl
+    (subst (λ b. Stops text (Fits b) after left) here s)))
+
+-- ---- the text of one value more
 
 pub flat_map_one_more : {A : Type 0} (text : A → List ℕ) (done : List A) (value : A) → flat_map text (done ++ value ∷ []) ≡ flat_map text done ++ text value
 flat_map_one_more text [] value = append-nil (text value)

@@ -1,0 +1,15 @@
+use Rattle.std.proofs.Common.{ap}
+use Rattle.mx_base.specs.Blame.{is_outside}
+use Rattle.compile_model.specs.Blame.{compile_blame}
+use Rattle.compile_model.proofs.SeqLemmas.{dies_at}
+use Rattle.compile_model.proofs.seq.seq_build.Goals as goal
+
+pub returns-in-Err-Died-clause-died : goal.returns-in-Err-Died-clause-died
+returns-in-Err-Died-clause-died g c =
+    let jobs = c.loop-place.invariant.jobs in
+    let so_far = c.loop-place.invariant.so_far in
+    let deaths = c.loop-place.invariant.deaths in
+    let slice = c.as_slice.ensures.value in
+    let died = ap (λ fault. is_outside (compile_blame fault)) c.in-Err-Died.field-0-is in
+    dies_at g.C.Meaning.compile_of c.args.plan.now.jobs _ _ c.loop-place.place c.job-item.result (rw (← deaths) (c.in-Err-Died.ensures.cause.rose died))
+      (rw (← jobs) c.loop-place-test.true) (rw (← jobs) c.job-item.is) (rw (← jobs, ← so_far, ← slice) (c.in-Err-Died.ensures.started died))
