@@ -3,6 +3,7 @@ use Rattle.std.proofs.Common.{◌≡◌, ℕ, ◌+◌, Bool, true, false, ◌||�
 use Rattle.std.specs.List.{cons_option, list_any}
 use Rattle.std.specs.Ordering.{is_eq}
 use Rattle.mx_base.specs.declared.file.File.{File}
+use Rattle.mx_base.specs.Listing.{rows_of}
 use Rattle.mx_base.specs.Order.{text_cmp, paths_of, bytes_at}
 use Rattle.mx_base.specs.Path.{text_after, folder_text, child_of, path_from}
 use Rattle.mx_base.proofs.FolderLemmas.{after_is}
@@ -137,8 +138,10 @@ with_manager settings row dir version sources needs need_apps manager = record {
   system_env = row.decl.system_env;
   dir = dir;
   sources = sources;
+  rows = rows_of sources;
   needs = needs;
   need_apps = need_apps;
+  listed = refl;
 }
 
 -- the job that is made of the sources of a dependency

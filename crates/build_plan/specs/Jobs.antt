@@ -1,6 +1,7 @@
 -- The jobs of a plan, and their limits.
-use Rattle.std.specs.Prelude.{◌≡◌, ℕ, ◌+◌, ◌≤◌, ◌||◌, Bool, nat_le, nat_lt, nat_eq, List, length, take, filter_map, position, sum, map, Option, Some, None, Ok, IsFalse, slice_get}
+use Rattle.std.specs.Prelude.{◌≡◌, ℕ, ◌+◌, ◌≤◌, ◌||◌, Bool, nat_le, nat_lt, nat_eq, List, length, take, filter_map, position, sum, map, Option, Some, None, Ok, IsFalse, slice_get, refl}
 use Rattle.mx_base.specs.declared.file.File.{File}
+use Rattle.mx_base.specs.Listing.{rows_of}
 use Rattle.compile_model.specs.declared.how.How.{How}
 use Rattle.compile_model.specs.declared.job.Job.{Job}
 use Rattle.compile_model.specs.declared.job.Origin.TheVariants.{Path as FromPath}
@@ -41,8 +42,10 @@ job_with files settings row dir version needs need_apps = record {
   system_env = row.decl.system_env;
   dir = dir;
   sources = sources_of dir files;
+  rows = rows_of (sources_of dir files);
   needs = needs;
   need_apps = need_apps;
+  listed = refl;
 }
 
 -- what jobs are made of: the settings, all rows, the winners that are reached, and the order of their graph

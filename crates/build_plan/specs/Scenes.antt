@@ -1,7 +1,8 @@
 -- What is known of a plan before its jobs are made, and what a job is made of.
-use Rattle.std.specs.Prelude.{◌≡◌, ◌⊎◌, ℕ, ◌<◌, ◌≤◌, List, length, position, Some, Result, Ok, Err, IsTrue, nat_eq}
+use Rattle.std.specs.Prelude.{◌≡◌, ◌⊎◌, ℕ, ◌<◌, ◌≤◌, List, length, position, Some, Result, Ok, Err, IsTrue, nat_eq, refl}
 use Rattle.std.specs.List.{All, AllPairs, AllZip, Contains}
 use Rattle.mx_base.specs.declared.file.File.{File}
+use Rattle.mx_base.specs.Listing.{rows_of}
 use Rattle.compile_model.specs.declared.job.Job.{Job}
 use Rattle.compile_model.specs.declared.job.Origin.TheVariants.{Path as FromPath}
 use Rattle.compile_model.specs.Planned.{most_jobs, most_sent, sent_size}
@@ -78,8 +79,10 @@ job_from schedule post sources = record {
   system_env = post.row.now.decl.system_env;
   dir = post.found.now.dir;
   sources = sources;
+  rows = rows_of sources;
   needs = places_in schedule.order post.reached.items;
   need_apps = apps_of schedule.rows schedule.places post.reached.items;
+  listed = refl;
 }
 
 -- the job has its place in a plan

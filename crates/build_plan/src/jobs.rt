@@ -21,7 +21,7 @@ use crate::scene::{Needs, Scene};
 use crate::sources::sources;
 use compile_model::{Job, Origin};
 use dep_rows::Row;
-use mx_base::Files;
+use mx_base::{Files, listing_of};
 use std::alloc::{AllocError, Global};
 use tree_store::{Store, StoreFault};
 
@@ -115,6 +115,7 @@ fn if_sent(job: Job) -> Option<Job>
 }
 
 /// The job of a winner with these sources.
+#[tactic(auto, using(mx_base::proofs::ListingLemmas::apart_from_order))]
 fn described(
     alloc: Global,
     scene: &Scene<'_>,
@@ -127,6 +128,7 @@ fn described(
     ensures { IfOk result (λ job. job ≡ job_from scene.now.schedule post.now sources) }
 {
     let recipe = recipe_of(alloc, scene.settings(), post, sources.as_slice())?;
+    let rows = listing_of(alloc, sources.as_slice())?;
     let needs = scene.needs_of(alloc, &post.reached)?;
     let app = post.row.app.clone()?;
     let dir = post.found.dir.clone()?;
@@ -146,6 +148,7 @@ fn described(
         system_env,
         dir,
         sources,
+        rows,
         needs: places,
         need_apps: apps,
     })
