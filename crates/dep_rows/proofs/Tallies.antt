@@ -1,5 +1,5 @@
 -- What is asked of the children, call by call.
-use Rattle.std.proofs.Common.{◌≡◌, ℕ, ◌+◌, ◌<◌, ◌≤◌, inl, inr, List, [], ◌++◌, length, Option, Some, None, Result, Ok, Err, IsErrAnd, sym, ◌∙◌, ap, subst, arith}
+use Rattle.std.proofs.Common.{◌≡◌, ℕ, ◌+◌, ◌≤◌, inr, List, [], ◌++◌, length, Option, Some, None, Result, Ok, Err, IsErrAnd, sym, ◌∙◌, ap, subst, arith}
 use Rattle.std.proofs.lemmas.List.{length-append}
 use Rattle.dep_options.specs.declared.decl.Decl.{Decl}
 use Rattle.dep_rows.specs.declared.error.RowsError.{RowsError}
@@ -8,7 +8,7 @@ use Rattle.dep_rows.specs.declared.row.Row.{Row}
 use Rattle.dep_rows.specs.declared.tally.Tally.{Tally}
 use Rattle.dep_rows.specs.Listed.{Listed}
 use Rattle.dep_rows.specs.Rows.{most_rows, rows_from}
-use Rattle.dep_rows.specs.Tally.{one_more, AsksOne, Asks, HasAsked, EndsWith, PassesAtLast}
+use Rattle.dep_rows.specs.Tally.{one_more, AsksOne, Asks, HasAsked, EndsWith}
 use Rattle.dep_rows.proofs.Blocks.{length-rows_from}
 
 long_more : (by : Option ℕ) (decls : List Decl) (old new : List Row) → new ≡ old ++ rows_from by 0 decls → length new ≡ length old + length decls
