@@ -211,7 +211,8 @@ pub same_more : (rows others : List FileRow) (k : ℕ) (row other : FileRow) →
 same_more rows others k row other same within inside is are test =
     let e : row ≡ other = row_is row other test in
     let d : get_or others k other ≡ get_or others k row =
-    let s : Some (get_or others k other) ≡ Some (get_or others k row) = sym (slice_get-get_or others k other inside) ∙ slice_get-get_or others k row inside in cc in
+    let s : Some (get_or others k other) ≡ Some (get_or others k row) = sym (slice_get-get_or others k other inside) ∙ slice_get-get_or others k row inside in
+    cc in
     take_more_same rows others k row within inside same (sym is ∙ e ∙ are ∙ d)
 
 -- one of them is longer than what both begin with

@@ -17,7 +17,8 @@ pub told_at : (digests : List (Option (List ℕ))) (places : List ℕ) (k d : �
 told_at digests places k d e within inside =
     slice_get-map (digest_at digests) places k
     ∙ ap (option_map (digest_at digests)) (slice_get-get_or places k d within)
-    ∙ ap (λ (found : Option (Option (List ℕ))). Some (option_and_then (λ (digest : Option (List ℕ)). digest) found)) (slice_get-get_or digests (get_or places k d) e inside)
+    ∙ ap (λ (found : Option (Option (List ℕ))). Some (option_and_then (λ (digest : Option (List ℕ)). digest) found))
+    (slice_get-get_or digests (get_or places k d) e inside)
 
 pub stands_here : (apps : List (List ℕ)) (told : List (Option (List ℕ))) (needs : List Need) (index : ℕ) (app : List ℕ) (digest : Option (List ℕ)) →
     slice_get apps index ≡ Some app → slice_get told index ≡ Some digest → NeedStands (slice_get needs index) app digest → StandsAt apps told needs index
@@ -25,7 +26,8 @@ stands_here apps told needs index app digest named known stands =
     record { app = app; digest = digest; named = named; known = known; stands = stands }
 
 pub fallen_here : (apps : List (List ℕ)) (told : List (Option (List ℕ))) (needs : List Need) (index : ℕ) (app : List ℕ) (digest : Option (List ℕ)) →
-    slice_get apps index ≡ Some app → slice_get told index ≡ Some digest → (NeedStands (slice_get needs index) app digest → ⊥) → StandsAt apps told needs index → ⊥
+    slice_get apps index ≡ Some app → slice_get told index ≡ Some digest → (NeedStands (slice_get needs index) app digest → ⊥) →
+    StandsAt apps told needs index → ⊥
 fallen_here apps told needs index app digest named known falls is =
     let e : Some is.app ≡ Some app = sym is.named ∙ named in
     let f : Some is.digest ≡ Some digest = sym is.known ∙ known in
@@ -87,7 +89,8 @@ reads job digests index app digest apps places e f named before within is are =
 
 -- a need doesn't stand, as a test says
 pub fallen_at : (job : Job) (digests : List (Option (List ℕ))) (needs : List Need) (index : ℕ) (app : List ℕ) (digest : Option (List ℕ)) (apps : List (List ℕ))
-    (places : List ℕ) (test : Bool) → apps ≡ job.need_apps → places ≡ job.needs → IsNamed job → All (λ need. need < length digests) job.needs → index < length apps →
+    (places : List ℕ) (test : Bool) → apps ≡ job.need_apps → places ≡ job.needs → IsNamed job → All (λ need. need < length digests) job.needs →
+    index < length apps →
     app ≡ get_or apps index app → digest ≡ get_or digests (get_or places index 0) digest →
     IsTrue test ↔ NeedStands (slice_get needs index) app digest → test ≡ false →
     ((earlier : ℕ) → earlier < index → StandsAt job.need_apps (map (digest_at digests) job.needs) needs earlier) →
@@ -100,8 +103,10 @@ fallen_at job digests needs index app digest apps places test e f named before w
     so_far
 
 -- a need stands, as a test says
-pub stands_next : (job : Job) (digests : List (Option (List ℕ))) (needs : List Need) (index : ℕ) (app : List ℕ) (digest : Option (List ℕ)) (apps : List (List ℕ))
-    (places : List ℕ) (test : Bool) → apps ≡ job.need_apps → places ≡ job.needs → IsNamed job → All (λ need. need < length digests) job.needs → index < length apps →
+pub stands_next : (job : Job) (digests : List (Option (List ℕ))) (needs : List Need) (index : ℕ) (app : List ℕ) (digest : Option (List ℕ))
+    (apps : List (List ℕ))
+    (places : List ℕ) (test : Bool) → apps ≡ job.need_apps → places ≡ job.needs → IsNamed job → All (λ need. need < length digests) job.needs →
+    index < length apps →
     app ≡ get_or apps index app → digest ≡ get_or digests (get_or places index 0) digest →
     IsTrue test ↔ NeedStands (slice_get needs index) app digest → test ≡ true →
     ((earlier : ℕ) → earlier < index → StandsAt job.need_apps (map (digest_at digests) job.needs) needs earlier) →
@@ -116,7 +121,8 @@ all_stand : (apps : List (List ℕ)) (told : List (Option (List ℕ))) (needs : 
     ((earlier : ℕ) → earlier < index → StandsAt apps told needs earlier) → (earlier : ℕ) → earlier < length apps → StandsAt apps told needs earlier
 all_stand apps told needs index ended so_far earlier below = so_far earlier (omega arith)
 
-pub further_need : (job : Job) (told : List (Option (List ℕ))) (needs : List Need) (index : ℕ) (apps : List (List ℕ)) (need : Need) → apps ≡ job.need_apps → length apps ≤ index →
+pub further_need : (job : Job) (told : List (Option (List ℕ))) (needs : List Need) (index : ℕ) (apps : List (List ℕ)) (need : Need) → apps ≡ job.need_apps →
+    length apps ≤ index →
     ((earlier : ℕ) → earlier < index → StandsAt job.need_apps told needs earlier) → length apps < length needs → need ≡ get_or needs (length apps) need →
     IsChangedNeed job.need_apps told needs (Some need.1)
 further_need job told needs index apps need e ended so_far within is =
@@ -124,7 +130,8 @@ further_need job told needs index apps need e ended so_far within is =
     further need (all_stand job.need_apps told needs index (omega arith) so_far)
     (ap (slice_get needs) (sym same) ∙ slice_get-get_or needs (length apps) need within ∙ ap Some (sym is))
 
-pub no_more_needs : (job : Job) (told : List (Option (List ℕ))) (needs : List Need) (index : ℕ) (apps : List (List ℕ)) → apps ≡ job.need_apps → length apps ≤ index →
+pub no_more_needs : (job : Job) (told : List (Option (List ℕ))) (needs : List Need) (index : ℕ) (apps : List (List ℕ)) → apps ≡ job.need_apps →
+    length apps ≤ index →
     ((earlier : ℕ) → earlier < index → StandsAt job.need_apps told needs earlier) → length needs ≤ length apps →
     IsChangedNeed job.need_apps told needs None
 no_more_needs job told needs index apps e ended so_far short =

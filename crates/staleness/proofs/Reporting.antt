@@ -39,7 +39,8 @@ whole jobs marks report digests long is = record {
   each = λ p job mark here there. is.each p job mark (slice_get_within jobs p job here) here there;
 }
 
-digest_pushed : (digests : List (Option (List ℕ))) (digest : Option (List ℕ)) (p : ℕ) → p < length digests → digest_at (digests ++ digest ∷ []) p ≡ digest_at digests p
+digest_pushed : (digests : List (Option (List ℕ))) (digest : Option (List ℕ)) (p : ℕ) → p < length digests →
+    digest_at (digests ++ digest ∷ []) p ≡ digest_at digests p
 digest_pushed digests digest p within =
     let longer = length_push digests digest in
     ap (option_and_then (λ (d : Option (List ℕ)). d))
@@ -64,9 +65,12 @@ told_needs jobs marks place report digests is (need ∷ needs) before =
     (told_needs jobs marks place report digests is needs (λ k h. before (suc k) (omega arith)))
 
 -- one place more, where the report says the same of all others
-one_more : (jobs : List Job) (marks : List (Option MarkView)) (place : ℕ) (report other : List (ℕ × Why)) (digests : List (Option (List ℕ))) (digest : Option (List ℕ))
-    (job : Job) (mark : Option MarkView) → ArePlanned jobs → IsSoFar jobs marks place report digests → slice_get jobs place ≡ Some job → slice_get marks place ≡ Some mark →
-    AllPairs (λ one other. one.0 < other.0) other → ((p : ℕ) → (p ≡ place → ⊥) → why_at other p ≡ why_at report p) → digest ≡ standing_digest other marks place →
+one_more : (jobs : List Job) (marks : List (Option MarkView)) (place : ℕ) (report other : List (ℕ × Why)) (digests : List (Option (List ℕ)))
+    (digest : Option (List ℕ))
+    (job : Job) (mark : Option MarkView) → ArePlanned jobs → IsSoFar jobs marks place report digests → slice_get jobs place ≡ Some job →
+    slice_get marks place ≡ Some mark →
+    AllPairs (λ one other. one.0 < other.0) other → ((p : ℕ) → (p ≡ place → ⊥) → why_at other p ≡ why_at report p) →
+    digest ≡ standing_digest other marks place →
     IsWhy (map (digest_at digests) job.needs) job mark (why_at other place) → IsSoFar jobs marks (place + 1) other (digests ++ digest ∷ [])
 one_more jobs marks place report other digests digest job mark planned is here there in_order same stands why = record {
   in_order = in_order;
@@ -107,7 +111,8 @@ one_more jobs marks place report other digests digest job mark planned is here t
 
 -- a place that is listed
 pub listed_more : (jobs : List Job) (marks : List (Option MarkView)) (place : ℕ) (report : List (ℕ × Why)) (digests : List (Option (List ℕ))) (job : Job)
-    (mark : Option MarkView) (why : Why) → ArePlanned jobs → IsSoFar jobs marks place report digests → slice_get jobs place ≡ Some job → slice_get marks place ≡ Some mark →
+    (mark : Option MarkView) (why : Why) → ArePlanned jobs → IsSoFar jobs marks place report digests → slice_get jobs place ≡ Some job →
+    slice_get marks place ≡ Some mark →
     IsWhy (map (digest_at digests) job.needs) job mark (Some why) → IsSoFar jobs marks (place + 1) (report ++ (place, why) ∷ []) (digests ++ None ∷ [])
 listed_more jobs marks place report digests job mark why planned is here there reason =
     let listed : why_at (report ++ (place, why) ∷ []) place ≡ Some why = why_at_same report place why (is.below place (omega arith)) in
@@ -122,7 +127,8 @@ listed_more jobs marks place report digests job mark why planned is here there r
     (subst (λ (w : Option Why). IsWhy (map (digest_at digests) job.needs) job mark w) (sym listed) reason)
 
 -- a place that isn't
-pub kept_more : (jobs : List Job) (marks : List (Option MarkView)) (place : ℕ) (report : List (ℕ × Why)) (digests : List (Option (List ℕ))) (digest : Option (List ℕ)) (job : Job)
+pub kept_more : (jobs : List Job) (marks : List (Option MarkView)) (place : ℕ) (report : List (ℕ × Why)) (digests : List (Option (List ℕ)))
+    (digest : Option (List ℕ)) (job : Job)
     (mark : Option MarkView) → ArePlanned jobs → IsSoFar jobs marks place report digests → slice_get jobs place ≡ Some job → slice_get marks place ≡ Some mark →
     IsWhy (map (digest_at digests) job.needs) job mark None → digest ≡ marked_digest mark → IsSoFar jobs marks (place + 1) report (digests ++ digest ∷ [])
 kept_more jobs marks place report digests digest job mark planned is here there reason marked =
@@ -149,7 +155,8 @@ reason_more jobs marks place report more digests others digest job mark (Some re
     (listed_more jobs marks place report digests job mark reason planned is here there why))
 
 -- needs are places that were reported
-pub needs_before : (jobs items : List Job) (place count : ℕ) (job : Job) → ArePlanned jobs → items ≡ jobs → place < length items → job ≡ get_or items place job →
+pub needs_before : (jobs items : List Job) (place count : ℕ) (job : Job) → ArePlanned jobs → items ≡ jobs → place < length items →
+    job ≡ get_or items place job →
     count ≡ place → All (λ need. need < count) job.needs
 needs_before jobs items place count job planned e within is long k d h =
     let there : slice_get jobs place ≡ Some job =
@@ -157,7 +164,8 @@ needs_before jobs items place count job planned e within is long k d h =
     let low = (planned.needs place job there).before k d h in omega arith
 
 -- one place more, as the loop reads it
-pub place_more : (jobs items : List Job) (marks : List (Option MarkView)) (place : ℕ) (report more : List (ℕ × Why)) (digests seen others : List (Option (List ℕ)))
+pub place_more : (jobs items : List Job) (marks : List (Option MarkView)) (place : ℕ) (report more : List (ℕ × Why))
+    (digests seen others : List (Option (List ℕ)))
     (digest : Option (List ℕ)) (job : Job) (mark : Option MarkView) (reason : Option Why) → ArePlanned jobs → items ≡ jobs → length marks ≡ length jobs →
     IsSoFar jobs marks place report digests → place < length items → job ≡ get_or items place job → mark ≡ get_or marks place mark → seen ≡ digests →
     IsWhy (map (digest_at seen) job.needs) job mark reason → digest ≡ cond (is_some reason) None (marked_digest mark) → more ≡ with_reason report place reason →
@@ -169,7 +177,8 @@ place_more jobs items marks place report more digests seen others digest job mar
     (slice_get-get_or marks place mark (omega arith) ∙ ap Some (sym marked))
     (subst (λ (ds : List (Option (List ℕ))). IsWhy (map (digest_at ds) job.needs) job mark reason) f why) stands g h
 
-pub whole_at : (jobs : List Job) (marks : List (Option MarkView)) (place : ℕ) (report : List (ℕ × Why)) (digests : List (Option (List ℕ))) → length marks ≡ length jobs →
+pub whole_at : (jobs : List Job) (marks : List (Option MarkView)) (place : ℕ) (report : List (ℕ × Why)) (digests : List (Option (List ℕ))) →
+    length marks ≡ length jobs →
     place ≡ length jobs → IsSoFar jobs marks place report digests → IsStaleReport jobs marks report
 whole_at jobs marks place report digests long e is =
     whole jobs marks report digests long (subst (λ (n : ℕ). IsSoFar jobs marks n report digests) e is)

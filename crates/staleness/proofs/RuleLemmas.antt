@@ -64,5 +64,6 @@ pub no_reason : (job : Job) (mark : MarkView) (outcomes : List Outcome) (why : O
 no_reason job mark outcomes why many e is =
     let fits : Describes mark job outcomes = (described mark job outcomes many).0 e in
     reason (map (λ (outcome : Outcome). Some outcome.digest) outcomes) job mark fits.described.options fits.described.sources
-    (no_change job.need_apps (map (λ (outcome : Outcome). Some outcome.digest) outcomes) mark.needs fits.described.apps (told_same mark.needs outcomes fits.outputs))
+    (no_change job.need_apps (map (λ (outcome : Outcome). Some outcome.digest) outcomes) mark.needs fits.described.apps
+    (told_same mark.needs outcomes fits.outputs))
     (Some mark) why is refl

@@ -10,7 +10,8 @@ ghost use Rattle.staleness.specs.Report.{IsWhy};
 /// A mark matches exactly the inputs that it describes: those with its options text, its source rows, its
 /// needs' apps and their output digests.
 pub fn matches_what_it_describes()
-    ensures { (mark : MarkView) (job : Job) (outcomes : List Outcome) → length outcomes ≡ length job.need_apps
+    ensures { (mark : MarkView) (job : Job) (outcomes : List Outcome)
+        → length outcomes ≡ length job.need_apps
         → IsTrue (matches mark job outcomes) ↔ Describes mark job outcomes }
 {}
 

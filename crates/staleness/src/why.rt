@@ -8,9 +8,10 @@ pub enum Why {
     NoMark,
     /// Its options text is another.
     Options,
-    /// The rows of this source differ, or only one of the two listings has one. It is the least such path.
+    /// The rows of this source differ, or only one of the two listings has it. It is the least such
+    /// path in byte order.
     Sources(RelPath),
-    /// The first need that is stale itself, that the mark doesn't have at its place, or whose marked outputs
-    /// have another digest than the mark says; else the first that only the mark has.
+    /// The first need that is stale itself, that the mark doesn't have at its place, or whose marked
+    /// outputs have another digest than the mark says; else the first that only the mark has.
     Need(AppName),
 }

@@ -20,7 +20,8 @@ loop-at-preserved c =
 pub returns-in-Some : goal.returns-in-Some
 returns-in-Some c =
     let found = c.in-Some.ensures.lookup.3 in
-    further_need c.args.job.now (map (digest_at c.args.digests.now) c.args.job.now.needs) c.args.needs.now c.loop-at.at c.as_slice-apps.result.now c.in-Some.need.now
+    further_need c.args.job.now (map (digest_at c.args.digests.now) c.args.job.now.needs) c.args.needs.now c.loop-at.at c.as_slice-apps.result.now
+    c.in-Some.need.now
     c.as_slice-apps.ensures (omega arith) c.loop-at.invariant found.0 (found.1 c.in-Some.need.now)
 
 pub returns-in-None : goal.returns-in-None

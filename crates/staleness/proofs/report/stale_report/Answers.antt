@@ -10,7 +10,8 @@ why-requires-clause-before c =
 pub loop-place-preserved : goal.loop-place-preserved
 loop-place-preserved c =
     place_more c.args.plan.now.jobs c.as_slice-job-items.result.now c.args.marks.now c.loop-place.place c.loop-place.report.items c.list.new.report.items
-    c.loop-place.digests.items c.as_slice.result.now c.push.new.self.items c.in_ok-digest.digest c.job-item.result c.index-marks-place.result c.in_ok-reason.reason
+    c.loop-place.digests.items c.as_slice.result.now c.push.new.self.items c.in_ok-digest.digest c.job-item.result c.index-marks-place.result
+    c.in_ok-reason.reason
     c.requires.planned c.as_slice-job-items.ensures c.requires.each c.loop-place.invariant (omega arith) c.job-item.is c.index-marks-place.is
     c.as_slice.ensures.value c.in_ok-reason.ensures c.in_ok-digest.ensures c.in_ok-list.ensures (search rules)
 
