@@ -86,6 +86,7 @@ pub trait Compiler: Meaning {
             ≡ Self.compile_of (content_of input.now.job.now input.now.needs.now)) }
         ensures cause { Counted (deaths self.old) (deaths self.new) (fails compile_blame result) }
         ensures called { calls self.new ≡ after_calls (calls self.old) (record {
-            content = content_of input.now.job.now input.now.needs.now;
-            died = fails compile_blame result } ∷ []) };
+          content = content_of input.now.job.now input.now.needs.now;
+          died = fails compile_blame result;
+        } ∷ []) };
 }

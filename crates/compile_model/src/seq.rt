@@ -46,10 +46,7 @@ impl<T: Drop> From<AllocFailed<T>> for SeqFault {
 }
 
 /// Compiles job after job. A job with a need that isn't built is skipped.
-#[tactic(auto, using(
-    crate::proofs::SeqLemmas::seq_take_more,
-    crate::proofs::CallLemmas::called_more,
-))]
+#[tactic(auto, using(crate::proofs::SeqLemmas::seq_take_more, crate::proofs::CallLemmas::called_more,))]
 pub fn seq_build<C: Compiler>(
     alloc: Global,
     plan: &Plan,

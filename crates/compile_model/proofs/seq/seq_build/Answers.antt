@@ -13,7 +13,7 @@ returns-in-Err-Died-clause-died g c =
     let slice = c.as_slice.ensures.value in
     let died = ap (λ fault. is_outside (compile_blame fault)) c.in-Err-Died.field-0-is in
     dies_at g.C.Meaning.compile_of c.args.plan.now.jobs _ _ c.loop-place.place c.job-item.result (rw (← deaths) (c.in-Err-Died.ensures.cause.rose died))
-      (rw (← jobs) c.loop-place-test.true) (rw (← jobs) c.job-item.is) (rw (← jobs, ← so_far, ← slice) (c.in-Err-Died.ensures.started died))
+    (rw (← jobs) c.loop-place-test.true) (rw (← jobs) c.job-item.is) (rw (← jobs, ← so_far, ← slice) (c.in-Err-Died.ensures.started died))
 
 pub returns-in-Err-Died-clause-calls : goal.returns-in-Err-Died-clause-calls
 returns-in-Err-Died-clause-calls g c =
@@ -23,5 +23,5 @@ returns-in-Err-Died-clause-calls g c =
     let slice = c.as_slice.ensures.value in
     let died = ap (λ fault. is_outside (compile_blame fault)) c.in-Err-Died.field-0-is in
     dies_of g.C.Meaning.compile_of c.args.plan.now.jobs _ _ c.loop-place.place c.job-item.result
-      (rw (← jobs) c.loop-place-test.true) (rw (← jobs) c.job-item.is)
-      (rw (← jobs, ← so_far, ← slice, ← calls) (c.in-Err-Died.ensures.died died))
+    (rw (← jobs) c.loop-place-test.true) (rw (← jobs) c.job-item.is)
+    (rw (← jobs, ← so_far, ← slice, ← calls) (c.in-Err-Died.ensures.died died))

@@ -9,6 +9,6 @@ invariant-loop-place g l = record {
   length : vec_len l.fates ≡ l.place;
   deaths : g.C.Compiler.deaths l.compiler ≡ g.C.Compiler.deaths l.fn.compiler;
   calls : g.C.Compiler.calls l.compiler
-    ≡ after_calls (g.C.Compiler.calls l.fn.compiler) (calls_of g.C.Meaning.compile_of (take l.place l.job-items));
+      ≡ after_calls (g.C.Compiler.calls l.fn.compiler) (calls_of g.C.Meaning.compile_of (take l.place l.job-items));
   jobs : l.job-items ≡ l.plan.jobs;
 }
