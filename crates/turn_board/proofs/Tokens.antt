@@ -10,7 +10,7 @@ use Rattle.turn_board.specs.declared.sight.Stage.TheVariants.{Idle, Waits, Has}
 use Rattle.atomic_table.specs.Seated.{TableId}
 use Rattle.turn_board.specs.Histories.{Account, made_by, Continues, Grows}
 use Rattle.turn_board.specs.Sights.{seated, at_stage, ticket_of, tally_seen, first_tally, first_of, split_off, splitter, blank}
-use Rattle.turn_board.specs.Turn.{IsWaiting, looks, took, TurnRule, draws, counts, passes, opens}
+use Rattle.turn_board.specs.Turn.{IsIdle, IsWaiting, looks, took, TurnRule, draws, drew, counts, passes, opens}
 use Rattle.turn_board.specs.Seats.{fresh_seat, numbered}
 use Rattle.turn_board.specs.Inside.{tally_at, SeatIs, IsOut, MayCount, counted_if, seat_view}
 use Rattle.turn_board.proofs.Counting.{counts_at, passes_at}
@@ -43,12 +43,18 @@ module _ {X O E : Type 0} (account : Account X O E) where
       let o : IsOut false m = subst (λ b. IsOut b m) e i.1 in
       λ k. ((i.0.alone ∙ ap (λ st. seated 1 m.0.next st (tally_at number m.0)) o.0) k, o.1 k)
 
-  abbrev pub waiting : ℕ → ℕ → M → M
+  pub is_idle : (number : ℕ) (out : Bool) (m : M) → SeatIs account.maker number out m → out ≡ false → IsIdle m
+  is_idle number out m i e = (m.0.next, tally_at number m.0, is_at_home number out m i e)
+
+  abbrev waiting : ℕ → ℕ → M → M
   waiting number t m = (seated 1 m.0.next (Waits t) (tally_at number m.0), [])
 
-  pub drawn : (number t : ℕ) (out : Bool) (m m' : M) → SeatIs account.maker number out m → out ≡ false → m' ≡ (at_stage (Waits t) m.0, m.1)
-      → m' ≡ waiting number t m
-  drawn number t out m m' i e is = is ∙ ap (λ (z : M). (at_stage (Waits t) z.0, z.1)) (is_at_home number out m i e)
+  drawn : (number ticket : ℕ) (out : Bool) (m m' : M) → SeatIs account.maker number out m → out ≡ false → (d : drew ticket m m')
+      → m' ≡ waiting number d.0 m
+  drawn number ticket out m m' i e d = d.2 ∙ ap (λ (z : M). (at_stage (Waits d.0) z.0, z.1)) (is_at_home number out m i e)
+
+  pub is_waiting : (number ticket : ℕ) (out : Bool) (m m' : M) → SeatIs account.maker number out m → out ≡ false → drew ticket m m' → IsWaiting ticket m'
+  is_waiting number ticket out m m' i e d = (m.0.next, d.0, tally_at number m.0, drawn number ticket out m m' i e d, d.1)
 
   -- a seat whose turn it is, with a value in its slot
   abbrev pub having_slot : ℕ → ℕ → Tally O E → X → M
@@ -70,16 +76,19 @@ module _ {X O E : Type 0} (account : Account X O E) where
   abbrev pub outside : ℕ → ℕ → ℕ → Sight O E → List E → M
   outside number nx t v history = (seated 1 nx (Has t) (tally_seen (tally_at number v) history), (0, None) ∷ [])
 
-  pub takes_out : (number t : ℕ) (m m₁ m₂ m₃ : M) (y : Option X) → m₁ ≡ waiting number t m → took account m₁ m₂ → m₂.1 ≡ (0, y) ∷ rest m₂.1
-      → m₃ ≡ (m₂.0, (0, None) ∷ rest m₂.1)
+  -- the seat drew a ticket, it came to its turn, and the value is taken out
+  pub takes_out : (number ticket : ℕ) (out : Bool) (m m₁ m₂ m₃ : M) (y : Option X) → SeatIs account.maker number out m → out ≡ false → (d : drew ticket m m₁)
+      → took account m₁ m₂ → m₂.1 ≡ (0, y) ∷ rest m₂.1 → m₃ ≡ (m₂.0, (0, None) ∷ rest m₂.1)
       → (x : X) × (y ≡ Some x) × ((first_tally m.0.tallies).opening ≡ Some (account.opening x))
-      × Continues account.maker number (first_tally m.0.tallies).seen (account.history x) × (m₃ ≡ outside number m.0.next t m.0 (account.history x))
-  takes_out number t m m₁ m₂ m₃ y d told found is =
-      let k = subst (λ z. took account z m₂) d told in
+      × Continues account.maker number (first_tally m.0.tallies).seen (account.history x) × (m₃ ≡ outside number m.0.next d.0 m.0 (account.history x))
+  takes_out number ticket out m m₁ m₂ m₃ y i e d told found is =
+      let k = subst (λ z. took account z m₂) (drawn number ticket out m m₁ i e d) told in
       (k.0, same_slot (rest m₂.1) [] 0 y (Some k.0) (sym found ∙ ap (λ (z : M). z.1) k.3), k.1, k.2, is ∙ ap (λ (z : M). (z.0, (0, None) ∷ rest z.1)) k.3)
 
-  pub has_slot : (number t : ℕ) (m m₁ m₂ : M) → m₁ ≡ waiting number t m → took account m₁ m₂ → (y : Option X) × (m₂.1 ≡ (0, y) ∷ rest m₂.1)
-  has_slot number t m m₁ m₂ d told = let k = subst (λ z. took account z m₂) d told in (Some k.0, slot_is m₂.1 0 (Some k.0) (ap (λ (z : M). z.1) k.3))
+  pub has_slot : (number ticket : ℕ) (out : Bool) (m m₁ m₂ : M) → SeatIs account.maker number out m → out ≡ false → drew ticket m m₁ → took account m₁ m₂
+      → (y : Option X) × (m₂.1 ≡ (0, y) ∷ rest m₂.1)
+  has_slot number ticket out m m₁ m₂ i e d told = let k = subst (λ z. took account z m₂) (drawn number ticket out m m₁ i e d) told in
+      (Some k.0, slot_is m₂.1 0 (Some k.0) (ap (λ (z : M). z.1) k.3))
 
   pub is_outside : (number t : ℕ) (out : Bool) (m m₃ : M) (history : List E) → SeatIs account.maker number out m
       → Continues account.maker number (first_tally m.0.tallies).seen history → m₃ ≡ outside number m.0.next t m.0 history
@@ -176,11 +185,11 @@ module _ {X O E : Type 0} (account : Account X O E) where
     abbrev Rule : State (Option X) (Sight O E) → Type 0
     Rule = TurnRule account n
 
-    pub draws_from : (slots id number : ℕ) (out : Bool) (m : M) → SeatIs account.maker number out m → out ≡ false
-        → Allows Rule slots id m 0 (λ k. (k + 1) % 18446744073709551616) (draws (step slots 0 1 0 none) m)
-    draws_from slots id number out m i e = subst (λ z. Allows Rule slots id z 0 (λ k. (k + 1) % 18446744073709551616) (draws (step slots 0 1 0 none) z))
-        (sym (is_at_home number out m i e))
-        (draws_at account n slots id 1 m.0.next (tally_at number m.0) [] (omega arith))
+    pub draws_from : (slots id old new : ℕ) (m : M) → IsIdle m → new ≡ (old + 1) % 18446744073709551616
+        → Allows Rule slots id m 0 (λ k. either (eqb k old) new k) (draws (step slots 0 old new none) m)
+    draws_from slots id old new m w next = subst (λ z. Allows Rule slots id z 0 (λ k. either (eqb k old) new k) (draws (step slots 0 old new none) z))
+        (sym w.2)
+        (draws_at account n slots id 1 w.0 old new w.1 [] (omega arith) next)
 
     pub looks_from : (slots id ticket : ℕ) (m : M) → IsWaiting ticket m → Allows Rule slots id m 1 (λ k. k) (looks account (step slots 1 0 0 none) m)
     looks_from slots id ticket m w = subst (λ z. Allows Rule slots id z 1 (λ k. k) (looks account (step slots 1 0 0 none) z)) (sym w.3)
