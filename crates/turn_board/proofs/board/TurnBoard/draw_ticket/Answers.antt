@@ -1,7 +1,7 @@
 use Rattle.std.proofs.Common.{rules, ◌∙◌, sym, ap, subst}
 use Rattle.turn_board.specs.Histories.{account_of}
 use Rattle.turn_board.specs.Turn.{IsIdle, drew}
-use Rattle.turn_board.proofs.Tokens.{draws_from}
+use Rattle.turn_board.proofs.Allowed.{draws_from}
 use Rattle.turn_board.proofs.board.TurnBoard.draw_ticket.Goals as goal
 
 pub compare_exchange-found-requires : goal.compare_exchange-found-requires
