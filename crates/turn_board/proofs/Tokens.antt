@@ -1,5 +1,5 @@
 -- What the steps of a seat tell, with what is always true of it.
-use Rattle.std.proofs.Common.{◌≡◌, ◌≢◌, ℕ, suc, ◌+◌, ◌-◌, ◌%◌, ◌^◌, ◌<◌, eqb, List, [], ◌∷◌, ◌++◌, length, Bool, true, false, refl, sym, ap, ◌∙◌, subst, arith}
+use Rattle.std.proofs.Common.{◌≡◌, ◌≢◌, ℕ, suc, ◌+◌, ◌-◌, ◌%◌, ◌^◌, ◌<◌, ◌≤◌, List, [], ◌∷◌, ◌++◌, length, Bool, true, false, refl, sym, ap, ◌∙◌, subst, arith}
 use Rattle.std.specs.Prelude.{Option, Some, None, if◌then◌else◌}
 use mathlib.Core.Option.{some, none}
 use Rattle.atomic_table.specs.Table.{Me, step, rest}
@@ -178,6 +178,14 @@ module _ {X O E : Type 0} (account : Account X O E) where
 
   pub split_is : (p nx : ℕ) (o : Option O) (m m' : M) → m ≡ (seated p nx Idle (first_of o), []) → m' ≡ (split_off m.0, []) → m' ≡ fresh_me 0 o nx
   split_is p nx o m m' e is = is ∙ ap (λ (z : M). (split_off z.0, [])) e
+
+  -- the first seat, once it has no part to give away
+  pub one_left : (seats number nx : ℕ) (o : Option O) (m : M) → m ≡ (seated ((seats - number) + 1) nx Idle (first_of o), []) → seats ≤ number
+      → m ≡ fresh_me nx o 1
+  one_left seats number nx o m e last = e ∙ ap (λ k. (seated k nx Idle (first_of o), [])) one
+    where
+      one : (seats - number) + 1 ≡ 1
+      one = omega arith
 
   pub splitter_is : (p p' nx nx' : ℕ) (o : Option O) (m m' : M) → m ≡ (seated p nx Idle (first_of o), []) → m' ≡ (splitter m.0, m.1) → p ≡ p' + 1
       → nx' ≡ nx + 1 → m' ≡ (seated p' nx' Idle (first_of o), [])
