@@ -1,14 +1,14 @@
 -- What the steps of a seat tell, with what is always true of it.
 use Rattle.std.proofs.Common.{◌≡◌, ◌≢◌, ℕ, suc, ◌+◌, ◌-◌, ◌%◌, ◌^◌, ◌<◌, ◌≤◌, List, [], ◌∷◌, ◌++◌, length, Bool, true, false, refl, sym, ap, ◌∙◌, subst, arith}
 use Rattle.std.specs.Prelude.{Option, Some, None, if◌then◌else◌}
-use mathlib.Core.Option.{some, none}
+use mathlib.Core.Option.{none}
 use Rattle.atomic_table.specs.Table.{Me, step, rest}
 use Rattle.turn_board.specs.declared.sight.Tally.{Tally}
 use Rattle.turn_board.specs.declared.sight.Sight.{Sight}
 use Rattle.turn_board.specs.declared.sight.Stage.TheVariants.{Idle, Waits, Has}
 use Rattle.atomic_table.specs.Seated.{TableId}
 use Rattle.turn_board.specs.Histories.{Account, made_by, Continues, Grows}
-use Rattle.turn_board.specs.Sights.{seated, at_stage, ticket_of, tally_seen, first_tally, first_of, split_off, splitter, blank}
+use Rattle.turn_board.specs.Sights.{seated, at_stage, ticket_of, tally_seen, first_tally, first_of, split_off, splitter}
 use Rattle.turn_board.specs.Turn.{IsIdle, IsWaiting, looks, took, drew}
 use Rattle.turn_board.specs.Seats.{fresh_seat, numbered}
 use Rattle.turn_board.specs.Inside.{tally_at, SeatIs, IsOut, MayCount, counted_if, seat_view}

@@ -1,4 +1,4 @@
-use Rattle.std.proofs.Common.{rules, ◌∙◌, true, sym, ap, subst}
+use Rattle.std.proofs.Common.{◌∙◌, true, sym, ap, subst}
 use Rattle.std.specs.Prelude.{Some}
 use Rattle.turn_board.specs.Histories.{account_of, Continues}
 use Rattle.turn_board.specs.Sights.{first_tally}
