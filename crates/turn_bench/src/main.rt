@@ -8,10 +8,9 @@ ghost use Rattle.std.specs.Prelude.{◌≡◌, ◌≤◌, length, false, IfSome}
 ghost use Rattle.std.specs.List.{All};
 
 use std::alloc::{AllocError, Global};
-use std::env;
-use std::io;
 use std::sync::Wait;
 use std::thread::{Threads, for_each_mut};
+use std::{env, io};
 use turn_board::{Counted, TurnBoard, TurnSeat};
 
 // The seats that had a turn, in the order of the turns.
@@ -48,12 +47,7 @@ fn take_turn<R: Wait>(rt: &R, board: &TurnBoard<Turns>, seat: &mut TurnSeat<Turn
     }
 }
 
-fn take_turns<R: Wait>(
-    rt: &R,
-    board: &TurnBoard<Turns>,
-    seat: &mut TurnSeat<Turns>,
-    count: u64,
-)
+fn take_turns<R: Wait>(rt: &R, board: &TurnBoard<Turns>, seat: &mut TurnSeat<Turns>, count: u64)
     requires { (seat.old.board ≡ board.now.board) × (seat.old.has_value ≡ false) }
     ensures { (seat.new.board ≡ seat.old.board) × (seat.new.has_value ≡ false) }
 {
@@ -66,9 +60,7 @@ fn take_turns<R: Wait>(
 fn begun(alloc: Global, seats: u32) -> Option<(TurnBoard<Turns>, Vec<TurnSeat<Turns>>)>
     requires { (1 ≤ seats) × (seats ≤ 64) }
     ensures all { IfSome result (λ t. length t.1.items ≡ t.0.seats) }
-    ensures each {
-        IfSome result (λ t. All (λ s. (s.board ≡ t.0.board) × (s.has_value ≡ false)) t.1.items)
-    }
+    ensures each { IfSome result (λ t. All (λ s. (s.board ≡ t.0.board) × (s.has_value ≡ false)) t.1.items) }
 {
     let none = Turns {
         makers: Vec::new(alloc),
