@@ -60,7 +60,8 @@ fn take_turns<R: Wait>(rt: &R, board: &TurnBoard<Turns>, seat: &mut TurnSeat<Tur
 fn begun(alloc: Global, seats: u32) -> Option<(TurnBoard<Turns>, Vec<TurnSeat<Turns>>)>
     requires { (1 ≤ seats) × (seats ≤ 64) }
     ensures all { IfSome result (λ t. length t.1.items ≡ t.0.seats) }
-    ensures each { IfSome result (λ t. All (λ s. (s.board ≡ t.0.board) × (s.has_value ≡ false)) t.1.items) }
+    ensures each { IfSome result (λ t. All (λ s. (s.board ≡ t.0.board) × (s.has_value ≡ false))
+        t.1.items) }
 {
     let none = Turns {
         makers: Vec::new(alloc),
