@@ -40,7 +40,8 @@ impl<M: Meaning> Model for Core<M> {
 }
 
 impl<M: Meaning> Core<M> {
-    /// A build in which nothing has happened. It takes all the memory that its steps need.
+    /// A build in which nothing has happened, with what was kept of each job or none. It takes all the
+    /// memory that its steps need, and an error is want of memory.
     pub fn begin(
         alloc: Global,
         plan: Shared<Plan>,
@@ -63,7 +64,8 @@ impl<M: Meaning> Core<M> {
         })
     }
 
-    /// Makes an event, if it is legal. Otherwise nothing changes.
+    /// Makes an event, if it is legal. Otherwise nothing changes, and the answer is the first cause. The
+    /// fate is there for `Finish` and `Fail`, and holds the event's outcome.
     pub fn step(&mut self, event: Event, fate: Option<Shared<Outcome>>) -> Result<(), Illegal>
         requires fate { fate ≡ outcome_of event }
         requires meant { M.honest → IsLegal self.old.opening (state_now self.old) event
@@ -97,6 +99,7 @@ impl<M: Meaning> Core<M> {
         self.table.next()
     }
 
+    /// What is compiled.
     pub fn plan(&self) -> &Plan
         ensures value { result.now ≡ self.now.opening.plan }
         ensures planned { ArePlanned self.now.opening.plan.jobs }
@@ -104,6 +107,7 @@ impl<M: Meaning> Core<M> {
         self.table.plan.get()
     }
 
+    /// The events so far, the first one first.
     pub fn history(&self) -> &[Event]
         ensures value { result.now ≡ self.now.events }
         ensures legal { Legal self.now.opening self.now.events }
