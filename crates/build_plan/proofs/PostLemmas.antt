@@ -17,15 +17,9 @@ use Rattle.dep_rows.specs.Rows.{IsWinner}
 use Rattle.project_file.specs.declared.settings.Settings.{Settings}
 use Rattle.build_plan.specs.declared.found.Found.{Found}
 use Rattle.build_plan.specs.declared.post.Post.{Post}
-use Rattle.build_plan.specs.declared.recipe.Recipe.{Recipe}
-use Rattle.build_plan.specs.declared.scene.Needs.{Needs}
-use Rattle.mx_base.specs.declared.file.File.{File}
-use Rattle.compile_model.specs.declared.job.Job.{Job}
 use Rattle.build_plan.specs.Found.{IsFoundAt}
-use Rattle.build_plan.specs.Jobs.{Schedule, places_in}
-use Rattle.build_plan.specs.Needs.{apps_of}
-use Rattle.build_plan.specs.Recipes.{IsRecipe}
-use Rattle.build_plan.specs.Scenes.{IsPost, IsScene, Scenery, StandsBefore, job_from, job_of_parts}
+use Rattle.build_plan.specs.Jobs.{places_in}
+use Rattle.build_plan.specs.Scenes.{IsPost, IsScene, Scenery, StandsBefore}
 use Rattle.build_plan.proofs.PlannedLemmas.{position_of_node}
 use Rattle.build_plan.proofs.SceneLemmas.{long_graph}
 use Rattle.build_plan.proofs.SearchLemmas.{zip_get}
@@ -120,10 +114,3 @@ places_more order nodes i old new rank within is pushed so_far =
     ∙ ap (λ (l : List ℕ). places_in order (take i nodes) ++ l) (sym (one_place (λ node. position (nat_eq node) order) (get_or nodes i 0) rank is))
     ∙ sym (filter_map-append (λ node. position (nat_eq node) order) (take i nodes) (get_or nodes i 0 ∷ []))
     ∙ ap (places_in order) (sym (take_more nodes i 0 within))
-
--- by a recipe for it and its needs a job is that of its winner
-pub parts_give : (schedule : Schedule) (post : Post) (recipe : Recipe) (needs : Needs) (sources : List File) (job : Job) → job ≡ job_of_parts post recipe needs sources
-    → IsRecipe schedule.settings post sources recipe → needs.places ≡ places_in schedule.order post.reached.items
-    → needs.apps ≡ apps_of schedule.rows schedule.places post.reached.items → job ≡ job_from schedule post sources
-parts_give schedule post recipe needs sources job is made places apps =
-    is ∙ cc (made.version, made.how, made.options, made.system_env, places, apps)

@@ -115,7 +115,6 @@ fn if_sent(job: Job) -> Option<Job>
 }
 
 /// The job of a winner with these sources.
-#[tactic(auto, using(crate::proofs::PostLemmas::parts_give))]
 fn described(
     alloc: Global,
     scene: &Scene<'_>,
