@@ -1,0 +1,15 @@
+pub mod ApartLemmas
+pub mod AsciiLemmas
+pub mod BackLemmas
+pub mod EntryLemmas
+pub mod FactLemmas
+pub mod OneLemmas
+pub mod OptionLemmas
+pub mod OrderLemmas
+pub mod PrintLemmas
+pub mod ReadLemmas
+pub mod SomeLemmas
+pub mod SortLemmas
+pub mod TermLemmas
+pub mod VersionLemmas
+pub mod ViewLemmas
