@@ -8,6 +8,7 @@
 mod compilers;
 mod fields;
 mod graphs;
+mod locks;
 mod manifests;
 mod messages;
 mod mortal;
@@ -22,6 +23,7 @@ mod writable;
 use compilers::{command_case, manager_case, settings_case};
 use fields::{Fault, fields_of};
 use graphs::{closure_case, order_case};
+use locks::lock_case;
 use manifests::{decls_case, manifest_case, project_case};
 use messages::{message_case, write_case};
 use projects::{plan_case, run_case};
@@ -77,6 +79,7 @@ fn answer(alloc: Global, out: &mut String, line: &str) -> Result<(), Fault> {
         "decls" => decls_case(alloc, out, texts),
         "project" => project_case(alloc, out, texts),
         "manifest" => manifest_case(alloc, out, texts),
+        "lock" => lock_case(alloc, out, texts),
         "settings" => settings_case(alloc, out, texts),
         "manager" => manager_case(alloc, out, texts),
         "command" => command_case(alloc, out, texts),
