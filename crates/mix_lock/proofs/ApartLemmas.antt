@@ -26,7 +26,7 @@ apart_test : (a b : List ℕ) → (a ≡ b → ⊥) → bytes_eq a b ≡ false
 apart_test a b differ = at (bytes_eq a b) (bytes_eq-Decides a b)
   where
     at : (test : Bool) → Decides test (a ≡ b) → test ≡ false
-    at true same = absurd (differ same)
+    at true same = absurd (differ (same.0 refl))
     at false differs = refl
 
 apart_all : (key : Term) (app : List ℕ) (pairs : List Pair) (entries : List AppEntry) → key ≡ term.Atom app → IsNone key (keys_of pairs) → AreEntries pairs (Ok entries) → AllByRecursion (λ other. bytes_eq app other ≡ false) (apps_of entries)

@@ -99,13 +99,13 @@ three_linked (a ∷ b ∷ c ∷ []) l e =
     let name = linked (option_and_then app_of (under (codes "hex") options)) (says_hexpm (under (codes "repo") options)) (option_and_then truth_of (under (codes "optional") options)) l e in
     let value = chained (under (codes "hex") options) app_of l.package name in
     app_named value.value l.package value.then_
-three_linked (a ∷ b ∷ c ∷ d ∷ more) l e = absurd (none-some l e)
+three_linked (a ∷ b ∷ c ∷ d ∷ others) l e = absurd (none-some l e)
 
 link_named : (t : Term) (l : Link) → link_of t ≡ Some l → IsTrue (is_app_name l.package)
 link_named t l e = let c = chained (keywords_of t) three l e in three_linked c.value l c.then_
 
 record Parts (app : Option (List ℕ)) (l : Option Link) (d : LockDep) : Type 0 where
-  app : app ≡ Some d.app
+  named : app ≡ Some d.app
   link : Link
   linked : l ≡ Some link
   same : link.package ≡ d.package
@@ -113,7 +113,7 @@ record Parts (app : Option (List ℕ)) (l : Option Link) (d : LockDep) : Type 0 
 parted : (app requirement : Option (List ℕ)) (l : Option Link) (d : LockDep) → dep app requirement l ≡ Some d → Parts app l d
 parted (Some app) (Some requirement) (Some l) d e =
     let is = same_Some _ d e in
-    record { app = ap (λ (x : LockDep). Some x.app) is; link = l; linked = refl; same = ap (λ (x : LockDep). x.package) is }
+    record { named = ap (λ (x : LockDep). Some x.app) is; link = l; linked = refl; same = ap (λ (x : LockDep). x.package) is }
 parted (Some app) (Some requirement) None d e = absurd (none-some d e)
 parted (Some app) None l d e = absurd (none-some d e)
 parted None requirement l d e = absurd (none-some d e)
@@ -121,14 +121,14 @@ parted None requirement l d e = absurd (none-some d e)
 by_named : (app requirement options : Term) (d : LockDep) → dep_by app requirement options ≡ Some d → AreNamed d
 by_named app requirement options d e =
     let p = parted (app_of app) (string_of requirement) (link_of options) d e in
-    (app_named app d.app p.app, subst (λ (x : List ℕ). IsTrue (is_app_name x)) p.same (link_named options p.link p.linked))
+    (app_named app d.app p.named, subst (λ (x : List ℕ). IsTrue (is_app_name x)) p.same (link_named options p.link p.linked))
 
 in_named : (ts : List Term) (d : LockDep) → dep_in ts ≡ Some d → AreNamed d
 in_named [] d e = absurd (none-some d e)
 in_named (a ∷ []) d e = absurd (none-some d e)
 in_named (a ∷ b ∷ []) d e = absurd (none-some d e)
 in_named (a ∷ b ∷ c ∷ []) d e = by_named a b c d e
-in_named (a ∷ b ∷ c ∷ x ∷ more) d e = absurd (none-some d e)
+in_named (a ∷ b ∷ c ∷ x ∷ others) d e = absurd (none-some d e)
 
 dep_named : (t : Term) (d : LockDep) → dep_of t ≡ Some d → AreNamed d
 unfolding dep_of
@@ -147,26 +147,26 @@ sound_deps (d ∷ deps) named reads = (record { app = named.0.0; requirement = r
 -- ---- releases
 
 record Released (name version inner : Option (List ℕ)) (r : Release) : Type 0 where
-  name : name ≡ Some r.name
-  version : version ≡ Some r.version
-  inner : inner ≡ Some r.inner
+  named : name ≡ Some r.name
+  numbered : version ≡ Some r.version
+  summed : inner ≡ Some r.inner
 
 released : (name version inner : Option (List ℕ)) (r : Release) → release name version inner ≡ Some r → Released name version inner r
 released (Some name) (Some version) (Some inner) r e =
     let is = same_Some _ r e in
-    record { name = ap (λ (x : Release). Some x.name) is; version = ap (λ (x : Release). Some x.version) is; inner = ap (λ (x : Release). Some x.inner) is }
+    record { named = ap (λ (x : Release). Some x.name) is; numbered = ap (λ (x : Release). Some x.version) is; summed = ap (λ (x : Release). Some x.inner) is }
 released (Some name) (Some version) None r e = absurd (none-some r e)
 released (Some name) None inner r e = absurd (none-some r e)
 released None version inner r e = absurd (none-some r e)
 
 record Built (managers : Option (List (List ℕ))) (deps : Option (List LockDep)) (b : Build) : Type 0 where
-  managers : managers ≡ Some b.managers
-  deps : deps ≡ Some b.deps
+  managed : managers ≡ Some b.managers
+  needed : deps ≡ Some b.deps
 
 built : (managers : Option (List (List ℕ))) (deps : Option (List LockDep)) (b : Build) → build managers deps ≡ Some b → Built managers deps b
 built (Some managers) (Some deps) b e =
     let is = same_Some _ b e in
-    record { managers = ap (λ (x : Build). Some x.managers) is; deps = ap (λ (x : Build). Some x.deps) is }
+    record { managed = ap (λ (x : Build). Some x.managers) is; needed = ap (λ (x : Build). Some x.deps) is }
 built (Some managers) None b e = absurd (none-some b e)
 built None deps b e = absurd (none-some b e)
 
@@ -177,18 +177,18 @@ abbrev build_in : HexEntry → Build
 build_in e = record { managers = e.managers; deps = e.deps }
 
 record Entered (r : Release) (b : Option Build) (outer : Option (List ℕ)) (e : HexEntry) : Type 0 where
-  release : r ≡ release_in e
-  build : b ≡ Some (build_in e)
-  outer : outer ≡ Some e.outer
+  released_as : r ≡ release_in e
+  built_as : b ≡ Some (build_in e)
+  summed : outer ≡ Some e.outer
   repo : e.repo ≡ codes "hexpm"
 
 entered : (r : Release) (b : Option Build) (repo : Bool) (outer : Option (List ℕ)) (e : HexEntry) → hex_entry r b repo outer ≡ Some e → Entered r b outer e
 entered r (Some b) true (Some outer) e is =
     let same = same_Some _ e is in
     record {
-      release = ap release_in same;
-      build = ap (λ (x : HexEntry). Some (build_in x)) same;
-      outer = ap (λ (x : HexEntry). Some x.outer) same;
+      released_as = ap release_in same;
+      built_as = ap (λ (x : HexEntry). Some (build_in x)) same;
+      summed = ap (λ (x : HexEntry). Some x.outer) same;
       repo = ap (λ (x : HexEntry). x.repo) (sym same);
     }
 entered r (Some b) true None e is = absurd (none-some e is)
@@ -211,7 +211,7 @@ sound_release : (name version inner : Term) (r : Release) → release_by name ve
 unfolding release_by
 sound_release name version inner r e =
     let parts = released (app_of name) (version_of version) (bytes_of inner) r e in
-    record { name = app_named name r.name parts.name; version = version_is version r.version parts.version; inner = bytes_are inner r.inner parts.inner }
+    record { name = app_named name r.name parts.named; version = version_is version r.version parts.numbered; inner = bytes_are inner r.inner parts.summed }
 
 record SoundBuild (b : Build) : Type 0 where
   managers : AllByRecursion (λ n. IsTrue (is_app_name n)) b.managers
@@ -221,13 +221,13 @@ sound_build : (managers deps : Term) (b : Build) → build_by managers deps ≡ 
 unfolding build_by
 sound_build managers deps b e =
     let parts = built (names_of managers) (deps_of deps) b e in
-    record { managers = names_named managers b.managers parts.managers; deps = deps_named deps b.deps parts.deps }
+    record { managers = names_named managers b.managers parts.managed; deps = deps_named deps b.deps parts.needed }
 
 sound_entry : (r : Release) (managers deps : Term) (repo : Bool) (outer : Option Term) (e : HexEntry) → SoundRelease r → hex_entry r (build_by managers deps) repo (outer_of outer) ≡ Some e → AreRead e.deps → IsHexEntry e
 sound_entry r managers deps repo outer e sound is reads =
     let parts = entered r (build_by managers deps) repo (outer_of outer) e is in
-    let first = subst SoundRelease parts.release sound in
-    let second = sound_build managers deps (build_in e) parts.build in
+    let first = subst SoundRelease parts.released_as sound in
+    let second = sound_build managers deps (build_in e) parts.built_as in
     record {
       name = first.name;
       version = first.version;
@@ -235,7 +235,7 @@ sound_entry r managers deps repo outer e sound is reads =
       managers = second.managers;
       deps = sound_deps e.deps second.deps reads;
       repo = parts.repo;
-      outer = outer_are outer e.outer parts.outer;
+      outer = outer_are outer e.outer parts.summed;
     }
 
 sound_rest : (r : Release) (rest : List Term) (e : HexEntry) → SoundRelease r → with_rest r rest ≡ Some e → AreRead e.deps → IsHexEntry e
@@ -245,7 +245,7 @@ sound_rest r (a ∷ []) e sound is reads = absurd (none-some e is)
 sound_rest r (a ∷ b ∷ []) e sound is reads = absurd (none-some e is)
 sound_rest r (managers ∷ deps ∷ repo ∷ []) e sound is reads = sound_entry r managers deps (is_hexpm repo) None e sound is reads
 sound_rest r (managers ∷ deps ∷ repo ∷ outer ∷ []) e sound is reads = sound_entry r managers deps (is_hexpm repo) (Some outer) e sound is reads
-sound_rest r (a ∷ b ∷ c ∷ d ∷ x ∷ more) e sound is reads = absurd (none-some e is)
+sound_rest r (a ∷ b ∷ c ∷ d ∷ x ∷ others) e sound is reads = absurd (none-some e is)
 
 sound_in : (ts : List Term) (e : HexEntry) → hex_in ts ≡ Some e → AreRead e.deps → IsHexEntry e
 sound_in [] e is reads = absurd (none-some e is)

@@ -89,7 +89,7 @@ entries_one (later {entry = x} is rest) (refused {e = e} also) = absurd (err_not
 entries_one (later {e = d} is rest) (later {e = e} also others) = entries_one rest others
 entries_one (later {e = d} is rest) (more {entries = ys} also others) = absurd (err_not_ok d ys (entries_one rest others))
 entries_one (more {entry = x} is rest) (refused {e = e} also) = absurd (err_not_ok e x (pair_one also is))
-entries_one (more {entries = xs} is rest) (later {e = e} also others) = absurd (err_not_ok e xs (entries_one others rest))
+entries_one (more {entries = xs} is rest) (later {e = e} also others) = absurd (err_not_ok e xs (sym (entries_one rest others)))
 entries_one (more {entry = x} {entries = xs} is rest) (more {entry = y} {entries = ys} also others) =
     ap (λ (entry : AppEntry). Ok (entry ∷ xs)) (ok_one x y (pair_one is also))
     ∙ ap (λ (entries : List AppEntry). Ok (y ∷ entries)) (ok_one xs ys (entries_one rest others))

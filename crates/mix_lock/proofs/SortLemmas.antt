@@ -73,19 +73,18 @@ swapped x y ys = IsPermutation-append_left ys (x ∷ y ∷ []) (y ∷ x ∷ []) 
 
 inserted : (x : AppEntry) (ys : List AppEntry) → AreInOrder ys → AllByRecursion (λ y. bytes_eq x.0 y.0 ≡ false) ys → Inserted x ys
 inserted x [] order apart = record { result = x ∷ []; same = IsPermutation-refl (x ∷ []); in_order = (tt, tt); before = λ app less before. (less, tt) }
-inserted x (y ∷ ys) order apart = at (text_cmp x.0 y.0) refl
+inserted x (y ∷ ys) order apart = at (text_cmp x.0 y.0) refl (inserted x ys order.1 apart.1)
   where
-    at : (o : Ordering) → text_cmp x.0 y.0 ≡ o → Inserted x (y ∷ ys)
-    at Less e = record {
+    at : (o : Ordering) → text_cmp x.0 y.0 ≡ o → Inserted x ys → Inserted x (y ∷ ys)
+    at Less e rest = record {
       result = x ∷ y ∷ ys;
       same = IsPermutation-refl (x ∷ y ∷ ys);
       in_order = ((e, below_all x.0 y.0 ys e order.0), order);
       before = λ app less before. (less, before);
     }
-    at Equal e = absurd (true≢false (sym (ap is_eq e) ∙ is_eq-slice_cmp x.0 y.0 ∙ apart.0))
-    at Greater e =
+    at Equal e rest = absurd (true≢false (sym (ap is_eq e) ∙ is_eq-slice_cmp x.0 y.0 ∙ apart.0))
+    at Greater e rest =
         let less : text_cmp y.0 x.0 ≡ Less = nat_list_cmp_total.antisymm y.0 x.0 ∙ ap ordering_reverse e in
-        let rest = inserted x ys order.1 apart.1 in
         record {
           result = y ∷ rest.result;
           same = IsPermutation-trans (x ∷ y ∷ ys) (y ∷ x ∷ ys) (y ∷ rest.result) (swapped x y ys) (IsPermutation-cons y (x ∷ ys) rest.result rest.same);

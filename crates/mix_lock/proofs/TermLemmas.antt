@@ -139,13 +139,16 @@ build_back e is =
     ap (λ (x : Option (List (List ℕ))). build x (deps_of (Listed (map dep_term e.deps)))) (names_back e.managers is.managers)
     ∙ ap (λ (x : Option (List LockDep)). build (Some e.managers) x) (deps_back e.deps is.deps)
 
+abbrev with_repo : HexEntry → List ℕ → Option HexEntry
+with_repo e repo = Some (record { name = e.name; version = e.version; inner = e.inner; managers = e.managers; deps = e.deps; repo = repo; outer = e.outer })
+
 rest_back : (e : HexEntry) → IsHexEntry e → with_rest (release_in e) (Listed (map Atom e.managers) ∷ Listed (map dep_term e.deps) ∷ Str e.repo ∷ bytes_term e.outer ∷ []) ≡ Some e
 unfolding with_rest
 rest_back e is =
     ap (λ (x : Option Build). hex_entry (release_in e) x (is_hexpm (Str e.repo)) (outer_of (Some (bytes_term e.outer)))) (build_back e is)
     ∙ ap (λ (x : Bool). hex_entry (release_in e) (Some (build_in e)) x (outer_of (Some (bytes_term e.outer)))) (hexpm_back e.repo is.repo)
     ∙ ap (λ (x : Option (List ℕ)). hex_entry (release_in e) (Some (build_in e)) true x) (bytes_back e.outer is.outer)
-    ∙ ap (λ (repo : List ℕ). Some {T = HexEntry} (record { name = e.name; version = e.version; inner = e.inner; managers = e.managers; deps = e.deps; repo = repo; outer = e.outer })) (sym is.repo)
+    ∙ ap (with_repo e) (sym is.repo)
 
 -- a release is what its term says
 pub hex_back : (e : HexEntry) → IsHexEntry e → hex_of (hex_term e) ≡ Some e
