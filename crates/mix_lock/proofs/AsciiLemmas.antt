@@ -1,5 +1,5 @@
 -- Requirements and digits are bytes.
-use Rattle.std.proofs.Common.{◌≡◌, ℕ, zero, suc, ◌<◌, ◌^◌, Bool, true, false, List, [], ◌∷◌, ◌++◌, codes, replicate, refl, sym, subst, ⊎_elim, arith}
+use Rattle.std.proofs.Common.{◌≡◌, ℕ, zero, suc, ◌<◌, ◌^◌, Bool, true, false, List, [], ◌∷◌, ◌++◌, codes, sym, subst, ⊎_elim, arith}
 use Rattle.std.specs.Str.{IsAscii}
 use Rattle.std.specs.Fmt.{decimal}
 use Rattle.std.proofs.lemmas.Fmt.{IsAscii-decimal}
@@ -8,7 +8,6 @@ use Rattle.std.proofs.lemmas.Str.Ascii.{IsAscii-from_all}
 use Rattle.hex.specs.Hex.{encode_lower, lower_digits}
 use Rattle.hex.proofs.HexLemmas.{IsAscii-encode_with}
 use Rattle.semver.specs.Identifiers.{marked}
-use Rattle.semver.specs.Parse.{Parts}
 use Rattle.term_print.specs.Printable.{AreBytes}
 use Rattle.term_print.proofs.PrintedBytes.{utf8_bytes}
 use Rattle.version_req.specs.declared.operator.Operator.{Operator}
@@ -47,7 +46,8 @@ operator_bytes Compatible = (omega arith, (omega arith, tt))
 
 spelled_operator : (text : List ℕ) (o : Operator) → SpellsOperator text o → AreBytes text
 spelled_operator text o spells =
-    ⊎_elim (λ (e : text ≡ operator_text o). subst AreBytes (sym e) (operator_bytes o)) (λ (none : (text ≡ []) × (o ≡ Equal)). subst AreBytes (sym none.0) tt) spells
+    ⊎_elim (λ (e : text ≡ operator_text o). subst AreBytes (sym e) (operator_bytes o))
+    (λ (none : (text ≡ []) × (o ≡ Equal)). subst AreBytes (sym none.0) tt) spells
 
 tail_bytes : (c : Condition) (text : List ℕ) → SpellsComparison text c → AreBytes (marked 45 c.operand.3 ++ marked 43 c.operand.4)
 tail_bytes c text spells =
@@ -79,7 +79,9 @@ comparison_bytes text c spells =
     (bytes_append operator (spaces gap ++ operand) (spelled_operator operator c.operator spells.bytes.2)
     (bytes_append (spaces gap) operand (spaces_bytes gap) (operand_bytes c text spells c.patch_written)))
 
-joined_bytes : {X : Type 0} (word : List ℕ) (Each : List ℕ → X → Type 0) → AreBytes word → ((text : List ℕ) (x : X) → Each text x → AreBytes text) → (text : List ℕ) (xs : List X) → Joined word Each text xs → AreBytes text
+joined_bytes : {X : Type 0} (word : List ℕ) (Each : List ℕ → X → Type 0) → AreBytes word
+    → ((text : List ℕ) (x : X) → Each text x → AreBytes text) → (text : List ℕ) (xs : List X) → Joined word Each text xs
+    → AreBytes text
 joined_bytes word Each bytes each text [] joined = absurd joined
 joined_bytes word Each bytes each text (x ∷ []) joined = each text x joined
 joined_bytes word Each bytes each text (x ∷ y ∷ more) joined =
@@ -106,7 +108,32 @@ requirement_bytes text spelled =
     (bytes_append (spaces s.0) (s.1 ++ spaces s.2) (spaces_bytes s.0) (bytes_append s.1 (spaces s.2) (alternatives_bytes s.1 spelled.0 s.3) (spaces_bytes s.2)))
 
 lower_ascii : IsAscii lower_digits
-lower_ascii = IsAscii-from_all lower_digits (All-from_recursion (λ b. b < 128) lower_digits (omega arith, (omega arith, (omega arith, (omega arith, (omega arith, (omega arith, (omega arith, (omega arith, (omega arith, (omega arith, (omega arith, (omega arith, (omega arith, (omega arith, (omega arith, (omega arith, tt)))))))))))))))))
+lower_ascii =
+    IsAscii-from_all lower_digits (All-from_recursion (λ b. b < 128) lower_digits (
+      omega arith,
+      (
+        omega arith,
+        (
+          omega arith,
+          (
+            omega arith,
+            (
+              omega arith,
+              (
+                omega arith,
+                (
+                  omega arith,
+                  (
+                    omega arith,
+                    (omega arith, (omega arith, (omega arith, (omega arith, (omega arith, (omega arith, (omega arith, (omega arith, tt)))))))),
+                  ),
+                ),
+              ),
+            ),
+          ),
+        ),
+      ),
+    ))
 
 -- and so are hexadecimal digits
 pub digit_bytes : (bytes : List ℕ) → AreBytes (encode_lower bytes)

@@ -1,13 +1,12 @@
 -- The text of a lock says that lock.
-use Rattle.std.proofs.Common.{◌≡◌, ℕ, List, [], ◌∷◌, map, Some, Ok, refl}
+use Rattle.std.proofs.Common.{List, [], ◌∷◌, map, Some, Ok}
 use Rattle.std.specs.List.{AllByRecursion}
 use Rattle.std.proofs.lemmas.List.Sorted.{IsPermutation-refl}
-use Rattle.term_values.specs.declared.term.Term.TheVariants.{Atom}
 use Rattle.mix_lock.specs.declared.entry.Entry.{Entry}
 use Rattle.mix_lock.specs.declared.entry.Entry.TheVariants.{Hex, Other}
 use Rattle.mix_lock.specs.declared.entry.LockDep.{LockDep}
 use Rattle.mix_lock.specs.Lock.{AppEntry, IsLockDep, IsLockEntry, IsAppEntry, IsLock}
-use Rattle.mix_lock.specs.Says.{AreRead, IsEntry, IsPair, AreEntries, SaysLock}
+use Rattle.mix_lock.specs.Says.{AreRead, IsEntry, AreEntries, SaysLock}
 use Rattle.mix_lock.specs.Says.IsEntry.{other, hex}
 use Rattle.mix_lock.specs.Says.IsPair.{good as good_pair}
 use Rattle.mix_lock.specs.Says.AreEntries.{end, more}

@@ -1,5 +1,5 @@
 -- Entries one after another.
-use Rattle.std.proofs.Common.{◌≡◌, ℕ, List, [], ◌∷◌, ◌++◌, reverse, Result, Ok, Err, refl, sym, ◌∙◌, ap, subst, append_assoc, append-nil, length, arith}
+use Rattle.std.proofs.Common.{◌≡◌, List, [], ◌∷◌, ◌++◌, reverse, Result, Ok, Err, refl, sym, ◌∙◌, ap, subst, append_assoc, append-nil, length, arith}
 use Rattle.std.proofs.lemmas.List.{reverse-append}
 use Rattle.std.specs.Result.{IsErrAnd}
 use Rattle.mx_base.specs.Blame.{Blame, AnswersBy}
@@ -33,25 +33,35 @@ continues_first pairs rest e answer are =
 from_last : (rest : List Pair) (key value : Term) → reverse (rest ++ (key, value) ∷ []) ≡ (key, value) ∷ reverse rest
 from_last rest key value = reverse-append rest ((key, value) ∷ [])
 
-behind_next : (entries : List AppEntry) (entry : AppEntry) (answer : Result (List AppEntry) LockError) → behind entries (behind (entry ∷ []) answer) ≡ behind (entries ++ entry ∷ []) answer
-behind_next entries entry (Ok others) = let Answer : List AppEntry → Result (List AppEntry) LockError = λ es. Ok es in ap Answer (sym (append_assoc entries (entry ∷ []) others))
+behind_next : (entries : List AppEntry) (entry : AppEntry) (answer : Result (List AppEntry) LockError)
+    → behind entries (behind (entry ∷ []) answer) ≡ behind (entries ++ entry ∷ []) answer
+behind_next entries entry (Ok others) =
+    let Answer : List AppEntry → Result (List AppEntry) LockError = λ es. Ok es in
+    ap Answer (sym (append_assoc entries (entry ∷ []) others))
 behind_next entries entry (Err e) = refl
 
-with_first : (key value : Term) (entry : AppEntry) (pairs : List Pair) → IsPair key value (Ok entry) → (answer : Result (List AppEntry) LockError) → AreEntries pairs answer → AreEntries ((key, value) ∷ pairs) (behind (entry ∷ []) answer)
+with_first : (key value : Term) (entry : AppEntry) (pairs : List Pair) → IsPair key value (Ok entry)
+    → (answer : Result (List AppEntry) LockError) → AreEntries pairs answer
+    → AreEntries ((key, value) ∷ pairs) (behind (entry ∷ []) answer)
 with_first key value entry pairs is (Ok others) are = more is are
 with_first key value entry pairs is (Err e) are = later is are
 
 -- one more pair was read
-pub continues_next : (pairs old rest : List Pair) (key value : Term) (entries new : List AppEntry) (entry : AppEntry) → old ≡ rest ++ (key, value) ∷ [] → new ≡ entries ++ entry ∷ [] → IsPair key value (Ok entry) → Continues pairs old entries → Continues pairs rest new
+pub continues_next : (pairs old rest : List Pair) (key value : Term) (entries new : List AppEntry) (entry : AppEntry)
+    → old ≡ rest ++ (key, value) ∷ [] → new ≡ entries ++ entry ∷ [] → IsPair key value (Ok entry)
+    → Continues pairs old entries → Continues pairs rest new
 continues_next pairs old rest key value entries new entry split pushed is on answer are =
     let first : AreEntries (reverse old) (behind (entry ∷ []) answer) =
-    subst (λ (ps : List Pair). AreEntries ps (behind (entry ∷ []) answer)) (sym (ap reverse split ∙ from_last rest key value)) (with_first key value entry (reverse rest) is answer are) in
+    subst (λ (ps : List Pair). AreEntries ps (behind (entry ∷ []) answer)) (sym (ap reverse split ∙ from_last rest key value))
+    (with_first key value entry (reverse rest) is answer are) in
     subst (λ (es : Result (List AppEntry) LockError). AreEntries pairs es)
     (behind_next entries entry answer ∙ ap (λ (es : List AppEntry). behind es answer) (sym pushed))
     (on (behind (entry ∷ []) answer) first)
 
 -- the next pair is refused
-pub continues_refused : (pairs old rest : List Pair) (key value : Term) (entries : List AppEntry) (e : LockError) → old ≡ rest ++ (key, value) ∷ [] → IsPair key value (Err e) → Continues pairs old entries → AreEntries pairs (Err e)
+pub continues_refused : (pairs old rest : List Pair) (key value : Term) (entries : List AppEntry) (e : LockError)
+    → old ≡ rest ++ (key, value) ∷ [] → IsPair key value (Err e) → Continues pairs old entries
+    → AreEntries pairs (Err e)
 continues_refused pairs old rest key value entries e split is on =
     on (Err e) (subst (λ (ps : List Pair). AreEntries ps (Err e)) (sym (ap reverse split ∙ from_last rest key value)) (refused is))
 
@@ -62,7 +72,8 @@ continues_end pairs rest entries none on =
     (on (Ok []) (subst (λ (ps : List Pair). AreEntries (reverse ps) (Ok [])) (sym none) end))
 
 -- what a question mark hands on
-pub answers_by_on : {X Y E : Type 0} (seen : X → Y) (blame : E → Blame) (Is : Result Y E → Type 0) (result : Result X E) (error : E) → IsErrAnd result (λ e. e ≡ error) → (blame error ≡ Input → Is (Err error)) → AnswersBy seen blame result Is
+pub answers_by_on : {X Y E : Type 0} (seen : X → Y) (blame : E → Blame) (Is : Result Y E → Type 0) (result : Result X E) (error : E)
+    → IsErrAnd result (λ e. e ≡ error) → (blame error ≡ Input → Is (Err error)) → AnswersBy seen blame result Is
 answers_by_on seen blame Is (Ok x) error is why = absurd is
 answers_by_on seen blame Is (Err e) error is why = subst (λ x. blame x ≡ Input → Is (Err x)) (sym is) why
 

@@ -1,5 +1,5 @@
--- What is read keeps to what a lock can say.
-use Rattle.std.proofs.Common.{◌≡◌, ℕ, Bool, true, false, List, [], ◌∷◌, Option, Some, None, option_and_then, Result, Ok, Err, if◌then◌else◌, codes, refl, sym, ◌∙◌, ap, subst, arith}
+-- What is read of names, bytes and dependencies keeps to what a lock can say.
+use Rattle.std.proofs.Common.{◌≡◌, ℕ, Bool, true, false, List, [], ◌∷◌, Option, Some, None, option_and_then, Result, Ok, Err, if◌then◌else◌, codes, refl, ◌∙◌, ap, subst}
 use Rattle.std.specs.Prelude.{IsTrue}
 use Rattle.std.specs.List.{AllByRecursion, list_all}
 use Rattle.std.proofs.lemmas.Option.{same_Some, none-some}
@@ -8,29 +8,20 @@ use Rattle.hex.specs.declared.error.FromHexError.{FromHexError}
 use Rattle.hex.proofs.HexLemmas.{decode_of-ok}
 use Rattle.mx_base.specs.AppName.{is_app_name}
 use Rattle.term_values.specs.declared.term.Term.{Term}
-use Rattle.term_values.specs.Views.{Pair, Named, atom_of, string_of, list_of, tuple_of, keywords_of, all_of}
-use Rattle.version_req.specs.Grammar.{IsSpelled}
+use Rattle.term_values.specs.Views.{Named, atom_of, string_of, list_of, tuple_of, keywords_of, all_of}
 use Rattle.mix_lock.specs.declared.deps.Link.{Link}
-use Rattle.mix_lock.specs.declared.entry.Entry.{Entry}
-use Rattle.mix_lock.specs.declared.entry.Entry.TheVariants.{Hex, Other}
-use Rattle.mix_lock.specs.declared.entry.HexEntry.{HexEntry}
 use Rattle.mix_lock.specs.declared.entry.LockDep.{LockDep}
-use Rattle.mix_lock.specs.declared.release.Build.{Build}
-use Rattle.mix_lock.specs.declared.release.Release.{Release}
-use Rattle.mix_lock.specs.Lock.{AppEntry, IsLockDep, IsHexEntry, IsLockEntry, IsAppEntry}
-use Rattle.mix_lock.specs.Says.{AreRead, IsEntry, IsPair, AreEntries}
-use Rattle.mix_lock.specs.Says.IsEntry.{other, hex}
-use Rattle.mix_lock.specs.Says.IsPair.{good}
-use Rattle.mix_lock.specs.Says.AreEntries.{end, more}
-use Rattle.mix_lock.specs.Terms.{if_app, app_of, names_of, is_version, if_version, version_of, is_lower_digit, if_decoded, bytes_in, bytes_of, under, truth_of, says_hexpm, is_hexpm, link, three, link_of, dep, dep_by, dep_in, dep_of, deps_of, release, release_by, build, build_by, outer_of, hex_entry, with_rest, hex_in, hex_of}
+use Rattle.mix_lock.specs.Lock.{IsLockDep}
+use Rattle.mix_lock.specs.Says.{AreRead}
+use Rattle.mix_lock.specs.Terms.{if_app, app_of, names_of, is_version, version_of, is_lower_digit, if_decoded, bytes_in, bytes_of, under, truth_of, says_hexpm, link, three, link_of, dep, dep_by, dep_in, dep_of, deps_of}
 
 -- what an answer is made of
-record Chained {A B : Type 0} (o : Option A) (f : A → Option B) (b : B) : Type 0 where
-  value : A
-  first : o ≡ Some value
-  then_ : f value ≡ Some b
+pub record Chained {A B : Type 0} (o : Option A) (f : A → Option B) (b : B) : Type 0 where
+  pub value : A
+  pub first : o ≡ Some value
+  pub then_ : f value ≡ Some b
 
-chained : {A B : Type 0} (o : Option A) (f : A → Option B) (b : B) → option_and_then f o ≡ Some b → Chained o f b
+pub chained : {A B : Type 0} (o : Option A) (f : A → Option B) (b : B) → option_and_then f o ≡ Some b → Chained o f b
 chained None f b e = absurd (none-some b e)
 chained (Some a) f b e = record { value = a; first = refl; then_ = e }
 
@@ -39,7 +30,8 @@ tested true x y e = (refl, same_Some x y e)
 tested false x y e = absurd (none-some y e)
 
 -- a test of texts that gives them
-texts_tested : (test : List ℕ → Bool) (o : Option (List ℕ)) (text : List ℕ) → option_and_then (λ x. if test x then Some x else None) o ≡ Some text → IsTrue (test text)
+texts_tested : (test : List ℕ → Bool) (o : Option (List ℕ)) (text : List ℕ)
+    → option_and_then (λ x. if test x then Some x else None) o ≡ Some text → IsTrue (test text)
 texts_tested test o text e =
     let c = chained o (λ (x : List ℕ). if test x then Some x else None) text e in
     let t = tested (test c.value) c.value text c.then_ in
@@ -51,10 +43,10 @@ atom_with t app e =
     let c = chained (atom_of t) if_app app e in
     c.first ∙ ap (λ (x : List ℕ). Some x) (tested (is_app_name c.value) c.value app c.then_).1
 
-app_named : (t : Term) (app : List ℕ) → app_of t ≡ Some app → IsTrue (is_app_name app)
+pub app_named : (t : Term) (app : List ℕ) → app_of t ≡ Some app → IsTrue (is_app_name app)
 app_named t app e = texts_tested is_app_name (atom_of t) app e
 
-version_is : (t : Term) (version : List ℕ) → version_of t ≡ Some version → IsTrue (is_version version)
+pub version_is : (t : Term) (version : List ℕ) → version_of t ≡ Some version → IsTrue (is_version version)
 version_is t version e = texts_tested is_version (string_of t) version e
 
 decoded : (text bytes : List ℕ) (r : Result (List ℕ) FromHexError) → decode_of text ≡ r → if_decoded r ≡ Some bytes → IsBytes bytes
@@ -68,11 +60,12 @@ bytes_in_are text bytes = at (list_all is_lower_digit text)
     at true e = decoded text bytes (decode_of text) refl e
     at false e = absurd (none-some bytes e)
 
-bytes_are : (t : Term) (bytes : List ℕ) → bytes_of t ≡ Some bytes → IsBytes bytes
+pub bytes_are : (t : Term) (bytes : List ℕ) → bytes_of t ≡ Some bytes → IsBytes bytes
 bytes_are t bytes e = let c = chained (string_of t) bytes_in bytes e in bytes_in_are c.value bytes c.then_
 
 -- each of a list
-each_of : {A B : Type 0} (P : B → Type 0) (f : A → Option B) → ((a : A) (b : B) → f a ≡ Some b → P b) → (xs : List A) (bs : List B) → all_of f xs ≡ Some bs → AllByRecursion P bs
+each_of : {A B : Type 0} (P : B → Type 0) (f : A → Option B) → ((a : A) (b : B) → f a ≡ Some b → P b) → (xs : List A) (bs : List B)
+    → all_of f xs ≡ Some bs → AllByRecursion P bs
 each_of P f one [] bs e = subst (AllByRecursion P) (same_Some [] bs e) tt
 each_of {B = B} P f one (a ∷ xs) bs e =
     let c = chained (f a) (λ (b : B). option_and_then (λ (bs : List B). Some (b ∷ bs)) (all_of f xs)) bs e in
@@ -96,7 +89,8 @@ three_linked (a ∷ []) l e = absurd (none-some l e)
 three_linked (a ∷ b ∷ []) l e = absurd (none-some l e)
 three_linked (a ∷ b ∷ c ∷ []) l e =
     let options = a ∷ b ∷ c ∷ [] in
-    let name = linked (option_and_then app_of (under (codes "hex") options)) (says_hexpm (under (codes "repo") options)) (option_and_then truth_of (under (codes "optional") options)) l e in
+    let name = linked (option_and_then app_of (under (codes "hex") options)) (says_hexpm (under (codes "repo") options))
+    (option_and_then truth_of (under (codes "optional") options)) l e in
     let value = chained (under (codes "hex") options) app_of l.package name in
     app_named value.value l.package value.then_
 three_linked (a ∷ b ∷ c ∷ d ∷ others) l e = absurd (none-some l e)
@@ -134,140 +128,12 @@ dep_named : (t : Term) (d : LockDep) → dep_of t ≡ Some d → AreNamed d
 unfolding dep_of
 dep_named t d e = let c = chained (tuple_of t) dep_in d e in in_named c.value d c.then_
 
-deps_named : (t : Term) (deps : List LockDep) → deps_of t ≡ Some deps → AllByRecursion AreNamed deps
+pub deps_named : (t : Term) (deps : List LockDep) → deps_of t ≡ Some deps → AllByRecursion AreNamed deps
 deps_named t deps e = let c = chained (list_of t) (all_of dep_of) deps e in each_of AreNamed dep_of dep_named c.value deps c.then_
 
-names_named : (t : Term) (names : List (List ℕ)) → names_of t ≡ Some names → AllByRecursion (λ n. IsTrue (is_app_name n)) names
+pub names_named : (t : Term) (names : List (List ℕ)) → names_of t ≡ Some names → AllByRecursion (λ n. IsTrue (is_app_name n)) names
 names_named t names e = let c = chained (list_of t) (all_of app_of) names e in each_of (λ n. IsTrue (is_app_name n)) app_of app_named c.value names c.then_
 
-sound_deps : (deps : List LockDep) → AllByRecursion AreNamed deps → AreRead deps → AllByRecursion IsLockDep deps
+pub sound_deps : (deps : List LockDep) → AllByRecursion AreNamed deps → AreRead deps → AllByRecursion IsLockDep deps
 sound_deps [] named reads = tt
 sound_deps (d ∷ deps) named reads = (record { app = named.0.0; requirement = reads.0; «package» = named.0.1 }, sound_deps deps named.1 reads.1)
-
--- ---- releases
-
-record Released (name version inner : Option (List ℕ)) (r : Release) : Type 0 where
-  named : name ≡ Some r.name
-  numbered : version ≡ Some r.version
-  summed : inner ≡ Some r.inner
-
-released : (name version inner : Option (List ℕ)) (r : Release) → release name version inner ≡ Some r → Released name version inner r
-released (Some name) (Some version) (Some inner) r e =
-    let is = same_Some _ r e in
-    record { named = ap (λ (x : Release). Some x.name) is; numbered = ap (λ (x : Release). Some x.version) is; summed = ap (λ (x : Release). Some x.inner) is }
-released (Some name) (Some version) None r e = absurd (none-some r e)
-released (Some name) None inner r e = absurd (none-some r e)
-released None version inner r e = absurd (none-some r e)
-
-record Built (managers : Option (List (List ℕ))) (deps : Option (List LockDep)) (b : Build) : Type 0 where
-  managed : managers ≡ Some b.managers
-  needed : deps ≡ Some b.deps
-
-built : (managers : Option (List (List ℕ))) (deps : Option (List LockDep)) (b : Build) → build managers deps ≡ Some b → Built managers deps b
-built (Some managers) (Some deps) b e =
-    let is = same_Some _ b e in
-    record { managed = ap (λ (x : Build). Some x.managers) is; needed = ap (λ (x : Build). Some x.deps) is }
-built (Some managers) None b e = absurd (none-some b e)
-built None deps b e = absurd (none-some b e)
-
-abbrev release_in : HexEntry → Release
-release_in e = record { name = e.name; version = e.version; inner = e.inner }
-
-abbrev build_in : HexEntry → Build
-build_in e = record { managers = e.managers; deps = e.deps }
-
-record Entered (r : Release) (b : Option Build) (outer : Option (List ℕ)) (e : HexEntry) : Type 0 where
-  released_as : r ≡ release_in e
-  built_as : b ≡ Some (build_in e)
-  summed : outer ≡ Some e.outer
-  repo : e.repo ≡ codes "hexpm"
-
-entered : (r : Release) (b : Option Build) (repo : Bool) (outer : Option (List ℕ)) (e : HexEntry) → hex_entry r b repo outer ≡ Some e → Entered r b outer e
-entered r (Some b) true (Some outer) e is =
-    let same = same_Some _ e is in
-    record {
-      released_as = ap release_in same;
-      built_as = ap (λ (x : HexEntry). Some (build_in x)) same;
-      summed = ap (λ (x : HexEntry). Some x.outer) same;
-      repo = ap (λ (x : HexEntry). x.repo) (sym same);
-    }
-entered r (Some b) true None e is = absurd (none-some e is)
-entered r (Some b) false outer e is = absurd (none-some e is)
-entered r None repo outer e is = absurd (none-some e is)
-
-no_bytes : IsBytes []
-no_bytes i = grind arith
-
-outer_are : (outer : Option Term) (bytes : List ℕ) → outer_of outer ≡ Some bytes → IsBytes bytes
-outer_are None bytes e = subst IsBytes (same_Some [] bytes e) no_bytes
-outer_are (Some t) bytes e = bytes_are t bytes e
-
-record SoundRelease (r : Release) : Type 0 where
-  name : IsTrue (is_app_name r.name)
-  version : IsTrue (is_version r.version)
-  inner : IsBytes r.inner
-
-sound_release : (name version inner : Term) (r : Release) → release_by name version inner ≡ Some r → SoundRelease r
-unfolding release_by
-sound_release name version inner r e =
-    let parts = released (app_of name) (version_of version) (bytes_of inner) r e in
-    record { name = app_named name r.name parts.named; version = version_is version r.version parts.numbered; inner = bytes_are inner r.inner parts.summed }
-
-record SoundBuild (b : Build) : Type 0 where
-  managers : AllByRecursion (λ n. IsTrue (is_app_name n)) b.managers
-  deps : AllByRecursion AreNamed b.deps
-
-sound_build : (managers deps : Term) (b : Build) → build_by managers deps ≡ Some b → SoundBuild b
-unfolding build_by
-sound_build managers deps b e =
-    let parts = built (names_of managers) (deps_of deps) b e in
-    record { managers = names_named managers b.managers parts.managed; deps = deps_named deps b.deps parts.needed }
-
-sound_entry : (r : Release) (managers deps : Term) (repo : Bool) (outer : Option Term) (e : HexEntry) → SoundRelease r → hex_entry r (build_by managers deps) repo (outer_of outer) ≡ Some e → AreRead e.deps → IsHexEntry e
-sound_entry r managers deps repo outer e sound is reads =
-    let parts = entered r (build_by managers deps) repo (outer_of outer) e is in
-    let first = subst SoundRelease parts.released_as sound in
-    let second = sound_build managers deps (build_in e) parts.built_as in
-    record {
-      name = first.name;
-      version = first.version;
-      inner = first.inner;
-      managers = second.managers;
-      deps = sound_deps e.deps second.deps reads;
-      repo = parts.repo;
-      outer = outer_are outer e.outer parts.summed;
-    }
-
-sound_rest : (r : Release) (rest : List Term) (e : HexEntry) → SoundRelease r → with_rest r rest ≡ Some e → AreRead e.deps → IsHexEntry e
-unfolding with_rest
-sound_rest r [] e sound is reads = absurd (none-some e is)
-sound_rest r (a ∷ []) e sound is reads = absurd (none-some e is)
-sound_rest r (a ∷ b ∷ []) e sound is reads = absurd (none-some e is)
-sound_rest r (managers ∷ deps ∷ repo ∷ []) e sound is reads = sound_entry r managers deps (is_hexpm repo) None e sound is reads
-sound_rest r (managers ∷ deps ∷ repo ∷ outer ∷ []) e sound is reads = sound_entry r managers deps (is_hexpm repo) (Some outer) e sound is reads
-sound_rest r (a ∷ b ∷ c ∷ d ∷ x ∷ others) e sound is reads = absurd (none-some e is)
-
-sound_in : (ts : List Term) (e : HexEntry) → hex_in ts ≡ Some e → AreRead e.deps → IsHexEntry e
-sound_in [] e is reads = absurd (none-some e is)
-sound_in (a ∷ []) e is reads = absurd (none-some e is)
-sound_in (a ∷ b ∷ []) e is reads = absurd (none-some e is)
-sound_in (a ∷ b ∷ c ∷ []) e is reads = absurd (none-some e is)
-sound_in (tag ∷ name ∷ version ∷ inner ∷ rest) e is reads =
-    let c = chained (release_by name version inner) (λ (r : Release). with_rest r rest) e is in
-    sound_rest c.value rest e (sound_release name version inner c.value c.first) c.then_ reads
-
-sound_hex : (t : Term) (e : HexEntry) → hex_of t ≡ Some e → AreRead e.deps → IsHexEntry e
-unfolding hex_of
-sound_hex t e is reads = let c = chained (tuple_of t) hex_in e is in sound_in c.value e c.then_ reads
-
-sound_value : (value : Term) (entry : Entry) → IsEntry value (Some entry) → IsLockEntry entry
-sound_value value _ (other kept) = kept
-sound_value value _ (hex e is reads all) = sound_hex value e reads all
-
-sound_pair : (key value : Term) (entry : AppEntry) → IsPair key value (Ok entry) → IsAppEntry entry
-sound_pair key value _ (good {app = app} {entry = entry} named is) = record { app = app_named key app named; entry = sound_value value entry is }
-
--- the entries of a map keep to what a lock can say
-pub sound_entries : (pairs : List Pair) (entries : List AppEntry) → AreEntries pairs (Ok entries) → AllByRecursion IsAppEntry entries
-sound_entries _ _ end = tt
-sound_entries _ _ (more {key = key} {value = value} {entry = entry} {pairs = pairs} {entries = entries} is are) = (sound_pair key value entry is, sound_entries pairs entries are)

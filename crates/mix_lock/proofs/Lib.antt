@@ -10,6 +10,7 @@ pub mod PrintLemmas
 pub mod ReadLemmas
 pub mod SomeLemmas
 pub mod SortLemmas
+pub mod SoundLemmas
 pub mod TermLemmas
 pub mod VersionLemmas
 pub mod ViewLemmas

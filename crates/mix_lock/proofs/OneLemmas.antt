@@ -1,5 +1,5 @@
 -- The same text says one lock.
-use Rattle.std.proofs.Common.{◌≡◌, ℕ, List, [], ◌∷◌, Option, Some, None, Result, Ok, Err, refl, sym, ◌∙◌, ap, subst}
+use Rattle.std.proofs.Common.{◌≡◌, ℕ, List, ◌∷◌, Option, Some, None, Result, Ok, Err, refl, sym, ◌∙◌, ap, subst}
 use Rattle.std.proofs.lemmas.Bool.{true≢false}
 use Rattle.std.proofs.lemmas.Option.{same_Some, none-some}
 use Rattle.elixir_terms.specs.declared.error.TermError.{TermError}
@@ -10,7 +10,7 @@ use Rattle.term_tokens.specs.declared.cause.TermCause.{TermCause}
 use Rattle.term_values.specs.declared.term.Term.{Term}
 use Rattle.term_values.specs.Views.{Pair, map_of}
 use Rattle.mix_lock.specs.declared.entry.Entry.{Entry}
-use Rattle.mix_lock.specs.declared.entry.Entry.TheVariants.{Hex, Other}
+use Rattle.mix_lock.specs.declared.entry.Entry.TheVariants.{Hex}
 use Rattle.mix_lock.specs.declared.entry.HexEntry.{HexEntry}
 use Rattle.mix_lock.specs.declared.error.LockError.{LockError}
 use Rattle.mix_lock.specs.declared.error.LockError.TheVariants as lock
@@ -94,7 +94,8 @@ entries_one (more {entry = x} {entries = xs} is rest) (more {entry = y} {entries
     ap (λ (entry : AppEntry). Ok (entry ∷ xs)) (ok_one x y (pair_one is also))
     ∙ ap (λ (entries : List AppEntry). Ok (y ∷ entries)) (ok_one xs ys (entries_one rest others))
 
-same_entries : (o : Option (List Pair)) (ps qs : List Pair) (a b : Result (List AppEntry) LockError) → o ≡ Some ps → o ≡ Some qs → AreEntries ps a → AreEntries qs b → a ≡ b
+same_entries : (o : Option (List Pair)) (ps qs : List Pair) (a b : Result (List AppEntry) LockError) → o ≡ Some ps → o ≡ Some qs
+    → AreEntries ps a → AreEntries qs b → a ≡ b
 same_entries o ps qs a b e f are also = entries_one (subst (λ (x : List Pair). AreEntries x a) (some_one o ps qs e f) are) also
 
 term_one : {t : Term} {a b : Result (List AppEntry) LockError} → TermSays t a → TermSays t b → a ≡ b
@@ -102,7 +103,8 @@ term_one (no_map none) (no_map nothing) = refl
 term_one (no_map none) (refused_term {pairs = qs} is are) = absurd (no_some _ qs none is)
 term_one (no_map none) (good {pairs = qs} is are same order) = absurd (no_some _ qs none is)
 term_one (refused_term {pairs = ps} is are) (no_map none) = absurd (no_some _ ps none is)
-term_one {t = t} (refused_term {pairs = ps} {e = d} is are) (refused_term {pairs = qs} {e = e} also tells) = same_entries (map_of t) ps qs (Err d) (Err e) is also are tells
+term_one {t = t} (refused_term {pairs = ps} {e = d} is are) (refused_term {pairs = qs} {e = e} also tells) =
+    same_entries (map_of t) ps qs (Err d) (Err e) is also are tells
 term_one {t = t} (refused_term {pairs = ps} {e = d} is are) (good {pairs = qs} {entries = ys} also tells same order) =
     absurd (err_not_ok d ys (same_entries (map_of t) ps qs (Err d) (Ok ys) is also are tells))
 term_one (good {pairs = ps} is are same order) (no_map none) = absurd (no_some _ ps none is)
@@ -113,7 +115,9 @@ term_one {t = t} (good {pairs = ps} {entries = xs} {sorted = us} is are same ord
     ap (λ (es : List AppEntry). Ok es) (one_sorting xs ys us vs entries same moved order row)
 
 same_error : (d e : TermError) → d.at ≡ e.at → d.cause ≡ e.cause → d ≡ e
-same_error d e places causes = ap (λ (at : ℕ). record { at = at; cause = d.cause }) places ∙ ap (λ (cause : TermCause). record { at = e.at; cause = cause }) causes
+same_error d e places causes =
+    ap (λ (at : ℕ). record { at = at; cause = d.cause }) places
+    ∙ ap (λ (cause : TermCause). record { at = e.at; cause = cause }) causes
 
 same_refusal : OneReading → (text : List ℕ) (d e : TermError) → IsRefusedText text d → IsRefusedText text e → d ≡ e
 same_refusal reading text d e why also =
@@ -125,7 +129,8 @@ not_both reading text error t why spelled = reading.apart text t error.at error.
 
 -- a text says one lock, or is refused in one way
 pub lock_one : OneReading → (text : List ℕ) (a b : Result (List AppEntry) LockError) → SaysLock text a → SaysLock text b → a ≡ b
-lock_one reading text _ _ (unread {error = x} why) (unread {error = y} also) = ap (λ (z : TermError). Err (lock.Term z)) (same_refusal reading text x y why also)
+lock_one reading text _ _ (unread {error = x} why) (unread {error = y} also) =
+    ap (λ (z : TermError). Err (lock.Term z)) (same_refusal reading text x y why also)
 lock_one reading text _ _ (unread {error = x} why) (read u spelled says) = absurd (not_both reading text x u why spelled)
 lock_one reading text _ _ (read t spelled says) (unread {error = y} why) = absurd (not_both reading text y t why spelled)
 lock_one reading text a b (read t spelled says) (read u again tells) =

@@ -1,5 +1,5 @@
 -- Entries in order.
-use Rattle.std.proofs.Common.{◌≡◌, ℕ, suc, zero, ◌+◌, ◌<◌, Bool, true, false, List, [], ◌∷◌, length, get_or, refl, sym, ◌∙◌, ap, arith, bytes_eq}
+use Rattle.std.proofs.Common.{◌≡◌, ℕ, suc, zero, ◌+◌, ◌<◌, Bool, true, false, List, [], ◌∷◌, length, get_or, refl, ◌∙◌, arith, bytes_eq}
 use Rattle.std.specs.Prelude.{IsTrue, ◌↔◌}
 use Rattle.std.specs.List.{AllByRecursion, IsAllAdjacentAnswer, IsDistinct}
 use Rattle.std.specs.List.Sorted.{IsStrictlySortedBy, IsSortedByKey}
@@ -35,7 +35,8 @@ in_order_from_steps (r ∷ rs) steps =
     let below' : k + 1 < length (r ∷ rs) = omega (arith, length-map (r ∷ rs) app) in
     rw (get_or-map app (r ∷ rs) k r r.0 (omega arith), get_or-map app (r ∷ rs) (k + 1) r r.0 below') (steps k r below')))
 
-pub first_before : (app : List ℕ) (entries : List AppEntry) (k : ℕ) (d : AppEntry) → IsBefore app (apps_of entries) → k < length entries → text_cmp app (get_or entries k d).0 ≡ Less
+pub first_before : (app : List ℕ) (entries : List AppEntry) (k : ℕ) (d : AppEntry) → IsBefore app (apps_of entries) → k < length entries
+    → text_cmp app (get_or entries k d).0 ≡ Less
 first_before app [] k d b below = absurd (omega arith)
 first_before app (r ∷ rs) zero d b below = b.0
 first_before app (r ∷ rs) (suc k) d b below = first_before app rs k d b.1 (omega arith)
@@ -53,7 +54,8 @@ less_from_apart Greater Equal e lt apart = cc
 less_from_apart Greater Greater e lt apart = cc
 
 -- entries that are sorted and of different apps are in order
-pub in_order_from_sort : (entries : List AppEntry) → IsSortedByKey (λ entry. entry.0) text_cmp entries → IsDistinct bytes_eq (apps_of entries) → AreInOrder entries
+pub in_order_from_sort : (entries : List AppEntry) → IsSortedByKey (λ entry. entry.0) text_cmp entries
+    → IsDistinct bytes_eq (apps_of entries) → AreInOrder entries
 in_order_from_sort entries sorted apart =
     in_order_from_steps entries (λ k d below.
     let one = (get_or entries k d).0 in
@@ -72,13 +74,15 @@ less_from_test Greater e = cc
 not_less : (o : Ordering) → o ≡ Less → false ≡ is_lt o → ⊥
 not_less o e f = cc
 
-falls_nowhere : (entries : List AppEntry) (k : ℕ) → AreInOrder entries → k + 1 < length entries → ((d : AppEntry) → false ≡ is_lt (text_cmp (get_or entries k d).0 (get_or entries (k + 1) d).0)) → ⊥
+falls_nowhere : (entries : List AppEntry) (k : ℕ) → AreInOrder entries → k + 1 < length entries
+    → ((d : AppEntry) → false ≡ is_lt (text_cmp (get_or entries k d).0 (get_or entries (k + 1) d).0)) → ⊥
 falls_nowhere [] k order below says = absurd (omega arith)
 falls_nowhere (r ∷ rs) k order below says =
     not_less (text_cmp (get_or (r ∷ rs) k r).0 (get_or (r ∷ rs) (k + 1) r).0) (steps_of_order (r ∷ rs) k r order below) (says r)
 
 -- what a test of neighbours says of the order
-pub order_of_answer : (entries : List AppEntry) (answer : Bool) → IsAllAdjacentAnswer (λ one next b. b ≡ is_lt (text_cmp one.0 next.0)) entries answer → IsTrue answer ↔ AreInOrder entries
+pub order_of_answer : (entries : List AppEntry) (answer : Bool)
+    → IsAllAdjacentAnswer (λ one next b. b ≡ is_lt (text_cmp one.0 next.0)) entries answer → IsTrue answer ↔ AreInOrder entries
 order_of_answer entries true all =
     (λ _. in_order_from_steps entries (λ k d below. less_from_test (text_cmp (get_or entries k d).0 (get_or entries (k + 1) d).0) (all k d below)), λ _. refl)
 order_of_answer entries false some = (λ h. cc, λ order. absurd (falls_nowhere entries some.0 order some.1 some.2))

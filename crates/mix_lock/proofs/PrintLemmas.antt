@@ -1,12 +1,11 @@
 -- The text of a lock spells its term.
-use Rattle.std.proofs.Common.{◌≡◌, ℕ, ◌<◌, Bool, true, false, ◌&&◌, List, [], ◌∷◌, ◌++◌, map, flat_map, Some, codes, refl, sym, ◌∙◌, ap, subst, append_assoc, arith}
+use Rattle.std.proofs.Common.{◌≡◌, ℕ, ◌<◌, Bool, true, false, ◌&&◌, List, [], ◌∷◌, ◌++◌, map, flat_map, Some, codes, refl, sym, subst, append_assoc, arith}
 use Rattle.std.specs.Prelude.{IsTrue}
 use Rattle.std.specs.List.{AllByRecursion, list_all}
 use Rattle.std.specs.Str.{IsUtf8, is_utf8}
 use Rattle.std.proofs.lemmas.Bool.{and_parts}
 use Rattle.std.proofs.lemmas.Bool.Decides.{nat_tests}
 use Rattle.std.proofs.lemmas.Str.{IsUtf8-nil, IsUtf8-append, IsUtf8-from_is_utf8}
-use Rattle.hex.specs.Hex.{IsBytes, encode_lower}
 use Rattle.mx_base.specs.AppName.{fits_at, is_app_name}
 use Rattle.term_tokens.specs.declared.bracket.Bracket.TheVariants as bracket
 use Rattle.term_tokens.specs.declared.token.Closing.TheVariants.{Curly}
@@ -23,13 +22,13 @@ use Rattle.term_print.proofs.PrintedTerms.{Placed, printed_placed}
 use Rattle.term_print.proofs.PrintedTokens.{Leads, leads-append}
 use Rattle.term_values.specs.declared.term.Term.{Term}
 use Rattle.term_values.specs.Views.{Pair}
-use Rattle.term_values.specs.declared.term.Term.TheVariants.{Atom, Str, List as Listed, Tuple, Map}
+use Rattle.term_values.specs.declared.term.Term.TheVariants.{Atom, Str, Map}
 use Rattle.mix_lock.specs.declared.entry.Entry.{Entry}
 use Rattle.mix_lock.specs.declared.entry.Entry.TheVariants.{Hex, Other}
 use Rattle.mix_lock.specs.declared.entry.HexEntry.{HexEntry}
 use Rattle.mix_lock.specs.declared.entry.LockDep.{LockDep}
 use Rattle.mix_lock.specs.Lock.{AppEntry, IsLockDep, IsHexEntry, IsLockEntry, IsAppEntry}
-use Rattle.mix_lock.specs.Text.{truth_term, keyword, options_term, dep_term, bytes_term, hex_term, entry_term, key_text, line_text, written, pair_of, lock_term, IsEntryPrintable}
+use Rattle.mix_lock.specs.Text.{truth_term, keyword, options_term, dep_term, hex_term, entry_term, key_text, line_text, written, pair_of, lock_term, IsEntryPrintable}
 use Rattle.mix_lock.proofs.AsciiLemmas.{requirement_bytes, digit_bytes}
 
 -- ---- names
@@ -94,12 +93,14 @@ unfolding dep_term
 dep_printable d is =
     let hex : AreLow (codes "hex") = (omega arith, (omega arith, (omega arith, tt))) in
     let repo : AreLow (codes "repo") = (omega arith, (omega arith, (omega arith, (omega arith, tt)))) in
-    let optional : AreLow (codes "optional") = (omega arith, (omega arith, (omega arith, (omega arith, (omega arith, (omega arith, (omega arith, (omega arith, tt)))))))) in
+    let optional : AreLow (codes "optional") =
+    (omega arith, (omega arith, (omega arith, (omega arith, (omega arith, (omega arith, (omega arith, (omega arith, tt)))))))) in
     let options : IsPrintable (options_term d) = IsPrintable.list
     (one (keyword_printable (codes "hex") (Atom d.package) hex (IsPrintable.atom (name_utf8 d.package is.package)))
     (one (keyword_printable (codes "repo") (Str (codes "hexpm")) repo (IsPrintable.string hexpm_bytes))
     (one (keyword_printable (codes "optional") (truth_term d.optional) optional (truth_printable d.optional)) ArePrintable.none))) in
-    IsPrintable.tuple (one (IsPrintable.atom (name_utf8 d.app is.app)) (one (IsPrintable.string (requirement_bytes d.requirement is.requirement)) (one options ArePrintable.none)))
+    IsPrintable.tuple (one (IsPrintable.atom (name_utf8 d.app is.app))
+    (one (IsPrintable.string (requirement_bytes d.requirement is.requirement)) (one options ArePrintable.none)))
 
 deps_printable : (deps : List LockDep) → AllByRecursion IsLockDep deps → ArePrintable (map dep_term deps)
 deps_printable [] all = ArePrintable.none
@@ -138,7 +139,8 @@ entry_printable entry is kept = at entry.1 is.entry kept
 abbrev after : List AppEntry → List ℕ
 after entries = 10 ∷ flat_map line_text entries ++ 125 ∷ 10 ∷ []
 
-line_split : (entry : AppEntry) (entries : List AppEntry) → after (entry ∷ entries) ≡ 10 ∷ 32 ∷ 32 ∷ 34 ∷ entry.0 ++ 34 ∷ 58 ∷ 32 ∷ (printed (entry_term entry.1) ++ 44 ∷ after entries)
+line_split : (entry : AppEntry) (entries : List AppEntry)
+    → after (entry ∷ entries) ≡ 10 ∷ 32 ∷ 32 ∷ 34 ∷ entry.0 ++ 34 ∷ 58 ∷ 32 ∷ (printed (entry_term entry.1) ++ 44 ∷ after entries)
 line_split entry entries = simp append_assoc
 
 -- the tokens of lines
@@ -155,7 +157,8 @@ key_utf8 app is =
 
 line_utf8 : (entry : AppEntry) → IsTrue (is_app_name entry.0) → IsUtf8 (printed (entry_term entry.1)) → IsUtf8 (line_text entry)
 line_utf8 entry is text =
-    IsUtf8-append (key_text entry.0 ++ printed (entry_term entry.1)) (44 ∷ 10 ∷ []) (IsUtf8-append (key_text entry.0) (printed (entry_term entry.1)) (key_utf8 entry.0 is) text)
+    IsUtf8-append (key_text entry.0 ++ printed (entry_term entry.1)) (44 ∷ 10 ∷ [])
+    (IsUtf8-append (key_text entry.0) (printed (entry_term entry.1)) (key_utf8 entry.0 is) text)
     (utf8_low (44 ∷ 10 ∷ []) (omega arith, (omega arith, tt)))
 
 with_line : (entry : AppEntry) (entries : List AppEntry) → IsTrue (is_app_name entry.0) → Placed (entry_term entry.1) → Lined entries → Lined (entry ∷ entries)
@@ -163,8 +166,10 @@ with_line entry entries is placed others =
     let app = entry.0 in
     let tokens = token.Key app ∷ (placed.tokens ++ (token.Comma ∷ others.tokens)) in
     let rest = printed (entry_term entry.1) ++ 44 ∷ after entries in
-    let blanks : Blanks (10 ∷ 32 ∷ 32 ∷ 34 ∷ app ++ 34 ∷ 58 ∷ 32 ∷ rest) (34 ∷ app ++ 34 ∷ 58 ∷ 32 ∷ rest) = Blanks.blank refl (Blanks.blank refl (Blanks.blank refl Blanks.none)) in
-    let begins : Begins (34 ∷ app ++ 34 ∷ 58 ∷ 32 ∷ rest) (token.Key app) rest = Begins.quoted_key {inside = app} 32 (quoted_name app is) (name_utf8 app is) refl refl in
+    let blanks : Blanks (10 ∷ 32 ∷ 32 ∷ 34 ∷ app ++ 34 ∷ 58 ∷ 32 ∷ rest) (34 ∷ app ++ 34 ∷ 58 ∷ 32 ∷ rest) =
+    Blanks.blank refl (Blanks.blank refl (Blanks.blank refl Blanks.none)) in
+    let begins : Begins (34 ∷ app ++ 34 ∷ 58 ∷ 32 ∷ rest) (token.Key app) rest =
+    Begins.quoted_key {inside = app} 32 (quoted_name app is) (name_utf8 app is) refl refl in
     record {
       tokens = tokens;
       grammar = Inside.keyword placed.grammar (Follows.comma others.grammar);
@@ -188,7 +193,8 @@ to_tokens : {tokens : List Token} {text rest : List ℕ} → Leads tokens text r
 to_tokens Leads.done blanks = blanks
 to_tokens (Leads.next {start = start} {mid = mid} before begins others) blanks = (start, mid, before, begins, to_tokens others blanks)
 
-pub written_spells : (entries : List AppEntry) → AllByRecursion IsAppEntry entries → AllByRecursion (λ entry. IsEntryPrintable entry.1) entries → Spells (written entries) (lock_term entries)
+pub written_spells : (entries : List AppEntry) → AllByRecursion IsAppEntry entries
+    → AllByRecursion (λ entry. IsEntryPrintable entry.1) entries → Spells (written entries) (lock_term entries)
 written_spells entries all kept =
     let inside = lined entries all kept in
     let tokens = token.Open bracket.Map ∷ (inside.tokens ++ token.Close Curly ∷ []) in
@@ -196,7 +202,8 @@ written_spells entries all kept =
     let leads : Leads tokens (written entries) (10 ∷ []) = Leads.next Blanks.none (Begins.opens refl) (leads-append inside.leads end) in
     record {
       utf8 = IsUtf8-append (37 ∷ 123 ∷ 10 ∷ flat_map line_text entries) (125 ∷ 10 ∷ [])
-          (IsUtf8-append (37 ∷ 123 ∷ 10 ∷ []) (flat_map line_text entries) (utf8_low (37 ∷ 123 ∷ 10 ∷ []) (omega arith, (omega arith, (omega arith, tt)))) inside.utf8)
+          (IsUtf8-append (37 ∷ 123 ∷ 10 ∷ []) (flat_map line_text entries)
+          (utf8_low (37 ∷ 123 ∷ 10 ∷ []) (omega arith, (omega arith, (omega arith, tt)))) inside.utf8)
           (utf8_low (125 ∷ 10 ∷ []) (omega arith, (omega arith, tt)));
       tokens = tokens;
       spelled = to_tokens leads (Blanks.blank refl Blanks.none);

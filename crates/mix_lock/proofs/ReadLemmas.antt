@@ -1,5 +1,5 @@
 -- What a text and its term say.
-use Rattle.std.proofs.Common.{◌≡◌, ℕ, Bool, true, false, List, [], Option, Some, None, Result, Ok, Err, if◌then◌else◌, refl, sym, subst}
+use Rattle.std.proofs.Common.{◌≡◌, ℕ, Bool, true, false, List, Err, if◌then◌else◌, refl}
 use Rattle.std.specs.Prelude.{IsFalse}
 use Rattle.std.specs.List.{AllByRecursion}
 use Rattle.std.specs.List.Sorted.{IsPermutation}
@@ -9,7 +9,6 @@ use Rattle.elixir_terms.specs.declared.error.TermError.{TermError}
 use Rattle.elixir_terms.specs.Refusals.{IsRefusal}
 use Rattle.mx_base.specs.Blame.Blame.{Input}
 use Rattle.term_tokens.specs.Refused.{is_memory}
-use Rattle.mix_lock.specs.declared.error.LockError.{LockError}
 use Rattle.mix_lock.specs.declared.error.LockError.TheVariants as lock
 use Rattle.mix_lock.specs.Blame.{lock_blame}
 use Rattle.mix_lock.specs.Refusals.{term_refused}
@@ -17,10 +16,13 @@ use Rattle.mix_lock.specs.Says.{SaysLock}
 use Rattle.mix_lock.specs.Says.SaysLock.{unread}
 
 -- a text that is refused
-pub text_refused : (text : List ℕ) (error : TermError) → (IsFalse (is_memory error.cause) → IsRefusal text error.at error.cause) → lock_blame (term_refused error) ≡ Input → SaysLock text (Err (term_refused error))
+pub text_refused : (text : List ℕ) (error : TermError)
+    → (IsFalse (is_memory error.cause) → IsRefusal text error.at error.cause) → lock_blame (term_refused error) ≡ Input
+    → SaysLock text (Err (term_refused error))
 text_refused text error why = at (is_memory error.cause) refl
   where
-    at : (b : Bool) → is_memory error.cause ≡ b → lock_blame (if b then lock.OutOfMemory else lock.Term error) ≡ Input → SaysLock text (Err (if b then lock.OutOfMemory else lock.Term error))
+    at : (b : Bool) → is_memory error.cause ≡ b → lock_blame (if b then lock.OutOfMemory else lock.Term error) ≡ Input
+        → SaysLock text (Err (if b then lock.OutOfMemory else lock.Term error))
     at true m input = cc
     at false m input = unread (m, why m)
 

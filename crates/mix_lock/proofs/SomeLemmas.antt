@@ -16,7 +16,7 @@ use Rattle.mix_lock.specs.declared.entry.LockDep.{LockDep}
 use Rattle.mix_lock.specs.declared.error.LockError.{LockError}
 use Rattle.mix_lock.specs.declared.error.LockError.TheVariants as lock
 use Rattle.mix_lock.specs.Lock.{AppEntry}
-use Rattle.mix_lock.specs.Says.{AreRead, IsEntry, IsPair, AreEntries, TermSays, SaysLock, IsReadAs, IsRefusedText, key_name}
+use Rattle.mix_lock.specs.Says.{AreRead, IsEntry, IsPair, AreEntries, TermSays, SaysLock, key_name}
 use Rattle.mix_lock.specs.Says.IsEntry.{other, hex, shape, requirement}
 use Rattle.mix_lock.specs.Says.IsPair.{good as good_pair, nameless, entryless}
 use Rattle.mix_lock.specs.Says.AreEntries.{end, refused, later, more}
@@ -29,7 +29,8 @@ use Rattle.mix_lock.proofs.ViewLemmas.{map_named}
 
 -- each text is read as a term within the limits, or refused
 abbrev pub EachReading : Type 0
-EachReading = (text : List ℕ) → ((t : Term) × Spells text t × Within text t) ⊎ ((error : TermError) × IsFalse (is_memory error.cause) × IsRefusal text error.at error.cause)
+EachReading = (text : List ℕ) → ((t : Term) × Spells text t × Within text t)
+    ⊎ ((error : TermError) × IsFalse (is_memory error.cause) × IsRefusal text error.at error.cause)
 
 -- each text is a requirement or none
 abbrev pub EachRequirement : Type 0
@@ -39,7 +40,8 @@ all_or_none : EachRequirement → (deps : List LockDep) → AreRead deps ⊎ (Ar
 all_or_none each [] = inl tt
 all_or_none each (d ∷ deps) =
     ⊎_elim
-    (λ (is : IsSpelled d.requirement). ⊎_elim (λ (are : AreRead deps). inl (is, are)) (λ (bad : AreRead deps → ⊥). inr (λ (all : AreRead (d ∷ deps)). bad all.1)) (all_or_none each deps))
+    (λ (is : IsSpelled d.requirement). ⊎_elim (λ (are : AreRead deps). inl (is, are))
+    (λ (bad : AreRead deps → ⊥). inr (λ (all : AreRead (d ∷ deps)). bad all.1)) (all_or_none each deps))
     (λ (bad : IsSpelled d.requirement → ⊥). inr (λ (all : AreRead (d ∷ deps)). bad all.0))
     (each d.requirement)
 
@@ -49,7 +51,8 @@ AnEntry value = (found : Option Entry) × IsEntry value found
 by_hex : EachRequirement → (value : Term) → is_hex value ≡ true → (o : Option HexEntry) → hex_of value ≡ o → AnEntry value
 by_hex each value is None none = (None, shape is none)
 by_hex each value is (Some e) says =
-    ⊎_elim (λ (are : AreRead e.deps). (Some (Hex e), hex e is says are)) (λ (bad : AreRead e.deps → ⊥). (None, requirement e is says bad)) (all_or_none each e.deps)
+    ⊎_elim (λ (are : AreRead e.deps). (Some (Hex e), hex e is says are))
+    (λ (bad : AreRead e.deps → ⊥). (None, requirement e is says bad)) (all_or_none each e.deps)
 
 by_tag : EachRequirement → (value : Term) (b : Bool) → is_hex value ≡ b → AnEntry value
 by_tag each value true is = by_hex each value is (hex_of value) refl
@@ -69,7 +72,8 @@ by_app each key value (Some app) named = let found = by_tag each value (is_hex v
 abbrev SomeEntries : List Pair → Type 0
 SomeEntries pairs = (answer : Result (List AppEntry) LockError) × AreEntries pairs answer
 
-and_rest : (key value : Term) (pairs : List Pair) (first : Result AppEntry LockError) → IsPair key value first → (rest : Result (List AppEntry) LockError) → AreEntries pairs rest → SomeEntries ((key, value) ∷ pairs)
+and_rest : (key value : Term) (pairs : List Pair) (first : Result AppEntry LockError) → IsPair key value first
+    → (rest : Result (List AppEntry) LockError) → AreEntries pairs rest → SomeEntries ((key, value) ∷ pairs)
 and_rest key value pairs (Err e) is rest are = (Err e, refused is)
 and_rest key value pairs (Ok entry) is (Err e) are = (Err e, later is are)
 and_rest key value pairs (Ok entry) is (Ok entries) are = (Ok (entry ∷ entries), more is are)
@@ -84,7 +88,8 @@ some_entries each (p ∷ pairs) =
 abbrev Says : Term → Type 0
 Says t = (answer : Result (List AppEntry) LockError) × TermSays t answer
 
-in_turn : (t : Term) (pairs : List Pair) → Fits deepest t → map_of t ≡ Some pairs → (answer : Result (List AppEntry) LockError) → AreEntries pairs answer → Says t
+in_turn : (t : Term) (pairs : List Pair) → Fits deepest t → map_of t ≡ Some pairs → (answer : Result (List AppEntry) LockError)
+    → AreEntries pairs answer → Says t
 in_turn t pairs fits is (Err e) are = (Err e, refused_term is are)
 in_turn t pairs fits is (Ok entries) are =
     let order = sorted entries (apps_apart pairs entries (subst (Fits deepest) (map_named t pairs is) fits) are) in

@@ -1,5 +1,5 @@
 -- Entries of different apps have one order.
-use Rattle.std.proofs.Common.{◌≡◌, ℕ, suc, zero, ◌+◌, ◌<◌, ◌⊎◌, inl, inr, Bool, true, false, List, [], ◌∷◌, ◌++◌, length, get_or, refl, sym, ◌∙◌, ap, subst, arith, bytes_eq}
+use Rattle.std.proofs.Common.{◌≡◌, ℕ, suc, zero, ◌<◌, ◌⊎◌, inl, inr, false, List, [], ◌∷◌, length, get_or, refl, sym, ◌∙◌, ap, subst, arith, bytes_eq}
 use Rattle.std.specs.List.{AllByRecursion, Contains, IsDistinct}
 use Rattle.std.specs.List.Sorted.{IsPermutation}
 use Rattle.std.specs.declared.cmp.Ordering.{Ordering}
@@ -28,7 +28,8 @@ contained x xs z has = at has.0 has.1 has.2
 before_all : (app : List ℕ) (entries : List AppEntry) (z : AppEntry) → IsBefore app (apps_of entries) → Contains entries z → text_cmp app z.0 ≡ Less
 before_all app entries z before has = ap (λ (r : AppEntry). text_cmp app r.0) (sym has.2) ∙ first_before app entries has.0 z before has.1
 
-tail_of : (x y : AppEntry) (xs ys : List AppEntry) → x ≡ y → IsBefore x.0 (apps_of xs) → ((z : AppEntry) → Contains (x ∷ xs) z → Contains (y ∷ ys) z) → (z : AppEntry) → Contains xs z → Contains ys z
+tail_of : (x y : AppEntry) (xs ys : List AppEntry) → x ≡ y → IsBefore x.0 (apps_of xs)
+    → ((z : AppEntry) → Contains (x ∷ xs) z → Contains (y ∷ ys) z) → (z : AppEntry) → Contains xs z → Contains ys z
 tail_of x y xs ys same before kept z has =
     elim (contained y ys z (kept z (suc has.0, omega (arith, has.1), has.2))) [
       | inl first ↦
@@ -37,12 +38,14 @@ tail_of x y xs ys same before kept z has =
       | inr rest ↦ rest
     ]
 
-same_first : (x y : AppEntry) (xs ys : List AppEntry) → IsBefore x.0 (apps_of xs) → IsBefore y.0 (apps_of ys) → (y ≡ x) ⊎ Contains ys x → (x ≡ y) ⊎ Contains xs y → x ≡ y
+same_first : (x y : AppEntry) (xs ys : List AppEntry) → IsBefore x.0 (apps_of xs) → IsBefore y.0 (apps_of ys) → (y ≡ x) ⊎ Contains ys x
+    → (x ≡ y) ⊎ Contains xs y → x ≡ y
 same_first x y xs ys o p (inl is) there = sym is
 same_first x y xs ys o p (inr here) (inl is) = is
 same_first x y xs ys o p (inr here) (inr there) = absurd (one_way x.0 y.0 (before_all x.0 xs y o there) (before_all y.0 ys x p here))
 
-one_order : (xs ys : List AppEntry) → AreInOrder xs → AreInOrder ys → ((z : AppEntry) → Contains xs z → Contains ys z) → ((z : AppEntry) → Contains ys z → Contains xs z) → xs ≡ ys
+one_order : (xs ys : List AppEntry) → AreInOrder xs → AreInOrder ys → ((z : AppEntry) → Contains xs z → Contains ys z)
+    → ((z : AppEntry) → Contains ys z → Contains xs z) → xs ≡ ys
 one_order [] [] o p to from = refl
 one_order [] (y ∷ ys) o p to from = let none = from y (zero, omega arith, refl) in absurd (omega (arith, none.1))
 one_order (x ∷ xs) [] o p to from = let none = to x (zero, omega arith, refl) in absurd (omega (arith, none.1))
@@ -53,7 +56,8 @@ one_order (x ∷ xs) (y ∷ ys) o p to from =
 -- what the same entries are in order, is one list
 pub one_sorting : (xs ys us vs : List AppEntry) → xs ≡ ys → IsPermutation xs us → IsPermutation ys vs → AreInOrder us → AreInOrder vs → us ≡ vs
 one_sorting xs ys us vs entries same moved o p =
-    let to : IsPermutation us vs = IsPermutation-trans us ys vs (IsPermutation-sym ys us (subst (λ (es : List AppEntry). IsPermutation es us) entries same)) moved in
+    let to : IsPermutation us vs = IsPermutation-trans us ys vs
+    (IsPermutation-sym ys us (subst (λ (es : List AppEntry). IsPermutation es us) entries same)) moved in
     one_order us vs o p (λ z. Contains-permutation us vs z to) (λ z. Contains-permutation vs us z (IsPermutation-sym us vs to))
 
 -- ---- each list of entries of different apps has its order
@@ -97,7 +101,8 @@ pub record Sorted (xs : List AppEntry) : Type 0 where
   pub same : IsPermutation xs result
   pub in_order : AreInOrder result
 
-entries_apart : (app : List ℕ) (xs : List AppEntry) → AllByRecursion (λ other. bytes_eq app other ≡ false) (apps_of xs) → AllByRecursion (λ x. bytes_eq app x.0 ≡ false) xs
+entries_apart : (app : List ℕ) (xs : List AppEntry) → AllByRecursion (λ other. bytes_eq app other ≡ false) (apps_of xs)
+    → AllByRecursion (λ x. bytes_eq app x.0 ≡ false) xs
 entries_apart app [] all = tt
 entries_apart app (x ∷ xs) all = (all.0, entries_apart app xs all.1)
 

@@ -1,5 +1,5 @@
 -- What is written for a release says that release.
-use Rattle.std.proofs.Common.{◌≡◌, ℕ, suc, ◌/◌, ◌%◌, ◌<◌, ◌&&◌, Bool, true, false, List, [], ◌∷◌, slice_index, map, Option, Some, None, option_and_then, Result, Ok, if◌then◌else◌, codes, refl, sym, ◌∙◌, ap, arith}
+use Rattle.std.proofs.Common.{◌≡◌, ℕ, suc, ◌/◌, ◌%◌, ◌<◌, ◌&&◌, Bool, true, false, List, [], ◌∷◌, slice_index, map, Option, Some, None, option_and_then, if◌then◌else◌, codes, refl, sym, ◌∙◌, ap, arith}
 use Rattle.std.specs.Prelude.{IsTrue}
 use Rattle.std.specs.List.{AllByRecursion, list_all}
 use Rattle.std.proofs.lemmas.Bool.{true≢false}
@@ -8,15 +8,15 @@ use Rattle.hex.specs.Hex.{IsBytes, encode_lower, encode_with, lower_digits, deco
 use Rattle.hex.proofs.HexLemmas.{decode_of-encode_lower}
 use Rattle.mx_base.specs.AppName.{is_app_name}
 use Rattle.term_values.specs.declared.term.Term.{Term}
-use Rattle.term_values.specs.declared.term.Term.TheVariants.{Atom, Str, List as Listed, Tuple}
-use Rattle.term_values.specs.Views.{Named, Pair, atom_of, string_of, list_of, tuple_of, pair_of, named_of, keyword_of, keywords_of, all_of}
+use Rattle.term_values.specs.declared.term.Term.TheVariants.{Atom, Str, List as Listed}
+use Rattle.term_values.specs.Views.{Named, string_of, keyword_of, keywords_of, all_of}
 use Rattle.mix_lock.specs.declared.deps.Link.{Link}
 use Rattle.mix_lock.specs.declared.entry.HexEntry.{HexEntry}
 use Rattle.mix_lock.specs.declared.entry.LockDep.{LockDep}
 use Rattle.mix_lock.specs.declared.release.Build.{Build}
 use Rattle.mix_lock.specs.declared.release.Release.{Release}
 use Rattle.mix_lock.specs.Lock.{IsLockDep, IsHexEntry}
-use Rattle.mix_lock.specs.Terms.{is_named, is_tag, is_hex, if_app, app_of, names_of, is_version, if_version, version_of, is_lower_digit, if_decoded, bytes_in, bytes_of, truth_of, is_hexpm, link, link_in, three, link_of, dep, dep_by, dep_in, dep_of, deps_of, release, release_by, build, build_by, outer_of, hex_entry, with_rest, hex_in, hex_of}
+use Rattle.mix_lock.specs.Terms.{is_named, is_hex, if_app, app_of, names_of, is_version, if_version, version_of, is_lower_digit, if_decoded, bytes_in, bytes_of, truth_of, is_hexpm, link, three, link_of, dep, dep_in, dep_of, deps_of, release, release_by, build, build_by, outer_of, hex_entry, with_rest, hex_in, hex_of}
 use Rattle.mix_lock.specs.Text.{truth_term, keyword, options_term, dep_term, bytes_term, hex_term}
 use Rattle.mix_lock.proofs.ViewLemmas.{atom_is, string_is, list_is, tuple_is, out_atom, out_tuple}
 
@@ -92,8 +92,13 @@ options_in d = (codes "hex", Atom d.package) ∷ (codes "repo", Str (codes "hexp
 options_back : (d : LockDep) → keywords_of (options_term d) ≡ Some (options_in d)
 options_back d =
     ap (option_and_then (all_of keyword_of)) (list_is (map (λ n. keyword n.0 n.1) (options_in d)))
-    ∙ each_back keyword_of (λ n. keyword n.0 n.1) (options_in d)
-    (keyword_back (codes "hex") (Atom d.package), (keyword_back (codes "repo") (Str (codes "hexpm")), (keyword_back (codes "optional") (truth_term d.optional), tt)))
+    ∙ each_back keyword_of (λ n. keyword n.0 n.1) (options_in d) (
+      keyword_back (codes "hex") (Atom d.package),
+      (
+        keyword_back (codes "repo") (Str (codes "hexpm")),
+        (keyword_back (codes "optional") (truth_term d.optional), tt),
+      ),
+    )
 
 abbrev link_of_dep : LockDep → Link
 link_of_dep d = record { «package» = d.package; optional = d.optional }
@@ -142,7 +147,8 @@ build_back e is =
 abbrev with_repo : HexEntry → List ℕ → Option HexEntry
 with_repo e repo = Some (record { name = e.name; version = e.version; inner = e.inner; managers = e.managers; deps = e.deps; repo = repo; outer = e.outer })
 
-rest_back : (e : HexEntry) → IsHexEntry e → with_rest (release_in e) (Listed (map Atom e.managers) ∷ Listed (map dep_term e.deps) ∷ Str e.repo ∷ bytes_term e.outer ∷ []) ≡ Some e
+rest_back : (e : HexEntry) → IsHexEntry e
+    → with_rest (release_in e) (Listed (map Atom e.managers) ∷ Listed (map dep_term e.deps) ∷ Str e.repo ∷ bytes_term e.outer ∷ []) ≡ Some e
 unfolding with_rest
 rest_back e is =
     ap (λ (x : Option Build). hex_entry (release_in e) x (is_hexpm (Str e.repo)) (outer_of (Some (bytes_term e.outer)))) (build_back e is)
@@ -161,4 +167,8 @@ hex_back e is =
 
 pub hex_tagged : (e : HexEntry) → is_hex (hex_term e) ≡ true
 hex_tagged e =
-    rw (out_tuple (Atom (codes "hex") ∷ Atom e.name ∷ Str e.version ∷ bytes_term e.inner ∷ Listed (map Atom e.managers) ∷ Listed (map dep_term e.deps) ∷ Str e.repo ∷ bytes_term e.outer ∷ []), out_atom (codes "hex")) refl
+    rw (
+      out_tuple (Atom (codes "hex") ∷ Atom e.name ∷ Str e.version ∷ bytes_term e.inner
+          ∷ Listed (map Atom e.managers) ∷ Listed (map dep_term e.deps) ∷ Str e.repo ∷ bytes_term e.outer ∷ []),
+      out_atom (codes "hex"),
+    ) refl

@@ -1,6 +1,5 @@
 -- What terms are, seen from outside.
 use Rattle.std.proofs.Common.{◌≡◌, ℕ, List, Option, Some, None, refl, sym, ◌∙◌, ap}
-use Rattle.std.specs.Prelude.{ℤ}
 use Rattle.std.proofs.lemmas.Option.{same_Some, none-some}
 use Rattle.term_values.specs.declared.term.Term.{Term}
 use Rattle.term_values.specs.declared.term.Term.TheOpen.{Term-F}

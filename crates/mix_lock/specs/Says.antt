@@ -1,5 +1,5 @@
 -- What a text says of a lock.
-use Rattle.std.specs.Prelude.{◌≡◌, ℕ, Bool, true, false, List, [], ◌∷◌, Option, Some, None, Result, Ok, Err, IsFalse}
+use Rattle.std.specs.Prelude.{◌≡◌, ℕ, true, false, List, [], ◌∷◌, Option, Some, None, Result, Ok, Err, IsFalse}
 use Rattle.std.specs.List.{AllByRecursion}
 use Rattle.std.specs.List.Sorted.{IsPermutation}
 use Rattle.elixir_terms.specs.declared.error.TermError.{TermError}
@@ -48,14 +48,18 @@ pub data IsPair (key value : Term) : Result AppEntry LockError → Type 0 where
 pub data AreEntries : List Pair → Result (List AppEntry) LockError → Type 0 where
   end : AreEntries [] (Ok [])
   refused : {key value : Term} {pairs : List Pair} {e : LockError} → IsPair key value (Err e) → AreEntries ((key, value) ∷ pairs) (Err e)
-  later : {key value : Term} {entry : AppEntry} {pairs : List Pair} {e : LockError} → IsPair key value (Ok entry) → AreEntries pairs (Err e) → AreEntries ((key, value) ∷ pairs) (Err e)
-  more : {key value : Term} {entry : AppEntry} {pairs : List Pair} {entries : List AppEntry} → IsPair key value (Ok entry) → AreEntries pairs (Ok entries) → AreEntries ((key, value) ∷ pairs) (Ok (entry ∷ entries))
+  later : {key value : Term} {entry : AppEntry} {pairs : List Pair} {e : LockError} → IsPair key value (Ok entry) → AreEntries pairs (Err e)
+      → AreEntries ((key, value) ∷ pairs) (Err e)
+  more : {key value : Term} {entry : AppEntry} {pairs : List Pair} {entries : List AppEntry}
+      → IsPair key value (Ok entry) → AreEntries pairs (Ok entries)
+      → AreEntries ((key, value) ∷ pairs) (Ok (entry ∷ entries))
 
 -- what a term says: a map says the entries of its keys, in the order of the apps
 pub data TermSays (t : Term) : Result (List AppEntry) LockError → Type 0 where
   no_map : map_of t ≡ None → TermSays t (Err (lock.Shape []))
   refused : {pairs : List Pair} {e : LockError} → map_of t ≡ Some pairs → AreEntries pairs (Err e) → TermSays t (Err e)
-  good : {pairs : List Pair} {entries sorted : List AppEntry} → map_of t ≡ Some pairs → AreEntries pairs (Ok entries) → IsPermutation entries sorted → AreInOrder sorted → TermSays t (Ok sorted)
+  good : {pairs : List Pair} {entries sorted : List AppEntry} → map_of t ≡ Some pairs → AreEntries pairs (Ok entries)
+      → IsPermutation entries sorted → AreInOrder sorted → TermSays t (Ok sorted)
 
 -- the term is read from the text, within the limits
 abbrev pub IsReadAs : List ℕ → Term → Type 0

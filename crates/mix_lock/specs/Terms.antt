@@ -94,7 +94,9 @@ link (Some name) true (Some optional) = Some (record { «package» = name; optio
 link name repo optional = None
 
 abbrev pub link_in : List Named → Option Link
-link_in options = link (option_and_then app_of (under (codes "hex") options)) (says_hexpm (under (codes "repo") options)) (option_and_then truth_of (under (codes "optional") options))
+link_in options =
+    link (option_and_then app_of (under (codes "hex") options)) (says_hexpm (under (codes "repo") options))
+    (option_and_then truth_of (under (codes "optional") options))
 
 -- of three options
 abbrev pub three : List Named → Option Link

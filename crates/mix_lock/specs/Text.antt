@@ -23,7 +23,9 @@ keyword name value = Tuple (Atom name ∷ value ∷ [])
 
 -- `[hex: name, repo: "hexpm", optional: truth]`
 abbrev pub options_term : LockDep → Term
-options_term d = Listed (keyword (codes "hex") (Atom d.package) ∷ keyword (codes "repo") (Str (codes "hexpm")) ∷ keyword (codes "optional") (truth_term d.optional) ∷ [])
+options_term d =
+    Listed (keyword (codes "hex") (Atom d.package) ∷ keyword (codes "repo") (Str (codes "hexpm"))
+    ∷ keyword (codes "optional") (truth_term d.optional) ∷ [])
 
 -- `{app, requirement, options}`
 unfoldable pub dep_term : LockDep → Term
@@ -35,7 +37,9 @@ bytes_term bytes = Str (encode_lower bytes)
 
 -- `{:hex, name, version, inner, managers, deps, repo, outer}`
 abbrev pub hex_term : HexEntry → Term
-hex_term e = Tuple (Atom (codes "hex") ∷ Atom e.name ∷ Str e.version ∷ bytes_term e.inner ∷ Listed (map Atom e.managers) ∷ Listed (map dep_term e.deps) ∷ Str e.repo ∷ bytes_term e.outer ∷ [])
+hex_term e =
+    Tuple (Atom (codes "hex") ∷ Atom e.name ∷ Str e.version ∷ bytes_term e.inner
+    ∷ Listed (map Atom e.managers) ∷ Listed (map dep_term e.deps) ∷ Str e.repo ∷ bytes_term e.outer ∷ [])
 
 abbrev pub entry_term : Entry → Term
 entry_term (Hex e) = hex_term e

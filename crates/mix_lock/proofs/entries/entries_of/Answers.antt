@@ -1,6 +1,5 @@
-use Rattle.std.proofs.Common.{◌≡◌, ◌++◌, List, length, sym, ◌∙◌, ap, arith}
+use Rattle.std.proofs.Common.{◌≡◌, ◌++◌, length, ◌∙◌, ap, arith}
 use Rattle.std.specs.Option.{option_to_list}
-use Rattle.term_values.specs.Views.{Pair}
 use Rattle.mix_lock.specs.Blame.{lock_blame}
 use Rattle.mix_lock.specs.Says.{AreEntries}
 use Rattle.mix_lock.proofs.EntryLemmas.{answers_by_on, nil_of, continues_next, continues_refused, continues_end}
@@ -13,14 +12,16 @@ returns-in_err-pair_of c =
     let error = c.in_err-pair_of.field-0.0 in
     let split = c.pop.ensures.items ∙ ap (λ found. rest ++ option_to_list found) c.in-Some.is in
     answers_by_on (λ entries. entries.items) lock_blame (AreEntries pairs) c.from_residual-in_err-pair_of.result error c.from_residual-in_err-pair_of.ensures.1
-    (λ input. continues_refused pairs c.loop-key.rest.items rest c.in-Some.key c.in-Some.value c.loop-key.entries.items error split (c.in_err-pair_of.ensures input) c.loop-key.invariant)
+    (λ input. continues_refused pairs c.loop-key.rest.items rest c.in-Some.key c.in-Some.value c.loop-key.entries.items error split
+    (c.in_err-pair_of.ensures input) c.loop-key.invariant)
 
 pub loop-key-preserved-in_ok-push : goal.loop-key-preserved-in_ok-push
 loop-key-preserved-in_ok-push c =
     let pairs = c.args.pairs in
     let rest = c.pop.new.self.items in
     let split = c.pop.ensures.items ∙ ap (λ found. rest ++ option_to_list found) c.in-Some.is in
-    continues_next pairs c.loop-key.rest.items rest c.in-Some.key c.in-Some.value c.loop-key.entries.items c.push.new.self.items c.in_ok-pair_of.field-0 split c.in_ok-push.ensures.items c.in_ok-pair_of.ensures c.loop-key.invariant
+    continues_next pairs c.loop-key.rest.items rest c.in-Some.key c.in-Some.value c.loop-key.entries.items c.push.new.self.items
+    c.in_ok-pair_of.field-0 split c.in_ok-push.ensures.items c.in_ok-pair_of.ensures c.loop-key.invariant
 
 pub returns : goal.returns
 returns c =

@@ -13,9 +13,11 @@ pub returns-in_err-term : goal.returns-in_err-term
 returns-in_err-term c =
     let text = c.args.bytes.now in
     let error = c.in_err-term.field-0.0 in
-    answers_on lock_blame (SaysLock text) c.from_residual.result (term_refused error) c.from_residual.ensures.1 (text_refused text error c.in_err-term.ensures.refused)
+    answers_on lock_blame (SaysLock text) c.from_residual.result (term_refused error) c.from_residual.ensures.1
+    (text_refused text error c.in_err-term.ensures.refused)
 
 pub returns : goal.returns
 returns c =
     let term = c.in_ok-term.term in
-    answers_as lock_blame (TermSays term) (SaysLock c.args.bytes.now) c.lock_of.result (λ answer says. read term c.in_ok-term.ensures.read says) c.lock_of.ensures
+    answers_as lock_blame (TermSays term) (SaysLock c.args.bytes.now) c.lock_of.result
+    (λ answer says. read term c.in_ok-term.ensures.read says) c.lock_of.ensures
