@@ -7,6 +7,7 @@ pub mod OneLemmas
 pub mod OptionLemmas
 pub mod OrderLemmas
 pub mod PrintLemmas
+pub mod PushLemmas
 pub mod ReadLemmas
 pub mod SomeLemmas
 pub mod SortLemmas

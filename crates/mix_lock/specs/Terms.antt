@@ -147,9 +147,13 @@ abbrev pub outer_of : Option Term → Option (List ℕ)
 outer_of None = Some []
 outer_of (Some t) = bytes_of t
 
+-- a release with its repository
+abbrev pub joined : Release → Build → List ℕ → HexEntry
+joined r b outer =
+    record { name = r.name; version = r.version; inner = r.inner; managers = b.managers; deps = b.deps; repo = codes "hexpm"; outer = outer }
+
 abbrev pub hex_entry : Release → Option Build → Bool → Option (List ℕ) → Option HexEntry
-hex_entry r (Some b) true (Some outer) =
-    Some (record { name = r.name; version = r.version; inner = r.inner; managers = b.managers; deps = b.deps; repo = codes "hexpm"; outer = outer })
+hex_entry r (Some b) true (Some outer) = Some (joined r b outer)
 hex_entry r b repo outer = None
 
 -- with what follows the release

@@ -35,11 +35,17 @@ dep_term d = Tuple (Atom d.app ∷ Str d.requirement ∷ options_term d ∷ [])
 abbrev pub bytes_term : List ℕ → Term
 bytes_term bytes = Str (encode_lower bytes)
 
+-- the tag, and the release itself
+abbrev pub release_terms : HexEntry → List Term
+release_terms e = Atom (codes "hex") ∷ Atom e.name ∷ Str e.version ∷ bytes_term e.inner ∷ []
+
+-- what follows the release
+abbrev pub build_terms : HexEntry → List Term
+build_terms e = Listed (map Atom e.managers) ∷ Listed (map dep_term e.deps) ∷ Str e.repo ∷ bytes_term e.outer ∷ []
+
 -- `{:hex, name, version, inner, managers, deps, repo, outer}`
 abbrev pub hex_term : HexEntry → Term
-hex_term e =
-    Tuple (Atom (codes "hex") ∷ Atom e.name ∷ Str e.version ∷ bytes_term e.inner
-    ∷ Listed (map Atom e.managers) ∷ Listed (map dep_term e.deps) ∷ Str e.repo ∷ bytes_term e.outer ∷ [])
+hex_term e = Tuple (release_terms e ++ build_terms e)
 
 abbrev pub entry_term : Entry → Term
 entry_term (Hex e) = hex_term e

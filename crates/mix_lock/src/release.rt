@@ -1,7 +1,7 @@
 // The releases of a lock, in terms.
 ghost use Rattle.std.specs.Prelude.{◌≡◌, IfOk};
 ghost use Rattle.std.specs.Option.{option_copied};
-ghost use Rattle.mix_lock.specs.Terms.{is_hexpm, is_tag, is_hex, release_by, build_by, outer_of, hex_entry, with_rest, hex_of};
+ghost use Rattle.mix_lock.specs.Terms.{is_hexpm, is_tag, is_hex, release_by, build_by, outer_of, joined, hex_entry, with_rest, hex_of};
 
 use crate::deps::deps_of;
 use crate::entry::{HexEntry, LockDeps};
@@ -110,30 +110,36 @@ fn hex_entry(
     ensures { IfOk result (λ found. found ≡ hex_entry release (build_by managers.now deps.now)
         (is_hexpm repo.now) (outer_of (option_copied outer.entry))) }
 {
-    let Some(build) = build_by(alloc, managers, deps)? else {
-        return Ok(None);
-    };
     if !is_hexpm(repo) {
         return Ok(None);
     }
-    let Some(outer) = outer_of(alloc, outer)? else {
+    let Some(build) = build_by(alloc, managers, deps)? else {
         return Ok(None);
     };
-    let Release {
-        name,
-        version,
-        inner,
-    } = release;
-    let Build { managers, deps } = build;
-    Ok(Some(HexEntry {
-        name,
-        version,
-        inner,
-        managers,
-        deps,
-        repo: Text::from_slice(alloc, HEXPM)?,
+    match outer_of(alloc, outer)? {
+        Some(outer) => Ok(Some(joined(alloc, release, build, outer)?)),
+        None => Ok(None),
+    }
+}
+
+fn joined(
+    alloc: Global,
+    release: Release,
+    build: Build,
+    outer: Bytes,
+) -> Result<HexEntry, AllocError>
+    ensures { IfOk result (λ entry. entry ≡ joined release build outer) }
+{
+    let repo = Text::from_slice(alloc, HEXPM)?;
+    Ok(HexEntry {
+        name: release.name,
+        version: release.version,
+        inner: release.inner,
+        managers: build.managers,
+        deps: build.deps,
+        repo,
         outer,
-    }))
+    })
 }
 
 #[tactic(auto, unfolding(crate::specs::Terms::build_by))]

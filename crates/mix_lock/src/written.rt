@@ -1,7 +1,7 @@
 // The terms that are written for releases.
-ghost use Rattle.std.specs.Prelude.{◌≡◌, [], ◌∷◌, map, IfOk};
+ghost use Rattle.std.specs.Prelude.{◌≡◌, ◌++◌, map, IfOk, OnOk};
 ghost use Rattle.term_values.specs.declared.term.Term.TheVariants.{Atom};
-ghost use Rattle.mix_lock.specs.Text.{truth_term, keyword, options_term, dep_term, bytes_term, hex_term};
+ghost use Rattle.mix_lock.specs.Text.{truth_term, keyword, options_term, dep_term, bytes_term, release_terms, build_terms, hex_term};
 
 use crate::entry::{HexEntry, LockDep};
 use crate::scalars::HEXPM;
@@ -15,17 +15,32 @@ use std::alloc::{AllocError, Global};
 pub(crate) fn hex_term(alloc: Global, entry: &HexEntry) -> Result<Term, AllocError>
     ensures { IfOk result (λ term. term ≡ hex_term entry.now) }
 {
-    let parts = [
-        atom(alloc, b"hex")?,
-        name_term(alloc, &entry.name)?,
-        string(alloc, entry.version.as_slice())?,
-        bytes_term(alloc, entry.inner.as_slice())?,
-        names_term(alloc, entry.managers.as_slice())?,
-        deps_term(alloc, entry.deps.as_slice())?,
-        string(alloc, entry.repo.as_slice())?,
-        bytes_term(alloc, entry.outer.as_slice())?,
-    ];
-    Ok(Term::Tuple(Items::from_vec(Vec::from_array(alloc, parts)?)))
+    let mut parts = Terms::new(alloc);
+    push_release(alloc, &mut parts, entry)?;
+    push_build(alloc, &mut parts, entry)?;
+    Ok(Term::Tuple(parts))
+}
+
+// The tag, and the release itself.
+#[tactic(auto, using(crate::proofs::PushLemmas::four_pushed))]
+fn push_release(alloc: Global, parts: &mut Terms, entry: &HexEntry) -> Result<(), AllocError>
+    ensures { OnOk result (parts.new ≡ parts.old ++ release_terms entry.now) }
+{
+    parts.push(atom(alloc, b"hex")?)?;
+    parts.push(name_term(alloc, &entry.name)?)?;
+    parts.push(string(alloc, entry.version.as_slice())?)?;
+    parts.push(bytes_term(alloc, entry.inner.as_slice())?)
+}
+
+// What follows the release.
+#[tactic(auto, using(crate::proofs::PushLemmas::four_pushed))]
+fn push_build(alloc: Global, parts: &mut Terms, entry: &HexEntry) -> Result<(), AllocError>
+    ensures { OnOk result (parts.new ≡ parts.old ++ build_terms entry.now) }
+{
+    parts.push(names_term(alloc, entry.managers.as_slice())?)?;
+    parts.push(deps_term(alloc, entry.deps.as_slice())?)?;
+    parts.push(string(alloc, entry.repo.as_slice())?)?;
+    parts.push(bytes_term(alloc, entry.outer.as_slice())?)
 }
 
 fn atom(alloc: Global, name: &[u8]) -> Result<Term, AllocError>
