@@ -1,0 +1,3 @@
+pub mod AnyRelease
+pub mod KindLemmas
+pub mod PathLemmas
