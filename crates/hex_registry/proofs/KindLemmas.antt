@@ -15,7 +15,7 @@ lesser_kind : (one other : Breach) → kind_of one < kind_of other → IsTrue (i
 lesser_kind one other less =
     ap (λ (o : Ordering). is_le (ordering_then o (text_cmp (package_of one) (package_of other)))) (sym (nat_cmp_is (kind_of one) (kind_of other) Less less))
 
-no_kind : (Is : Breach → Type 0) (kind : ℕ) → IsFirst (IsOfKind Is kind) None → (other : Breach) → kind_of other ≡ kind → Is other → ⊥
+pub no_kind : (Is : Breach → Type 0) (kind : ℕ) → IsFirst (IsOfKind Is kind) None → (other : Breach) → kind_of other ≡ kind → Is other → ⊥
 no_kind Is kind (none never) other of is = never other (of, is)
 
 pub first_0 : (Is : Breach → Type 0) (found : Breach) → IsFirst (IsOfKind Is 0) (Some found) → IsFirst Is (Some found)

@@ -1,3 +1,13 @@
 pub mod AnyRelease
+pub mod CandidateLemmas
 pub mod KindLemmas
+pub mod Lists
+pub mod LoadLemmas
+pub mod MissingLemmas
+pub mod NameOrder
+pub mod NamedLemmas
 pub mod PathLemmas
+pub mod PickLists
+pub mod ReachLemmas
+pub mod ShelfLemmas
+pub mod ValidLemmas

@@ -7,4 +7,5 @@ pub mod Candidates
 pub mod Picks
 pub mod Valid
 pub mod Breaches
+pub mod Missing
 pub mod Reach

@@ -83,11 +83,6 @@ named_by_stock pinned (Some stock) = flat_map (named_by_offer pinned) stock.offe
 abbrev pub names_so_far : Wants → List Shelf → List (List ℕ)
 names_so_far wants shelves = wanted_names wants ++ flat_map (λ shelf. named_by_stock wants.pinned shelf.stock) shelves
 
--- names in their order, each at its first place alone
-abbrev pub firsts : List (List ℕ) → List (List ℕ)
-firsts [] = []
-firsts (name ∷ names) = name ∷ filter (λ other. not (bytes_eq name other)) (firsts names)
-
 -- the first name that was named and not read
 abbrev pub next_name : Wants → List Shelf → Option (List ℕ)
 next_name wants shelves = find (λ name. not (is_among name (shelf_names shelves))) (names_so_far wants shelves)

@@ -1,7 +1,8 @@
 -- What a pick, wants and offers say together.
-use Rattle.std.specs.Prelude.{◌≡◌, ℕ, Bool, true, false, not, ◌||◌, ◌&&◌, List, [], ◌∷◌, map, find, Option, Some, None, option_map, is_some, IsTrue, bytes_eq}
+use Rattle.std.specs.Prelude.{◌≡◌, ℕ, Bool, true, false, not, ◌||◌, ◌&&◌, List, [], ◌∷◌, map, find, filter, Option, Some, None, option_map, is_some, IsTrue, bytes_eq, if◌then◌else◌}
 use Rattle.std.specs.List.{Contains}
-use Rattle.mx_base.specs.Order.{ArePathsInOrder}
+use Rattle.std.specs.Ordering.{is_lt}
+use Rattle.mx_base.specs.Order.{ArePathsInOrder, text_cmp}
 use Rattle.semver.specs.Identifiers.{parts_of}
 use Rattle.semver.specs.Parse.{Parts}
 use Rattle.version_req.specs.Condition.{Alternatives, Condition}
@@ -73,3 +74,12 @@ pub data IsAsked (shelves : List Shelf) (wants : Wants) (pick : List Picked) : L
 pub data IsReached (shelves : List Shelf) (wants : Wants) (pick : List Picked) : List ℕ → Type 0 where
   wanted : (want : Want) → Contains wants.wants want → want.optional ≡ false → IsReached shelves wants pick want.«package»
   demanded : (by : Picked) (demand : Demand) → Contains pick by → IsReached shelves wants pick by.0 → Contains (demands_at shelves wants by) demand → demand.optional ≡ false → IsReached shelves wants pick demand.«package»
+
+-- with one more release, in byte order of packages
+abbrev pub with_picked : List Picked → Picked → List Picked
+with_picked [] picked = picked ∷ []
+with_picked (first ∷ rest) picked = if is_lt (text_cmp first.0 picked.0) then first ∷ with_picked rest picked else picked ∷ first ∷ rest
+
+-- without a package
+abbrev pub without_package : List Picked → List ℕ → List Picked
+without_package pick name = filter (λ picked. not (bytes_eq name picked.0)) pick

@@ -19,9 +19,10 @@ mod wants;
 
 pub use breach::{Breach, first_breach, is_valid_pick};
 pub use error::RegistryError;
+pub use missing::first_missing;
 pub use offer::{Demand, Demands, Offer, Offers};
 pub use pick::{Pick, Picked};
 pub use registry::Registry;
 pub use shelf::{Shelf, Stock};
-pub use unmet::By;
+pub use unmet::{By, demands_refuse, wants_refuse};
 pub use wants::{Locked, LockedList, Want, WantList, Wants};

@@ -1,11 +1,12 @@
 // Reading the packages that wants come to.
-ghost use Rattle.std.specs.Prelude.{◌≡◌, ◌++◌, IsFalse, IfOk, OnOk};
+ghost use Rattle.std.specs.Prelude.{◌≡◌, [], bytes_eq, IsFalse, IfOk, OnOk};
+ghost use Rattle.indexmap.specs.IndexSet.{insert_all};
 ghost use Rattle.mx_base.specs.Blame.{Computes};
 ghost use Rattle.mx_base.specs.Layout.{is_in_build};
 ghost use Rattle.mx_base.specs.Order.{bytes_at};
 ghost use Rattle.tree_store.specs.Known.{Reads};
 ghost use Rattle.hex_registry.specs.Blame.{blame_of};
-ghost use Rattle.hex_registry.specs.Loaded.{IsLoaded, IsMessage, SaysMessage, SaysOffer, SaysOffers, SaysStock, firsts, named_by_offer, named_by_stock, package_path, wanted_names};
+ghost use Rattle.hex_registry.specs.Loaded.{IsLoaded, IsMessage, SaysMessage, SaysOffer, SaysOffers, SaysStock, named_by_offer, named_by_stock, package_path, wanted_names};
 
 use crate::error::{RegistryError, wire_refused};
 use crate::offer::{Offer, Offers, demands_of, version_of};
@@ -52,7 +53,7 @@ impl Registry {
 
 // The names of the wanted packages, each at its first place.
 fn wanted_names(alloc: Global, wants: &Wants) -> Result<IndexSet<AppName>, AllocError>
-    ensures { IfOk result (λ names. names.keys ≡ firsts (wanted_names wants.now)) }
+    ensures { IfOk result (λ names. names.keys ≡ insert_all bytes_eq [] (wanted_names wants.now)) }
 {
     let mut names = IndexSet::new(alloc);
     for want in wants.wants.as_slice() {
@@ -67,9 +68,8 @@ fn add_named(
     wants: &Wants,
     stock: &Option<Stock>,
 ) -> Result<(), AllocError>
-    requires apart { names.old.keys ≡ firsts names.old.keys }
     ensures { OnOk result (names.new.keys
-        ≡ firsts (names.old.keys ++ named_by_stock wants.now.pinned stock.now)) }
+        ≡ insert_all bytes_eq names.old.keys (named_by_stock wants.now.pinned stock.now)) }
 {
     let Some(stock) = stock else {
         return Ok(());
@@ -85,9 +85,8 @@ fn add_named_by(
     wants: &Wants,
     offer: &Offer,
 ) -> Result<(), AllocError>
-    requires apart { names.old.keys ≡ firsts names.old.keys }
     ensures { OnOk result (names.new.keys
-        ≡ firsts (names.old.keys ++ named_by_offer wants.now.pinned offer.now)) }
+        ≡ insert_all bytes_eq names.old.keys (named_by_offer wants.now.pinned offer.now)) }
 {
     for demand in offer.demands() {
         if !wants.sets_aside(demand) {

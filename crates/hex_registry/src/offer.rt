@@ -34,7 +34,7 @@ pub struct Offer {
 
 impl Offer {
     /// What it asks for, which is nothing where it isn't usable.
-    pub(crate) fn demands(&self) -> &[Demand]
+    pub fn demands(&self) -> &[Demand]
         ensures { result.now ≡ listed_demands self.now.demands }
     {
         match &self.demands {
@@ -44,7 +44,7 @@ impl Offer {
     }
 
     /// Whether the release can be picked.
-    pub(crate) fn is_usable(&self) -> bool
+    pub fn is_usable(&self) -> bool
         ensures { result ≡ is_usable self.now }
     {
         self.demands.is_some()

@@ -1,8 +1,13 @@
 // Picks of releases.
-ghost use Rattle.std.specs.Prelude.{◌≡◌, ◌↔◌, IsTrue, IfSome, IfNone, option_map, position, bytes_eq};
-ghost use Rattle.hex_registry.specs.Picks.{ArePicks, has_package, picked_of};
+ghost use Rattle.std.specs.Prelude.{◌≡◌, ◌↔◌, not, [], IsTrue, IsFalse, IfSome, IfNone, OnOk, OnErr, option_map, position, bytes_eq};
+ghost use Rattle.std.specs.List.{position_or_len};
+ghost use Rattle.std.specs.Option.{option_copied};
+ghost use Rattle.std.specs.Ordering.{is_lt};
+ghost use Rattle.mx_base.specs.Order.{text_cmp};
+ghost use Rattle.hex_registry.specs.Picks.{ArePicks, has_package, picked_of, with_picked, without_package};
 
 use mx_base::AppName;
+use std::alloc::{AllocError, Global};
 use std::marker::Model;
 
 /// A package, and the place of its release in the package's message.
@@ -38,6 +43,35 @@ impl Pick {
         }
     }
 
+    /// The pick of nothing.
+    pub fn new(alloc: Global) -> Pick
+        ensures { result ≡ [] }
+    {
+        Pick {
+            picks: Vec::new(alloc),
+        }
+    }
+
+    /// Adds a package with its release. A refusal leaves the pick as it was.
+    #[tactic(auto, using(crate::proofs::PickLists::inserted_in_order, crate::proofs::PickLists::inserted_is))]
+    pub fn insert(&mut self, name: AppName, place: u64) -> Result<(), AllocError>
+        requires { IsFalse (has_package self.old name) }
+        ensures ok { OnOk result (self.new ≡ with_picked self.old (name, place)) }
+        ensures err { OnErr result (self.new ≡ self.old) }
+    {
+        let at = place_for(&self.picks, &name);
+        self.picks.insert(at, (name, place))?;
+        Ok(())
+    }
+
+    /// Takes a package out, if it is picked.
+    #[tactic(auto, using(crate::proofs::PickLists::without_in_order))]
+    pub fn remove(&mut self, name: &AppName)
+        ensures { self.new ≡ without_package self.old name.now }
+    {
+        without(&mut self.picks, name);
+    }
+
     /// The packages and their releases.
     pub fn as_slice(&self) -> &[Picked]
         ensures value { result.now ≡ self.now }
@@ -50,19 +84,23 @@ impl Pick {
     pub fn place_of(&self, name: &AppName) -> Option<u64>
         ensures { result ≡ option_map (λ picked. picked.1) (picked_of self.now name.now) }
     {
-        for (package, place) in self.as_slice() {
-            if name == package {
-                return Some(*place);
-            }
+        match self.picked(name) {
+            Some((_, place)) => Some(*place),
+            None => None,
         }
-        None
+    }
+
+    fn picked(&self, name: &AppName) -> Option<&Picked>
+        ensures { option_copied result ≡ picked_of self.now name.now }
+    {
+        self.as_slice().iter().find(|picked| name == &picked.0)
     }
 
     /// Whether the package is picked.
     pub(crate) fn has(&self, name: &AppName) -> bool
         ensures { result ≡ has_package self.now name.now }
     {
-        self.place_of(name).is_some()
+        self.picked(name).is_some()
     }
 
     /// Where a package stands among those that are picked.
@@ -71,6 +109,35 @@ impl Pick {
     {
         self.as_slice().iter().position(|picked| name == &picked.0)
     }
+}
+
+// Where a package would stand: behind those with lesser names.
+#[tactic(auto, using(crate::proofs::PickLists::place_found, crate::proofs::PickLists::place_past))]
+fn place_for(picks: &[Picked], name: &AppName) -> usize
+    ensures { result ≡ position_or_len (λ picked. not (is_lt (text_cmp picked.0 name.now))) picks.now }
+{
+    match picks.iter().position(|picked| !is_lesser(picked, name)) {
+        Some(at) => at,
+        None => picks.len(),
+    }
+}
+
+fn is_lesser(picked: &Picked, name: &AppName) -> bool
+    ensures { result ≡ is_lt (text_cmp picked.now.0 name.now) }
+{
+    &picked.0 < name
+}
+
+fn without(picks: &mut Vec<Picked>, name: &AppName)
+    ensures { picks.new.items ≡ without_package picks.old.items name.now }
+{
+    picks.retain(|picked| !is_of(picked, name));
+}
+
+fn is_of(picked: &Picked, name: &AppName) -> bool
+    ensures { result ≡ bytes_eq name.now picked.now.0 }
+{
+    name == &picked.0
 }
 
 fn are_in_order(picks: &[Picked]) -> bool

@@ -43,24 +43,25 @@ impl Registry {
         self.shelf(name)?.stock.as_ref()
     }
 
-    /// What a picked release offers, where there is one at its place.
-    pub(crate) fn offer(&self, picked: &Picked) -> Option<&Offer>
-        ensures { option_copied result ≡ offer_at self.now picked.now }
+    /// What the release of a package offers that stands at this place of its message; none where there is no such.
+    pub fn offer(&self, name: &AppName, place: u64) -> Option<&Offer>
+        ensures { option_copied result ≡ offer_at self.now (name.now, place) }
     {
-        let stock = self.stock(&picked.0)?;
-        stock.offers.as_slice().get(picked.1 as usize)
+        let stock = self.stock(name)?;
+        stock.offers.as_slice().get(place as usize)
     }
 
     /// What a picked release asks for, with what is set aside.
-    pub(crate) fn demands(&self, picked: &Picked) -> &[Demand]
+    pub fn demands(&self, picked: &Picked) -> &[Demand]
         ensures { result.now ≡ demands_of (offer_at self.now picked.now) }
     {
-        match self.offer(picked) {
+        match self.offer(&picked.0, picked.1) {
             Some(offer) => offer.demands(),
             None => &[],
         }
     }
 
+    #[tactic(auto, using(crate::proofs::ShelfLemmas::shelf_at, crate::proofs::ShelfLemmas::no_shelf))]
     fn shelf(&self, name: &AppName) -> Option<&Shelf>
         ensures { option_copied result ≡ shelf_of self.now name.now }
     {

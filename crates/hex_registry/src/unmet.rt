@@ -6,7 +6,7 @@ ghost use Rattle.hex_registry.specs.Breaches.{IsBreach, IsFirst, IsOfKind, SaysA
 ghost use Rattle.hex_registry.specs.Picks.{any_release, demand_refuses, demand_takes, demands_at, want_refuses, want_takes};
 ghost use Rattle.semver.specs.Identifiers.{parts_of};
 ghost use Rattle.version_req.specs.Meaning.{sat};
-ghost use Rattle.hex_registry.specs.Shelves.{is_among};
+ghost use Rattle.hex_registry.specs.Shelves.{is_among, without_apps};
 
 use crate::breach::Breach;
 use crate::offer::{Demand, Offer};
@@ -53,7 +53,7 @@ fn against(
 ) -> Result<Option<By>, AllocError>
     ensures { IfOk result (SaysAgainst registry.now wants.now pick.now picked.now) }
 {
-    let Some(offer) = registry.offer(picked) else {
+    let Some(offer) = registry.offer(&picked.0, picked.1) else {
         return Ok(None);
     };
     if let Some(index) = first_want_against(wants, &picked.0, offer) {
@@ -95,9 +95,34 @@ fn refuses(registry: &Registry, wants: &Wants, by: &Picked, name: &AppName, offe
     ensures { result ≡ list_any (demand_refuses wants.now.overridden name.now offer.now)
         (demands_at registry.now wants.now by.now) }
 {
-    registry.demands(by).iter().any(|demand| {
-        !wants.sets_aside(demand) && demand_refuses(&wants.overridden, name, offer, demand)
-    })
+    demands_refuse(wants, registry.demands(by), name, offer)
+}
+
+/// Whether one of these demands is in force on the package and isn't met by its release.
+pub fn demands_refuse(wants: &Wants, demands: &[Demand], name: &AppName, offer: &Offer) -> bool
+    ensures { result ≡ list_any (demand_refuses wants.now.overridden name.now offer.now)
+        (without_apps wants.now.pinned demands.now) }
+{
+    for demand in demands {
+        if wants.sets_aside(demand) {
+            continue;
+        }
+        if demand_refuses(&wants.overridden, name, offer, demand) {
+            return true;
+        }
+    }
+    false
+}
+
+/// Whether a want is of the package and doesn't take its release.
+pub fn wants_refuse(wants: &Wants, name: &AppName, offer: &Offer) -> bool
+    ensures { result ≡ list_any (want_refuses name.now offer.now) wants.now.wants }
+{
+    wants
+        .wants
+        .as_slice()
+        .iter()
+        .any(|want| want_refuses(name, offer, want))
 }
 
 fn want_refuses(name: &AppName, offer: &Offer, want: &Want) -> bool

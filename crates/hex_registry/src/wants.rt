@@ -40,7 +40,7 @@ pub struct Wants {
 
 impl Wants {
     /// Whether a demand is set aside, since its app comes from elsewhere.
-    pub(crate) fn sets_aside(&self, demand: &Demand) -> bool
+    pub fn sets_aside(&self, demand: &Demand) -> bool
         ensures { result ≡ is_among demand.now.app self.now.pinned }
     {
         is_among(&demand.app, &self.pinned)
