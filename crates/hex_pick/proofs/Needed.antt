@@ -58,6 +58,6 @@ open_none problem pick all = at (next_needed problem pick) refl
 abbrev pub Within : List Picked → List Picked → Type 0
 Within pick others = (q : Picked) → Contains pick q → Contains others q
 
-pub asked_more : {problem : Problem} (pick others : List Picked) {name : List ℕ} → Within pick others → IsAsked problem.shelves problem.wants pick name → IsAsked problem.shelves problem.wants others name
-asked_more pick others within (wanted want c required) = wanted want c required
-asked_more pick others within (demanded by demand c d required) = demanded by demand (within by c) d required
+pub asked_more : (problem : Problem) (pick others : List Picked) {name : List ℕ} → Within pick others → IsAsked problem.shelves problem.wants pick name → IsAsked problem.shelves problem.wants others name
+asked_more problem pick others within (wanted want c required) = wanted want c required
+asked_more problem pick others within (demanded by demand c d required) = demanded by demand (within by c) d required

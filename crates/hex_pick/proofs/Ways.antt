@@ -90,17 +90,17 @@ pub record IsOnWay (problem : Problem) (pick : List Picked) : Type 0 where
   pub agreed : agrees problem pick ≡ true
   pub reached : (q : Picked) → Contains pick q → IsReached problem.shelves problem.wants pick q.0
 
-pub reached_more : {problem : Problem} (pick others : List Picked) {name : List ℕ} → Within pick others → IsReached problem.shelves problem.wants pick name → IsReached problem.shelves problem.wants others name
-reached_more pick others within (wanted want c required) = wanted want c required
-reached_more {problem} pick others within (demanded by demand c r d required) = demanded by demand (within by c) (reached_more {problem} pick others within r) d required
+pub reached_more : (problem : Problem) (pick others : List Picked) {name : List ℕ} → Within pick others → IsReached problem.shelves problem.wants pick name → IsReached problem.shelves problem.wants others name
+reached_more problem pick others within (wanted want c required) = wanted want c required
+reached_more problem pick others within (demanded by demand c r d required) = demanded by demand (within by c) (reached_more problem pick others within r) d required
 
 pub begins : (problem : Problem) → IsOnWay problem []
 begins problem = record { in_order = tt; candidate = λ q c. absurd (contains_none q c); agreed = refl; reached = λ q c. absurd (contains_none q c) }
 
 -- a package that is asked for by picks that are all reached is reached
-pub reached_by : {problem : Problem} (pick : List Picked) {name : List ℕ} → ((q : Picked) → Contains pick q → IsReached problem.shelves problem.wants pick q.0) → IsAsked problem.shelves problem.wants pick name → IsReached problem.shelves problem.wants pick name
-reached_by pick all (asked_wanted want c required) = wanted want c required
-reached_by pick all (asked_demanded by demand c d required) = demanded by demand c (all by c) d required
+pub reached_by : (problem : Problem) (pick : List Picked) {name : List ℕ} → ((q : Picked) → Contains pick q → IsReached problem.shelves problem.wants pick q.0) → IsAsked problem.shelves problem.wants pick name → IsReached problem.shelves problem.wants pick name
+reached_by problem pick all (asked_wanted want c required) = wanted want c required
+reached_by problem pick all (asked_demanded by demand c d required) = demanded by demand c (all by c) d required
 
 pub goes_on : (problem : Problem) (pick child : List Picked) → IsOnWay problem pick → IsChild problem pick child → IsOnWay problem child
 goes_on problem pick child way k =
@@ -116,8 +116,8 @@ goes_on problem pick child way k =
       ];
       agreed = k.agreed;
       reached = λ q c. elim (decided_cases pick (k.name, k.place) q c) [
-        | inl e ↦ subst (λ (r : Picked). IsReached problem.shelves problem.wants (with_picked pick (k.name, k.place)) r.0) e (reached_more {problem} pick (with_picked pick (k.name, k.place)) more (reached_by {problem} pick way.reached o.asked))
-        | inr h ↦ reached_more {problem} pick (with_picked pick (k.name, k.place)) more (way.reached q h)
+        | inl e ↦ subst (λ (r : Picked). IsReached problem.shelves problem.wants (with_picked pick (k.name, k.place)) r.0) e (reached_more problem pick (with_picked pick (k.name, k.place)) more (reached_by problem pick way.reached o.asked))
+        | inr h ↦ reached_more problem pick (with_picked pick (k.name, k.place)) more (way.reached q h)
       ];
     })
 
@@ -140,17 +140,17 @@ ends_valid problem pick tried way h =
     }
 
 -- what a valid pick reaches, picks within it hold where nothing is left to decide
-all_reached : {problem : Problem} (pick valid : List Picked) {name : List ℕ} → ArePicks valid → Within pick valid → next_needed problem pick ≡ None → IsReached problem.shelves problem.wants valid name → has_package pick name ≡ true
-all_reached {problem} pick valid o within h (wanted want c required) = none_open problem pick want.«package» h (asked_wanted want c required)
-all_reached {problem} pick valid o within h (demanded by demand c r d required) =
-    let k = has_found pick by.0 (all_reached {problem} pick valid o within h r) in
+all_reached : (problem : Problem) (pick valid : List Picked) {name : List ℕ} → ArePicks valid → Within pick valid → next_needed problem pick ≡ None → IsReached problem.shelves problem.wants valid name → has_package pick name ≡ true
+all_reached problem pick valid o within h (wanted want c required) = none_open problem pick want.«package» h (asked_wanted want c required)
+all_reached problem pick valid o within h (demanded by demand c r d required) =
+    let k = has_found pick by.0 (all_reached problem pick valid o within h r) in
     let same : k.0 ≡ by.1 = one_place valid by.0 k.0 by.1 o (within (by.0, k.0) k.1) c in
     none_open problem pick demand.«package» h (asked_demanded by demand (subst (λ (place : ℕ). Contains pick (by.0, place)) same k.1) d required)
 
 done_within : (problem : Problem) (pick valid : List Picked) → ArePicks pick → IsValidFor problem valid → Within pick valid → next_needed problem pick ≡ None → pick ≡ valid
 done_within problem pick valid o v within h =
     same_picks pick valid o v.in_order within (λ q c.
-    (let k = has_found pick q.0 (all_reached {problem} pick valid v.in_order within h (v.reached q c)) in
+    (let k = has_found pick q.0 (all_reached problem pick valid v.in_order within h (v.reached q c)) in
     let same : k.0 ≡ q.1 = one_place valid q.0 k.0 q.1 v.in_order (within (q.0, k.0) k.1) c in
     subst (λ (place : ℕ). Contains pick (q.0, place)) same k.1))
 
@@ -174,7 +174,7 @@ leads_on problem (suc count) pick valid few tried o v within = at (next_needed p
     at None e rest = subst (λ (ps : List Picked). Leads problem pick ps) (done_within problem pick valid o v within e) stays
     at (Some name) e rest =
         let k = next_open problem pick name e in
-        let has = has_found valid name (v.whole name (asked_more {problem} pick valid within k.asked)) in
+        let has = has_found valid name (v.whole name (asked_more problem pick valid within k.asked)) in
         let inside = within_child pick valid (name, has.0) within has.1 in
         let fewer = gaps_fewer (universe problem) pick (name, has.0) (asked_within problem pick name k.asked) k.undecided in
         goes (child_in problem pick name has.0 e (in_candidates problem (name, has.0) tried (v.candidates (name, has.0) has.1)) (agrees_within problem (with_picked pick (name, has.0)) valid v inside))

@@ -1,7 +1,6 @@
 -- Where a search stands in the tree of picks.
-use Rattle.std.specs.Prelude.{◌≡◌, ℕ, suc, ◌+◌, ◌<◌, List, [], ◌∷◌, ◌++◌, map, reverse, length, Option, Some, None, slice_get}
+use Rattle.std.specs.Prelude.{◌≡◌, ℕ, suc, true, drop, ◌+◌, ◌<◌, List, [], ◌∷◌, ◌++◌, map, reverse, length, Option, Some, None, slice_get}
 use Rattle.std.specs.List.{All, Contains}
-use Rattle.std.proofs.Math.ListN.{drop}
 use Rattle.hex_registry.specs.Picks.{Picked, with_picked}
 use Rattle.hex_pick.specs.Problem.{Problem, agrees, decided_by, next_needed}
 use Rattle.hex_pick.specs.Tree.{AreNodes}

@@ -44,7 +44,7 @@ fn search(
         count: 0,
         dead: None,
     };
-    while let Some(name) = first_missing(registry, wants, &walk.pick) {
+    'walk: while let Some(name) = first_missing(registry, wants, &walk.pick) {
         if walk.count > limit {
             return Err(PickError::TooManyNodes);
         }

@@ -39,7 +39,7 @@ impl Walk {
         ensures { IfOk result (WentOn registry.now wants.now self.old self.new) }
     {
         let mut step = step;
-        loop {
+        'back: loop {
             if let Some(at) = first_fit(registry, wants, &self.pick, &step) {
                 self.decides(step, at)?;
                 return Ok(None);

@@ -1,5 +1,5 @@
 -- What is read next, and what was read.
-use Rattle.std.proofs.Common.{◌≡◌, ℕ, zero, suc, ◌+◌, ◌<◌, ◌≤◌, Bool, true, false, not, ◌||◌, cond, List, [], ◌∷◌, ◌++◌, map, find, flat_map, length, take, slice_get, Option, Some, None, bytes_eq, nat_lt, ◌⊎◌, inl, inr, refl, sym, ap, subst, ◌∙◌, arith, append_assoc, append-nil, length-append}
+use Rattle.std.proofs.Common.{◌≡◌, ℕ, zero, suc, ◌+◌, ◌<◌, ◌≤◌, Bool, true, false, not, ◌||◌, cond, List, [], ◌∷◌, ◌++◌, map, find, flat_map, length, take, slice_get, Option, Some, None, bytes_eq, nat_lt, IfSome, ◌⊎◌, inl, inr, refl, sym, ap, subst, ◌∙◌, arith, append_assoc, append-nil, length-append}
 use Rattle.std.specs.List.{Contains}
 use Rattle.std.proofs.lemmas.Bool.{cases_Bool, cases_lt, le-ltb, lt-ltb}
 use Rattle.std.proofs.lemmas.List.Concat.{flat_map-append}
@@ -121,15 +121,14 @@ map_pushed : (shelves : List Shelf) (s : Shelf) → shelf_names (shelves ++ s �
 map_pushed [] s = refl
 map_pushed (x ∷ xs) s = ap (λ (ks : List (List ℕ)). x.name ∷ ks) (map_pushed xs s)
 
-take_next : (m : ℕ) (keys more : List (List ℕ)) (name : List ℕ) → slice_get keys m ≡ Some name → take (m + 1) (keys ++ more) ≡ take m keys ++ name ∷ []
+take_next : (m : ℕ) (keys more : List (List ℕ)) (name : List ℕ) → slice_get keys m ≡ Some name → take (suc m) (keys ++ more) ≡ take m keys ++ name ∷ []
 take_next m [] more name e = absurd (cc)
 take_next zero (k ∷ keys) more name e = let same : k ≡ name = cc in ap (λ (n : List ℕ). n ∷ []) same
 take_next (suc m) (k ∷ keys) more name e = ap (λ (ks : List (List ℕ)). k ∷ ks) (take_next m keys more name e)
 
 pub reads_on : (wants : Wants) (shelves : List Shelf) (keys new : List (List ℕ)) (wanted : ℕ) (name : List ℕ) (stock : Option Stock) → HaveRead wants shelves keys wanted → slice_get keys (length shelves) ≡ Some name → new ≡ insert_all bytes_eq keys (named_by_stock wants.pinned stock) → HaveRead wants (shelves ++ shelf name stock ∷ []) new wanted
 reads_on wants shelves keys new wanted name stock h at is =
-    let next = shelf name stock in
-    let long : length (shelves ++ shelf name stock ∷ []) ≡ length shelves + 1 = length-append shelves (shelf name stock ∷ []) in
+    let long : length (shelves ++ shelf name stock ∷ []) ≡ suc (length shelves) = (let e = length-append shelves (shelf name stock ∷ []) in omega (arith, e)) in
     record {
       named = is ∙ ap (λ (ks : List (List ℕ)). insert_all bytes_eq ks (named_by_stock wants.pinned stock)) h.named
           ∙ sym (insert_both [] (names_so_far wants shelves) (named_by_stock wants.pinned stock))
@@ -139,7 +138,24 @@ reads_on wants shelves keys new wanted name stock h at is =
           ∙ sym (flat_map-append (λ (s : Shelf). named_by_stock wants.pinned s.stock) shelves (shelf name stock ∷ []))));
       taken = map_pushed shelves (shelf name stock) ∙ ap (λ (ks : List (List ℕ)). ks ++ name ∷ []) h.taken
           ∙ sym (take_next (length shelves) keys (news keys (named_by_stock wants.pinned stock)) name at)
-          ∙ ap (λ (ks : List (List ℕ)). take (length shelves + 1) ks) (sym (is ∙ inserted keys (named_by_stock wants.pinned stock)))
+          ∙ ap (λ (ks : List (List ℕ)). take (suc (length shelves)) ks) (sym (is ∙ inserted keys (named_by_stock wants.pinned stock)))
           ∙ ap (λ (m : ℕ). take m new) (sym long);
       first = h.first;
     }
+
+pub for_all_told : {A : Type 0} (P : A → Type 0) (o : Option A) → ((x : A) → P x) → IfSome o P
+for_all_told P None all = tt
+for_all_told P (Some x) all = all x
+
+pub told_on : {A : Type 0} (P Q : A → Type 0) (o : Option A) → ((x : A) → P x → Q x) → IfSome o P → IfSome o Q
+told_on P Q None become was = tt
+told_on P Q (Some x) become was = become x was
+
+pub told_both : {A : Type 0} (P Q R : A → Type 0) (o : Option A) → ((x : A) → P x → Q x → R x) → IfSome o P → IfSome o Q → IfSome o R
+told_both P Q R None become p q = tt
+told_both P Q R (Some x) become p q = become x p q
+
+pub past_end : {A : Type 0} (xs : List A) (m : ℕ) → slice_get xs m ≡ None → length xs ≤ m
+past_end [] m e = omega arith
+past_end (x ∷ xs) zero e = absurd (cc)
+past_end (x ∷ xs) (suc m) e = let k = past_end xs m e in omega (arith, k)

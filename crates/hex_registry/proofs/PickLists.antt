@@ -6,7 +6,7 @@ use Rattle.std.proofs.lemmas.Bool.{ltb-false}
 use Rattle.std.specs.Ordering.{is_lt, ordering_reverse}
 use Rattle.std.proofs.lemmas.Cmp.{nat_list_cmp_total}
 use Rattle.mx_base.specs.Order.{text_cmp, IsBefore, ArePathsInOrder}
-use Rattle.hex_registry.specs.Picks.{Picked, ArePicks, has_package, picked_of, with_picked, without_package}
+use Rattle.hex_registry.specs.Picks.{Picked, ArePicks, adding, has_package, picked_of, with_picked, without_package}
 use Rattle.hex_registry.proofs.Lists.{any_found, any_from, contains_cases, contains_none, here, there}
 use Rattle.hex_registry.proofs.NameOrder.{before_each, not_before_itself, one_way, same_of_equal}
 use Rattle.hex_registry.proofs.ValidLemmas.{bytes_itself, same_bytes}
@@ -163,8 +163,15 @@ inserted_is (first ∷ rest) p =
       | false ↦ refl
     ]
 
-pub inserted_in_order : (pick : List Picked) (p : Picked) → ArePicks pick → IsFalse (has_package pick p.0) → ArePicks (insert pick (position_or_len (λ (q : Picked). not (is_lt (text_cmp q.0 p.0))) pick) p)
-inserted_in_order pick p o h = subst (λ (ps : List Picked). ArePicks ps) (sym (inserted_is pick p)) (decided_in_order pick p o h)
+-- adding a package
+pub added_is : (pick : List Picked) (p : Picked) → has_package pick p.0 ≡ false → adding pick p ≡ with_picked pick p
+added_is pick p h = ap (λ (b : Bool). cond b pick (with_picked pick p)) h
+
+pub added_stays : (pick : List Picked) (p : Picked) → has_package pick p.0 ≡ true → adding pick p ≡ pick
+added_stays pick p h = ap (λ (b : Bool). cond b pick (with_picked pick p)) h
+
+pub added_in_order : (pick : List Picked) (p : Picked) → ArePicks pick → has_package pick p.0 ≡ false → ArePicks (with_picked pick p)
+added_in_order = decided_in_order
 
 before_without : (name : List ℕ) (t : Picked → Bool) (pick : List Picked) → IsBefore name (map (λ (q : Picked). q.0) pick) → IsBefore name (map (λ (q : Picked). q.0) (filter t pick))
 before_without name t [] b = tt
@@ -214,16 +221,16 @@ place_found t pick i e = at (nat_lt (position_or_len t pick) (length pick)) e
     at true h = cc
     at false h = absurd (cc)
 
+pub place_short : (t : Picked → Bool) (pick : List Picked) → position_or_len t pick ≤ length pick
+place_short t [] = omega arith
+place_short t (x ∷ xs) = elim (t x) as (λ b. cond (not b) (1 + position_or_len t xs) 0 ≤ suc (length xs)) [ true ↦ omega arith | false ↦ (let k = place_short t xs in omega (arith, k)) ]
+
 pub place_past : (t : Picked → Bool) (pick : List Picked) → position t pick ≡ None → length pick ≡ position_or_len t pick
 place_past t pick e = at (nat_lt (position_or_len t pick) (length pick)) refl e
   where
-    short : (xs : List Picked) → position_or_len t xs ≤ length xs
-    short [] = omega arith
-    short (x ∷ xs) = elim (t x) as (λ b. cond (not b) (1 + position_or_len t xs) 0 ≤ suc (length xs)) [ true ↦ omega arith | false ↦ (let k = short xs in omega (arith, k)) ]
-
     at : (b : Bool) → nat_lt (position_or_len t pick) (length pick) ≡ b → cond b (Some (position_or_len t pick)) None ≡ None → length pick ≡ position_or_len t pick
     at true is h = absurd (cc)
-    at false is h = let over = ltb-false (position_or_len t pick) (length pick) is in let under = short pick in omega (arith, over, under)
+    at false is h = let over = ltb-false (position_or_len t pick) (length pick) is in let under = place_short t pick in omega (arith, over, under)
 
 -- neighbours in order make picks in order
 abbrev RisesAt : List Picked → ℕ → Picked → Type 0

@@ -83,3 +83,7 @@ with_picked (first ∷ rest) picked = if is_lt (text_cmp first.0 picked.0) then 
 -- without a package
 abbrev pub without_package : List Picked → List ℕ → List Picked
 without_package pick name = filter (λ picked. not (bytes_eq name picked.0)) pick
+
+-- with a package that may be picked already, and then stays as it is
+abbrev pub adding : List Picked → Picked → List Picked
+adding pick picked = if has_package pick picked.0 then pick else with_picked pick picked

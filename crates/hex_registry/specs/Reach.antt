@@ -1,7 +1,5 @@
 -- The demands of picked releases as a graph of their places in the pick.
-use Rattle.std.specs.Prelude.{◌≡◌, ◌↔◌, ℕ, false, List, length, position, Option, Some, bytes_eq, slice_get}
-use Rattle.std.specs.List.{Contains}
-use Rattle.dep_order.specs.Graph.{needs_of}
+use Rattle.std.specs.Prelude.{◌≡◌, ℕ, Bool, not, List, map, filter, filter_map, position, Option, bytes_eq}
 use Rattle.hex_registry.specs.declared.offer.Demand.{Demand}
 use Rattle.hex_registry.specs.declared.shelf.Shelf.{Shelf}
 use Rattle.hex_registry.specs.declared.wants.Want.{Want}
@@ -12,21 +10,14 @@ use Rattle.hex_registry.specs.Picks.{Picked, demands_at}
 abbrev pub index_of : List Picked → List ℕ → Option ℕ
 index_of pick name = position (λ picked. bytes_eq name picked.0) pick
 
--- a want requires the package at this place
-pub record IsStart (wants : Wants) (pick : List Picked) (place : ℕ) : Type 0 where
-  pub want : Want
-  pub stands : Contains wants.wants want
-  pub required : want.optional ≡ false
-  pub at : index_of pick want.«package» ≡ Some place
+-- the places of the picked packages that wants require
+abbrev pub starts_of : List Picked → List Want → List ℕ
+starts_of pick wants = filter_map (λ want. index_of pick want.«package») (filter (λ want. not want.optional) wants)
 
--- one of these demands requires the package at this place
-pub record IsLink (pick : List Picked) (demands : List Demand) (place : ℕ) : Type 0 where
-  pub demand : Demand
-  pub stands : Contains demands demand
-  pub required : demand.optional ≡ false
-  pub at : index_of pick demand.«package» ≡ Some place
+-- the places of the picked packages that demands require
+abbrev pub links_of : List Picked → List Demand → List ℕ
+links_of pick demands = filter_map (λ demand. index_of pick demand.«package») (filter (λ demand. not demand.optional) demands)
 
 -- each picked package leads to those that its release requires
-pub record AreLinks (shelves : List Shelf) (wants : Wants) (pick : List Picked) (links : List (List ℕ)) : Type 0 where
-  pub long : length links ≡ length pick
-  pub each : (place other : ℕ) (picked : Picked) → slice_get pick place ≡ Some picked → Contains (needs_of links place) other ↔ IsLink pick (demands_at shelves wants picked) other
+abbrev pub graph_of : List Shelf → Wants → List Picked → List (List ℕ)
+graph_of shelves wants pick = map (λ by. links_of pick (demands_at shelves wants by)) pick

@@ -1,5 +1,5 @@
 // The candidates of a package in their order.
-ghost use Rattle.std.specs.Prelude.{◌≡◌, IfOk, map};
+ghost use Rattle.std.specs.Prelude.{◌≡◌, ◌↔◌, Some, IfOk, IsTrue, map, position, zip};
 ghost use Rattle.std.specs.Option.{option_copied};
 ghost use Rattle.hex_registry.specs.Candidates.{AreCandidates, AreCandidatesOf, AreUsable, candidate_cmp, candidate_in, is_locked, locked_place};
 ghost use Rattle.hex_registry.specs.Shelves.{stock_of};
@@ -56,11 +56,22 @@ impl Stock {
 fn locked_place(stock: &Stock, locked: Option<&Text>) -> Option<usize>
     ensures { result ≡ locked_place stock.now (option_copied locked.entry) }
 {
-    let text = locked?;
-    let offers = stock.offers.as_slice().iter();
-    let releases = stock.message.releases.as_slice().iter();
+    match locked {
+        Some(text) => locked_among(
+            text,
+            stock.message.releases.as_slice(),
+            stock.offers.as_slice(),
+        ),
+        None => None,
+    }
+}
+
+fn locked_among(text: &Text, releases: &[Release], offers: &[Offer]) -> Option<usize>
+    ensures { result ≡ position (is_locked text.now) (zip releases.now offers.now) }
+{
     releases
-        .zip(offers)
+        .iter()
+        .zip(offers.iter())
         .position(|(release, offer)| is_locked(text, release, offer))
 }
 
@@ -84,12 +95,21 @@ fn usable(
         if offer.is_usable() {
             candidates.push(Candidate {
                 place: place as u64,
-                locked: locked == Some(place),
+                locked: is_at(locked, place),
                 offer,
             })?;
         }
     }
     Ok(candidates)
+}
+
+fn is_at(locked: Option<usize>, place: usize) -> bool
+    ensures { IsTrue result ↔ (locked ≡ Some place) }
+{
+    match locked {
+        Some(at) => at == place,
+        None => false,
+    }
 }
 
 fn order_of(one: &Candidate, other: &Candidate) -> Ordering

@@ -1,5 +1,5 @@
 // Reading the packages that wants come to.
-ghost use Rattle.std.specs.Prelude.{◌≡◌, [], bytes_eq, IsFalse, IfOk, OnOk};
+ghost use Rattle.std.specs.Prelude.{◌≡◌, [], bytes_eq, slice_get, IsFalse, IfOk, OnOk};
 ghost use Rattle.indexmap.specs.IndexSet.{insert_all};
 ghost use Rattle.mx_base.specs.Blame.{Computes};
 ghost use Rattle.mx_base.specs.Layout.{is_in_build};
@@ -41,8 +41,7 @@ impl Registry {
         let mut names = wanted_names(alloc, wants)?;
         let wanted = names.len();
         let mut shelves = Vec::new(alloc);
-        while shelves.len() < names.len() {
-            let name = names[shelves.len()].clone()?;
+        'reading: while let Some(name) = name_at(&names, shelves.len())? {
             let stock = load_stock(alloc, store, &name, shelves.len() < wanted)?;
             add_named(&mut names, wants, &stock)?;
             shelves.push(Shelf { name, stock })?;
@@ -60,6 +59,15 @@ fn wanted_names(alloc: Global, wants: &Wants) -> Result<IndexSet<AppName>, Alloc
         names.insert(want.package.clone()?)?;
     }
     Ok(names)
+}
+
+fn name_at(names: &IndexSet<AppName>, at: usize) -> Result<Option<AppName>, AllocError>
+    ensures { IfOk result (λ name. name ≡ slice_get names.now.keys at) }
+{
+    match names.get_index(at) {
+        Some(name) => Ok(Some(name.clone()?)),
+        None => Ok(None),
+    }
 }
 
 // Adds the packages that a package names, each at its first place.

@@ -2,6 +2,7 @@
 ghost use Rattle.std.specs.Prelude.{◌≡◌, find, not, ◌&&◌, Some, None, IfOk};
 ghost use Rattle.std.specs.Option.{option_copied};
 ghost use Rattle.hex_registry.specs.Breaches.{IsBreach, IsFirst, IsOfKind, lesser_of};
+ghost use Rattle.hex_registry.specs.declared.breach.Breach.TheVariants.{NotCandidate};
 ghost use Rattle.hex_registry.specs.Missing.{least_with, missing_demands, missing_names, missing_wants};
 ghost use Rattle.hex_registry.specs.Picks.{has_package, is_candidate};
 ghost use Rattle.hex_registry.specs.Shelves.{without_apps};
@@ -68,16 +69,16 @@ fn least_demanded<'a>(
     ensures { option_copied result ≡ least_with (option_copied least.entry)
         (missing_demands pick.now (without_apps wants.now.pinned demands.now)) }
 {
-    let mut least = least;
+    let mut low = least;
     for demand in demands {
         if wants.sets_aside(demand) {
             continue;
         }
         if misses(pick, demand.optional, &demand.package) {
-            least = lesser(least, &demand.package);
+            low = lesser(low, &demand.package);
         }
     }
-    least
+    low
 }
 
 fn misses(pick: &Pick, optional: bool, name: &AppName) -> bool
@@ -96,7 +97,7 @@ fn lesser<'a>(least: Option<&'a AppName>, name: &'a AppName) -> Option<&'a AppNa
 }
 
 /// The first picked package in byte order whose release isn't one of its candidates.
-#[tactic(auto, using(crate::proofs::MissingLemmas::first_not_candidate, crate::proofs::MissingLemmas::no_not_candidate))]
+#[tactic(auto, using(crate::proofs::MissingLemmas::no_not_candidate))]
 pub(crate) fn first_not_candidate(
     registry: &Registry,
     pick: &Pick,
@@ -105,9 +106,15 @@ pub(crate) fn first_not_candidate(
         (IsFirst (IsOfKind (IsBreach registry.now wants pick.now) 1)) }
 {
     match first_outside(registry, pick) {
-        Some(picked) => Ok(Some(Breach::NotCandidate(picked.0.clone()?))),
+        Some(picked) => Ok(Some(not_candidate(picked)?)),
         None => Ok(None),
     }
+}
+
+fn not_candidate(picked: &Picked) -> Result<Breach, AllocError>
+    ensures { IfOk result (λ breach. breach ≡ NotCandidate picked.now.0) }
+{
+    Ok(Breach::NotCandidate(picked.0.clone()?))
 }
 
 fn first_outside<'a>(registry: &Registry, pick: &'a Pick) -> Option<&'a Picked>

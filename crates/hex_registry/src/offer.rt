@@ -92,6 +92,7 @@ pub(crate) fn demands_of(
 }
 
 // What a dependency asks for, where it can be read and is of the package's own repository.
+#[tactic(auto, using(crate::proofs::OfferLemmas::no_requirement))]
 fn demand_of(
     alloc: Global,
     repository: &Text,

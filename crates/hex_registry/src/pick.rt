@@ -1,10 +1,10 @@
 // Picks of releases.
-ghost use Rattle.std.specs.Prelude.{◌≡◌, ◌↔◌, not, [], IsTrue, IsFalse, IfSome, IfNone, OnOk, OnErr, option_map, position, bytes_eq};
+ghost use Rattle.std.specs.Prelude.{◌≡◌, ◌↔◌, ◌≤◌, not, [], length, IsTrue, IfSome, IfNone, OnOk, OnErr, option_map, position, bytes_eq};
 ghost use Rattle.std.specs.List.{position_or_len};
 ghost use Rattle.std.specs.Option.{option_copied};
 ghost use Rattle.std.specs.Ordering.{is_lt};
 ghost use Rattle.mx_base.specs.Order.{text_cmp};
-ghost use Rattle.hex_registry.specs.Picks.{ArePicks, has_package, picked_of, with_picked, without_package};
+ghost use Rattle.hex_registry.specs.Picks.{ArePicks, adding, has_package, picked_of, with_picked, without_package};
 
 use mx_base::AppName;
 use std::alloc::{AllocError, Global};
@@ -52,16 +52,16 @@ impl Pick {
         }
     }
 
-    /// Adds a package with its release. A refusal leaves the pick as it was.
-    #[tactic(auto, using(crate::proofs::PickLists::inserted_in_order, crate::proofs::PickLists::inserted_is))]
+    /// Adds a package with its release, where the package isn't picked. A refusal leaves the pick as it was.
+    #[tactic(auto, using(crate::proofs::PickLists::added_in_order, crate::proofs::PickLists::added_is, crate::proofs::PickLists::added_stays))]
     pub fn insert(&mut self, name: AppName, place: u64) -> Result<(), AllocError>
-        requires { IsFalse (has_package self.old name) }
-        ensures ok { OnOk result (self.new ≡ with_picked self.old (name, place)) }
+        ensures ok { OnOk result (self.new ≡ adding self.old (name, place)) }
         ensures err { OnErr result (self.new ≡ self.old) }
     {
-        let at = place_for(&self.picks, &name);
-        self.picks.insert(at, (name, place))?;
-        Ok(())
+        if self.has(&name) {
+            return Ok(());
+        }
+        insert_into(&mut self.picks, name, place)
     }
 
     /// Takes a package out, if it is picked.
@@ -111,15 +111,33 @@ impl Pick {
     }
 }
 
-// Where a package would stand: behind those with lesser names.
-#[tactic(auto, using(crate::proofs::PickLists::place_found, crate::proofs::PickLists::place_past))]
-fn place_for(picks: &[Picked], name: &AppName) -> usize
-    ensures { result ≡ position_or_len (λ picked. not (is_lt (text_cmp picked.0 name.now))) picks.now }
+#[tactic(auto, using(crate::proofs::PickLists::inserted_is))]
+fn insert_into(picks: &mut Vec<Picked>, name: AppName, place: u64) -> Result<(), AllocError>
+    ensures ok { OnOk result (picks.new.items ≡ with_picked picks.old.items (name, place)) }
+    ensures err { OnErr result (picks.new.items ≡ picks.old.items) }
 {
-    match picks.iter().position(|picked| !is_lesser(picked, name)) {
+    let at = place_for(picks, &name);
+    picks.insert(at, (name, place))?;
+    Ok(())
+}
+
+// Where a package would stand: behind those with lesser names.
+#[tactic(auto, using(crate::proofs::PickLists::place_found, crate::proofs::PickLists::place_past, crate::proofs::PickLists::place_short))]
+fn place_for(picks: &[Picked], name: &AppName) -> usize
+    ensures place { result
+        ≡ position_or_len (λ picked. not (is_lt (text_cmp picked.0 name.now))) picks.now }
+    ensures within { result ≤ length picks.now }
+{
+    match first_from(picks, name) {
         Some(at) => at,
         None => picks.len(),
     }
+}
+
+fn first_from(picks: &[Picked], name: &AppName) -> Option<usize>
+    ensures { result ≡ position (λ picked. not (is_lt (text_cmp picked.0 name.now))) picks.now }
+{
+    picks.iter().position(|picked| !is_lesser(picked, name))
 }
 
 fn is_lesser(picked: &Picked, name: &AppName) -> bool

@@ -1,17 +1,18 @@
 // Which picked packages are reached from wants.
-ghost use Rattle.std.specs.Prelude.{◌<◌, ◌↔◌, ℕ, length, IfOk, IfSome, IfNone};
+ghost use Rattle.std.specs.Prelude.{◌≡◌, ◌<◌, ◌↔◌, ℕ, Some, IsTrue, IfOk, IfSome, IfNone, slice_get};
 ghost use Rattle.std.specs.List.{All, AllPairs, Contains};
-ghost use Rattle.dep_order.specs.Graph.{NeedsAreWithin};
+ghost use Rattle.dep_order.specs.Reach.{AreReachedFrom};
 ghost use Rattle.hex_registry.specs.Breaches.{IsBreach, IsFirst, IsOfKind};
 ghost use Rattle.hex_registry.specs.Picks.{IsReached};
-ghost use Rattle.hex_registry.specs.Reach.{AreLinks, IsLink, IsStart};
+ghost use Rattle.hex_registry.specs.Reach.{graph_of, links_of, starts_of};
 ghost use Rattle.hex_registry.specs.Shelves.{without_apps};
+ghost use Rattle.hex_registry.specs.declared.breach.Breach.TheVariants.{Unreached};
 
 use crate::breach::Breach;
 use crate::offer::Demand;
-use crate::pick::Pick;
+use crate::pick::{Pick, Picked};
 use crate::registry::Registry;
-use crate::wants::Wants;
+use crate::wants::{Want, Wants};
 use dep_order::{Graph, Places, reached};
 use std::alloc::{AllocError, Global};
 
@@ -26,14 +27,32 @@ pub(crate) fn first_unreached(
     ensures whole { IfOk result (λ found. IfNone found
         (All (λ picked. IsReached registry.now wants.now pick.now picked.0) pick.now)) }
 {
+    let reached = reached_places(alloc, registry, wants, pick)?;
+    match first_gap(&reached, pick.as_slice().len()) {
+        Some(place) => Ok(Some(unreached(&pick.as_slice()[place])?)),
+        None => Ok(None),
+    }
+}
+
+fn unreached(picked: &Picked) -> Result<Breach, AllocError>
+    ensures { IfOk result (λ breach. breach ≡ Unreached picked.now.0) }
+{
+    Ok(Breach::Unreached(picked.0.clone()?))
+}
+
+// The places of the picked packages that wants come to.
+fn reached_places(
+    alloc: Global,
+    registry: &Registry,
+    wants: &Wants,
+    pick: &Pick,
+) -> Result<Vec<usize>, AllocError>
+    ensures { IfOk result (λ places. AreReachedFrom (graph_of registry.now wants.now pick.now)
+        (starts_of pick.now wants.now.wants) places.items) }
+{
     let graph = Graph::of(links(alloc, registry, wants, pick)?);
-    let starts = starts(alloc, wants, pick)?;
-    let reached = reached(alloc, &graph, &starts)?;
-    let Some(place) = first_gap(&reached, pick.as_slice().len()) else {
-        return Ok(None);
-    };
-    let (package, _) = &pick.as_slice()[place];
-    Ok(Some(Breach::Unreached(package.clone()?)))
+    let starts = starts_of(alloc, wants.wants.as_slice(), pick)?;
+    reached(alloc, &graph, &starts)
 }
 
 // For each picked package the places of those that its release requires.
@@ -43,30 +62,31 @@ fn links(
     wants: &Wants,
     pick: &Pick,
 ) -> Result<Vec<Places>, AllocError>
-    ensures within { IfOk result (λ links. NeedsAreWithin links.items) }
-    ensures links { IfOk result (λ links. AreLinks registry.now wants.now pick.now links.items) }
+    ensures { IfOk result (λ links. links.items ≡ graph_of registry.now wants.now pick.now) }
 {
     let mut links = Vec::new(alloc);
     for by in pick.as_slice() {
-        links.push(places_of(alloc, wants, pick, registry.demands(by))?)?;
+        links.push(links_of(alloc, wants, pick, registry.demands(by))?)?;
     }
     Ok(links)
 }
 
 // The places of the picked packages that these demands require.
-fn places_of(
+fn links_of(
     alloc: Global,
     wants: &Wants,
     pick: &Pick,
     demands: &[Demand],
 ) -> Result<Places, AllocError>
-    ensures within { IfOk result (λ places. All (λ place. place < length pick.now) places) }
-    ensures each { IfOk result (λ places. (place : ℕ) → Contains places place
-        ↔ IsLink pick.now (without_apps wants.now.pinned demands.now) place) }
+    ensures { IfOk result (λ places. places
+        ≡ links_of pick.now (without_apps wants.now.pinned demands.now)) }
 {
     let mut places = Places::new(alloc);
     for demand in demands {
-        if demand.optional || wants.sets_aside(demand) {
+        if wants.sets_aside(demand) {
+            continue;
+        }
+        if demand.optional {
             continue;
         }
         if let Some(place) = pick.index_of(&demand.package) {
@@ -77,13 +97,11 @@ fn places_of(
 }
 
 // The places of the picked packages that wants require.
-fn starts(alloc: Global, wants: &Wants, pick: &Pick) -> Result<Vec<usize>, AllocError>
-    ensures within { IfOk result (λ starts. All (λ start. start < length pick.now) starts.items) }
-    ensures each { IfOk result (λ starts. (place : ℕ) →
-        Contains starts.items place ↔ IsStart wants.now pick.now place) }
+fn starts_of(alloc: Global, wants: &[Want], pick: &Pick) -> Result<Vec<usize>, AllocError>
+    ensures { IfOk result (λ starts. starts.items ≡ starts_of pick.now wants.now) }
 {
     let mut starts = Vec::new(alloc);
-    for want in wants.wants.as_slice() {
+    for want in wants {
         if want.optional {
             continue;
         }
@@ -103,9 +121,18 @@ fn first_gap(places: &[usize], count: usize) -> Option<usize>
     ensures none { IfNone result ((place : ℕ) → place < count → Contains places.now place) }
 {
     for place in 0..count {
-        if places.get(place) != Some(&place) {
+        if !stands_at(places, place) {
             return Some(place);
         }
     }
     None
+}
+
+fn stands_at(places: &[usize], place: usize) -> bool
+    ensures { IsTrue result ↔ (slice_get places.now place ≡ Some place) }
+{
+    match places.get(place) {
+        Some(found) => *found == place,
+        None => false,
+    }
 }

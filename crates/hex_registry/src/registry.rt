@@ -1,5 +1,5 @@
 // The packages that were read, by their names.
-ghost use Rattle.std.specs.Prelude.{◌≡◌};
+ghost use Rattle.std.specs.Prelude.{◌≡◌, bytes_eq, position};
 ghost use Rattle.std.specs.Option.{option_copied};
 ghost use Rattle.hex_registry.specs.Shelves.{AreNamesOf, message_of, demands_of, offer_at, shelf_of, stock_of};
 
@@ -61,11 +61,18 @@ impl Registry {
         }
     }
 
-    #[tactic(auto, using(crate::proofs::ShelfLemmas::shelf_at, crate::proofs::ShelfLemmas::no_shelf))]
     fn shelf(&self, name: &AppName) -> Option<&Shelf>
         ensures { option_copied result ≡ shelf_of self.now name.now }
     {
-        let place = self.names.get_index_of(name)?;
-        self.shelves.get(place)
+        match index_of(&self.names, name) {
+            Some(place) => self.shelves.get(place),
+            None => None,
+        }
     }
+}
+
+fn index_of(names: &IndexSet<AppName>, name: &AppName) -> Option<usize>
+    ensures { result ≡ position (bytes_eq name.now) names.now.keys }
+{
+    names.get_index_of(name)
 }

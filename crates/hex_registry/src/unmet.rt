@@ -3,6 +3,8 @@ ghost use Rattle.std.specs.Prelude.{◌≡◌, false, IfOk};
 ghost use Rattle.std.specs.List.{list_any};
 ghost use Rattle.std.specs.Option.{option_copied};
 ghost use Rattle.hex_registry.specs.Breaches.{IsBreach, IsFirst, IsOfKind, SaysAgainst, first_demand_against, first_want_against};
+ghost use Rattle.hex_registry.specs.declared.breach.Breach.TheVariants.{Unmet};
+ghost use Rattle.hex_registry.specs.declared.unmet.By.TheVariants.{Package};
 ghost use Rattle.hex_registry.specs.Picks.{any_release, demand_refuses, demand_takes, demands_at, want_refuses, want_takes};
 ghost use Rattle.semver.specs.Identifiers.{parts_of};
 ghost use Rattle.version_req.specs.Meaning.{sat};
@@ -37,11 +39,17 @@ pub(crate) fn first_unmet(
 {
     for picked in pick.as_slice() {
         if let Some(by) = against(registry, wants, pick, picked)? {
-            let package = picked.0.clone()?;
-            return Ok(Some(Breach::Unmet { package, by }));
+            return Ok(Some(unmet(picked, by)?));
         }
     }
     Ok(None)
+}
+
+fn unmet(picked: &Picked, by: By) -> Result<Breach, AllocError>
+    ensures { IfOk result (λ breach. breach ≡ Unmet picked.now.0 by) }
+{
+    let package = picked.0.clone()?;
+    Ok(Breach::Unmet { package, by })
 }
 
 // Who is the first to state a requirement that the picked release doesn't meet: wants come before packages.
@@ -60,9 +68,15 @@ fn against(
         return Ok(Some(By::Want(index as u64)));
     }
     match first_demand_against(registry, wants, pick, &picked.0, offer) {
-        Some(by) => Ok(Some(By::Package(by.0.clone()?))),
+        Some(by) => Ok(Some(by_package(by)?)),
         None => Ok(None),
     }
+}
+
+fn by_package(picked: &Picked) -> Result<By, AllocError>
+    ensures { IfOk result (λ by. by ≡ Package picked.now.0) }
+{
+    Ok(By::Package(picked.0.clone()?))
 }
 
 fn first_want_against(wants: &Wants, name: &AppName, offer: &Offer) -> Option<usize>

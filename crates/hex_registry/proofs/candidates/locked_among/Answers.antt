@@ -1,0 +1,11 @@
+use Rattle.std.proofs.Common.{rules, tests}
+use Rattle.std.proofs.lemmas.Iterator.{YieldsList-from_slice, YieldsList-from_zip}
+use Rattle.std.proofs.lemmas.Iterator.Search.{position_from_yields_List}
+use Rattle.hex_registry.specs.Candidates.{is_locked}
+use Rattle.hex_registry.proofs.candidates.locked_among.Goals as goal
+
+pub returns : goal.returns
+returns c =
+    position_from_yields_List (is_locked c.args.text.now) _ _ c.position.result c.position.ensures.ran
+    (YieldsList-from_zip (YieldsList-from_slice c.args.releases.now (search rules)) (YieldsList-from_slice c.args.offers.now (search rules)))
+    (λ x b q k. search (rules, tests))
