@@ -14,11 +14,13 @@ use Rattle.std.proofs.lemmas.Map.Made.{AllPairs-from_IsDistinct, IsDistinct-from
 use Rattle.std.proofs.lemmas.Option.{get_or_from_slice_get, same_Some}
 use Rattle.semver.specs.Eval.{precedence_cmp}
 use Rattle.semver.specs.OrderLaws.{precedence_total}
-use Rattle.hex_registry.specs.Candidates.{AreCandidates, AreUsable, ComesBefore, IsCandidate, Ranked, candidate_cmp, is_usable_at, is_usable_in, locked_place}
+use Rattle.hex_registry.specs.Candidates.{AreCandidates, ComesBefore, IsCandidate, Ranked, candidate_cmp, candidate_in, is_usable_at, is_usable_in, locked_place}
 use Rattle.hex_registry.specs.Offers.{is_usable}
 use Rattle.hex_registry.specs.declared.offer.Offer.{Offer}
 use Rattle.hex_registry.specs.declared.shelf.Stock.{Stock}
-use Rattle.hex_registry.proofs.Lists.{Mapped, in_mapped, mapped_of}
+use Rattle.hex_registry.specs.declared.candidates.Candidate.{Candidate}
+use Rattle.hex_registry.proofs.Lists.{mapped_of}
+use Rattle.hex_registry.proofs.UsableLemmas.{AreUsable}
 
 pub candidate_total : IsTotalOrder candidate_cmp
 candidate_total =
@@ -123,3 +125,16 @@ sorted_candidates stock locked usable sorted answer are same up is =
         let not_after : is_lt (candidate_cmp later one) ≡ false = ap (λ (r : Ranked). is_lt (candidate_cmp r one)) second ∙ ap (λ (r : Ranked). is_lt (candidate_cmp (get_or sorted j one) r)) first ∙ sorted_far (λ (r s : Ranked). is_lt (candidate_cmp r s)) candidate_order sorted up i j one (omega (arith, less)) j_below in
         less_unless (candidate_cmp one later) (candidate_cmp later one) (candidate_total.antisymm one later) not_after
         (λ tied. apart i j d less below (sym at_one ∙ tied_place one later tied ∙ at_later))
+
+-- candidates as they are seen
+pub seen_sorted : (xs : List Candidate) → IsSortedBy (λ (x y : Candidate). is_lt (candidate_cmp (candidate_in x) (candidate_in y))) xs → IsSortedBy (λ (x y : Ranked). is_lt (candidate_cmp x y)) (map candidate_in xs)
+seen_sorted [] up k d low below = absurd (omega (arith, below))
+seen_sorted (x ∷ xs) up k d low below =
+    let long : length (map candidate_in (x ∷ xs)) ≡ length (x ∷ xs) = length-map (x ∷ xs) candidate_in in
+    ap (λ (r : Ranked). is_lt (candidate_cmp r (get_or (map candidate_in (x ∷ xs)) k d))) (get_or-map candidate_in (x ∷ xs) (k + 1) x d (omega (arith, below, long)))
+    ∙ ap (λ (r : Ranked). is_lt (candidate_cmp (candidate_in (get_or (x ∷ xs) (k + 1) x)) r)) (get_or-map candidate_in (x ∷ xs) k x d (omega (arith, below, long)))
+    ∙ up k x low (omega (arith, below, long))
+
+pub seen_places : (xs : List Candidate) → map (λ (r : Ranked). r.place) (map candidate_in xs) ≡ map (λ (c : Candidate). c.place) xs
+seen_places [] = refl
+seen_places (x ∷ xs) = ap (λ (ns : List ℕ). x.place ∷ ns) (seen_places xs)

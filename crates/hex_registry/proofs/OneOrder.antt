@@ -4,23 +4,15 @@ use Rattle.std.specs.List.{AllPairs, Contains}
 use Rattle.std.specs.Ordering.{ordering_reverse}
 use Rattle.std.proofs.lemmas.Bool.{eqb-true, eq-eqb}
 use Rattle.std.proofs.lemmas.Option.{get_or_from_slice_get, slice_get_within}
-use Rattle.hex_registry.specs.Candidates.{AreCandidates, AreCandidatesOf, ComesBefore, IsCandidate, Ranked, candidate_cmp, is_usable_at, is_usable_in, locked_place}
+use Rattle.hex_registry.specs.Candidates.{AreCandidates, AreCandidatesOf, ComesBefore, IsCandidate, Ranked, candidate_cmp, is_place, is_usable_at, is_usable_in, locked_place}
 use Rattle.hex_registry.specs.Offers.{is_usable}
 use Rattle.hex_registry.specs.declared.offer.Offer.{Offer}
 use Rattle.hex_registry.specs.declared.shelf.Stock.{Stock}
 use Rattle.hex_registry.proofs.CandidateLemmas.{candidate_total}
 use Rattle.hex_registry.proofs.Lists.{contains_cases, contains_none, here, there}
+use Rattle.hex_registry.proofs.UsableLemmas.{is_place_decides}
 
 -- a usable release, ranked
-is_place : Option ℕ → ℕ → Bool
-is_place None place = false
-is_place (Some locked) place = eqb locked place
-
-is_place_decides : (locked : Option ℕ) (place : ℕ) → IsTrue (is_place locked place) ↔ (locked ≡ Some place)
-unfolding is_place
-is_place_decides None place = ((λ h. absurd (cc)), (λ e. absurd (cc)))
-is_place_decides (Some locked) place = ((λ h. ap Some (eqb-true locked place h)), (λ e. (let same : locked ≡ place = cc in eq-eqb locked place same)))
-
 pub record IsRanked (stock : Stock) (locked : Option ℕ) (place : ℕ) : Type 0 where
   pub ranked : Ranked
   pub is : IsCandidate stock locked ranked

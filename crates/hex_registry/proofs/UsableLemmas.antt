@@ -1,14 +1,20 @@
 -- The usable releases up to a place.
-use Rattle.std.proofs.Common.{◌≡◌, ℕ, suc, ◌+◌, ◌<◌, ◌≤◌, Bool, true, false, List, [], ◌∷◌, ◌++◌, map, length, get_or, slice_get, Option, Some, None, IsTrue, ◌⊎◌, inl, inr, refl, sym, ap, subst, ◌∙◌, arith}
+use Rattle.std.proofs.Common.{◌≡◌, ℕ, zero, suc, ◌+◌, ◌<◌, ◌≤◌, ◌↔◌, Bool, true, false, cond, append_assoc, append-nil, List, [], ◌∷◌, ◌++◌, map, length, get_or, slice_get, Option, Some, None, IsTrue, ◌⊎◌, inl, inr, refl, sym, ap, subst, ◌∙◌, arith}
 use Rattle.std.specs.List.{All, AllPairs, Contains}
-use Rattle.std.proofs.lemmas.Bool.{cases_lt}
+use Rattle.std.proofs.lemmas.Bool.{cases_lt, eqb-true, eq-eqb}
 use Rattle.std.proofs.lemmas.List.Elements.{All-contains, All-get_or, All-nil, All-push, Contains-append_left, Contains-append_right, Contains-push}
 use Rattle.std.proofs.lemmas.List.Quantifiers.{all_pairs_push}
 use Rattle.std.proofs.lemmas.Option.{slice_get_past, slice_get_within}
-use Rattle.hex_registry.specs.Candidates.{AreUsable, IsCandidate, Ranked, is_usable_at, is_usable_in}
+use Rattle.hex_registry.specs.Candidates.{IsCandidate, Ranked, is_place, is_usable_at, is_usable_in, usable_from}
 use Rattle.hex_registry.specs.Offers.{is_usable}
 use Rattle.hex_registry.specs.declared.offer.Offer.{Offer}
 use Rattle.hex_registry.specs.declared.shelf.Stock.{Stock}
+
+-- all usable releases in the order of the message
+pub record AreUsable (stock : Stock) (locked : Option ℕ) (candidates : List Ranked) : Type 0 where
+  pub in_order : AllPairs (λ earlier later. earlier.place < later.place) candidates
+  pub only : All (IsCandidate stock locked) candidates
+  pub all : (place : ℕ) → IsTrue (is_usable_at stock place) → Contains (map (λ candidate. candidate.place) candidates) place
 
 -- all usable releases before a place
 pub record AreUsableTo (stock : Stock) (locked : Option ℕ) (candidates : List Ranked) (place : ℕ) : Type 0 where
@@ -62,3 +68,30 @@ all_usable stock locked candidates place u past =
             let clash : true ≡ false = sym usable ∙ ap is_usable_in at in cc)
       ];
     }
+
+pub is_place_decides : (locked : Option ℕ) (place : ℕ) → IsTrue (is_place locked place) ↔ (locked ≡ Some place)
+is_place_decides None place = ((λ h. absurd (cc)), (λ e. absurd (cc)))
+is_place_decides (Some locked) place = ((λ h. ap Some (eqb-true locked place h)), (λ e. (let same : locked ≡ place = cc in eq-eqb locked place same)))
+
+past_end : (xs : List Offer) (m : ℕ) → slice_get xs m ≡ None → length xs ≤ m
+past_end [] m e = omega arith
+past_end (x ∷ xs) zero e = absurd (cc)
+past_end (x ∷ xs) (suc m) e = let k = past_end xs m e in omega (arith, k)
+
+usable_on : (stock : Stock) (locked : Option ℕ) (done : List Ranked) (n : ℕ) (offers : List Offer) → AreUsableTo stock locked done n → ((k at : ℕ) → at ≡ n + k → slice_get offers k ≡ slice_get stock.offers at) → AreUsable stock locked (done ++ usable_from locked n offers)
+usable_on stock locked done n [] u same =
+    subst (λ (cs : List Ranked). AreUsable stock locked cs) (sym (append-nil done)) (all_usable stock locked done n u (past_end stock.offers n (sym (same 0 n (omega arith)))))
+usable_on stock locked done n (offer ∷ offers) u same =
+    let at : slice_get stock.offers n ≡ Some offer = sym (same 0 n (omega arith)) in
+    let later : (k at : ℕ) → at ≡ suc n + k → slice_get offers k ≡ slice_get stock.offers at = λ k place e. same (suc k) place (omega (arith, e)) in
+    (elim (is_usable offer) as (λ b. is_usable offer ≡ b → AreUsable stock locked (done ++ cond b (◌∷◌ {A = Ranked} (record { place = n; locked = is_place locked n; offer = offer }) (usable_from locked (suc n) offers)) (usable_from locked (suc n) offers))) [
+      | true ↦ (λ e.
+          let new : Ranked = record { place = n; locked = is_place locked n; offer = offer } in
+          let is : IsCandidate stock locked (record { place = n; locked = is_place locked n; offer = offer }) = record { at = at; usable = e; is_locked = is_place_decides locked n } in
+          subst (λ (cs : List Ranked). AreUsable stock locked cs) (append_assoc done (◌∷◌ {A = Ranked} (record { place = n; locked = is_place locked n; offer = offer }) []) (usable_from locked (suc n) offers))
+          (usable_on stock locked (done ++ ◌∷◌ {A = Ranked} (record { place = n; locked = is_place locked n; offer = offer }) []) (suc n) offers (one_usable stock locked done (record { place = n; locked = is_place locked n; offer = offer }) (suc n) u is (omega arith)) later))
+      | false ↦ (λ e. usable_on stock locked done (suc n) offers (one_unusable stock locked done offer n (suc n) u at e (omega arith)) later)
+    ]) refl
+
+pub usable_are : (stock : Stock) (locked : Option ℕ) → AreUsable stock locked (usable_from locked 0 stock.offers)
+usable_are stock locked = usable_on stock locked [] 0 stock.offers (none_usable stock locked) (λ k place e. (let same : k ≡ place = omega (arith, e) in ap (slice_get stock.offers) same))

@@ -1,6 +1,6 @@
 -- The candidates of a package in their order.
-use Rattle.std.specs.Prelude.{◌≡◌, ◌↔◌, ℕ, ◌<◌, Bool, false, ◌&&◌, List, [], map, position, zip, Option, Some, None, IsTrue, bytes_eq, slice_get}
-use Rattle.std.specs.List.{All, AllPairs, Contains}
+use Rattle.std.specs.Prelude.{◌≡◌, ◌↔◌, ℕ, suc, Bool, false, ◌&&◌, ◌==◌, List, [], ◌∷◌, position, zip, Option, Some, None, IsTrue, bytes_eq, slice_get, if◌then◌else◌}
+use Rattle.std.specs.List.{AllPairs, Contains}
 use Rattle.std.specs.Ordering.{bool_cmp, nat_cmp, ordering_then}
 use Rattle.std.specs.declared.cmp.Ordering.{Ordering}
 use Rattle.std.specs.declared.cmp.Ordering.TheVariants.{Less}
@@ -55,11 +55,18 @@ ComesBefore stock locked place other =
     (one later : Ranked) → IsCandidate stock locked one → IsCandidate stock locked later
     → one.place ≡ place → later.place ≡ other → candidate_cmp one later ≡ Less
 
--- all usable releases in the order of the message
-pub record AreUsable (stock : Stock) (locked : Option ℕ) (candidates : List Ranked) : Type 0 where
-  pub in_order : AllPairs (λ earlier later. earlier.place < later.place) candidates
-  pub only : All (IsCandidate stock locked) candidates
-  pub all : (place : ℕ) → IsTrue (is_usable_at stock place) → Contains (map (λ candidate. candidate.place) candidates) place
+-- a place is the locked one
+abbrev pub is_place : Option ℕ → ℕ → Bool
+is_place None place = false
+is_place (Some locked) place = locked == place
+
+-- the usable releases from a place on, in the order of the message
+abbrev pub usable_from : Option ℕ → ℕ → List Offer → List Ranked
+usable_from locked place [] = []
+usable_from locked place (offer ∷ offers) =
+    if is_usable offer
+    then record { place = place; locked = is_place locked place; offer = offer } ∷ usable_from locked (suc place) offers
+    else usable_from locked (suc place) offers
 
 -- the places of all usable releases in the order of candidates
 pub record AreCandidates (stock : Stock) (locked : Option (List ℕ)) (places : List ℕ) : Type 0 where

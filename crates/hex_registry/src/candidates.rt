@@ -1,7 +1,7 @@
 // The candidates of a package in their order.
-ghost use Rattle.std.specs.Prelude.{◌≡◌, ◌↔◌, Some, IfOk, IsTrue, map, position, zip};
+ghost use Rattle.std.specs.Prelude.{◌≡◌, IfOk, map, position, zip};
 ghost use Rattle.std.specs.Option.{option_copied};
-ghost use Rattle.hex_registry.specs.Candidates.{AreCandidates, AreCandidatesOf, AreUsable, candidate_cmp, candidate_in, is_locked, locked_place};
+ghost use Rattle.hex_registry.specs.Candidates.{AreCandidates, AreCandidatesOf, candidate_cmp, candidate_in, is_locked, is_place, locked_place, usable_from};
 ghost use Rattle.hex_registry.specs.Shelves.{stock_of};
 
 use crate::offer::Offer;
@@ -48,7 +48,8 @@ impl Stock {
     {
         let mut candidates = usable(alloc, self, locked_place(self, locked))?;
         candidates.sort_unstable_by(|one, other| order_of(one, other));
-        places_of(alloc, &candidates)
+        let places = places_of(alloc, &candidates)?;
+        Ok(places)
     }
 }
 
@@ -88,23 +89,24 @@ fn usable(
     locked: Option<usize>,
 ) -> Result<Vec<Candidate<'_>>, AllocError>
     ensures { IfOk result (λ candidates.
-        AreUsable stock.now locked (map candidate_in candidates.items)) }
+        map candidate_in candidates.items ≡ usable_from locked 0 stock.now.offers) }
 {
     let mut candidates = Vec::new(alloc);
     for (place, offer) in stock.offers.as_slice().iter().enumerate() {
-        if offer.is_usable() {
-            candidates.push(Candidate {
-                place: place as u64,
-                locked: is_at(locked, place),
-                offer,
-            })?;
+        if !offer.is_usable() {
+            continue;
         }
+        candidates.push(Candidate {
+            place: place as u64,
+            locked: is_at(locked, place),
+            offer,
+        })?;
     }
     Ok(candidates)
 }
 
 fn is_at(locked: Option<usize>, place: usize) -> bool
-    ensures { IsTrue result ↔ (locked ≡ Some place) }
+    ensures { result ≡ is_place locked place }
 {
     match locked {
         Some(at) => at == place,

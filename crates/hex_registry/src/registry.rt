@@ -1,5 +1,5 @@
 // The packages that were read, by their names.
-ghost use Rattle.std.specs.Prelude.{◌≡◌, bytes_eq, position};
+ghost use Rattle.std.specs.Prelude.{◌≡◌, bytes_eq, position, slice_get};
 ghost use Rattle.std.specs.Option.{option_copied};
 ghost use Rattle.hex_registry.specs.Shelves.{AreNamesOf, message_of, demands_of, offer_at, shelf_of, stock_of};
 
@@ -65,10 +65,16 @@ impl Registry {
         ensures { option_copied result ≡ shelf_of self.now name.now }
     {
         match index_of(&self.names, name) {
-            Some(place) => self.shelves.get(place),
+            Some(place) => shelf_in(&self.shelves, place),
             None => None,
         }
     }
+}
+
+fn shelf_in(shelves: &[Shelf], place: usize) -> Option<&Shelf>
+    ensures { option_copied result ≡ slice_get shelves.now place }
+{
+    shelves.get(place)
 }
 
 fn index_of(names: &IndexSet<AppName>, name: &AppName) -> Option<usize>

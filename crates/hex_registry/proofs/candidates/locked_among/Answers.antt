@@ -7,5 +7,5 @@ use Rattle.hex_registry.proofs.candidates.locked_among.Goals as goal
 pub returns : goal.returns
 returns c =
     position_from_yields_List (is_locked c.args.text.now) _ _ c.position.result c.position.ensures.ran
-    (YieldsList-from_zip (YieldsList-from_slice c.args.releases.now (search rules)) (YieldsList-from_slice c.args.offers.now (search rules)))
+    (YieldsList-from_zip {s = c.zip.result} (YieldsList-from_slice {s = c.zip.result.a} c.args.releases.now (search rules)) (YieldsList-from_slice {s = c.zip.result.b} c.args.offers.now (search rules)))
     (λ x b q k. search (rules, tests))
