@@ -16,3 +16,4 @@ pub mod ReachLemmas
 pub mod ShelfLemmas
 pub mod UsableLemmas
 pub mod ValidLemmas
+pub mod WireLemmas

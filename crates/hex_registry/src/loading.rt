@@ -6,6 +6,7 @@ ghost use Rattle.mx_base.specs.Layout.{is_in_build};
 ghost use Rattle.mx_base.specs.Order.{bytes_at};
 ghost use Rattle.tree_store.specs.Known.{Reads};
 ghost use Rattle.hex_registry.specs.Blame.{blame_of};
+ghost use Rattle.hex_registry.specs.Refusals.{wire_refused};
 ghost use Rattle.hex_registry.specs.Loaded.{IsLoaded, IsMessage, SaysMessage, SaysOffer, SaysOffers, SaysStock, named_by_offer, named_by_stock, package_path, wanted_names};
 
 use crate::error::{RegistryError, wire_refused};
@@ -13,7 +14,7 @@ use crate::offer::{Offer, Offers, demands_of, version_of};
 use crate::registry::Registry;
 use crate::shelf::{Shelf, Stock};
 use crate::wants::Wants;
-use hex_messages::{Package, Release, read_package};
+use hex_messages::{Package, Release, WireError, read_package};
 use indexmap::IndexSet;
 use mx_base::{AppName, Bytes, REGISTRY, RelPath, Text, copy_text};
 use std::alloc::{AllocError, Global};
@@ -165,8 +166,14 @@ fn message_of(alloc: Global, name: &AppName, bytes: &[u8]) -> Result<Package, Re
 {
     match read_package(alloc, bytes) {
         Ok(message) => Ok(message),
-        Err(fault) => Err(wire_refused(name.clone()?, fault)),
+        Err(fault) => Err(refused(name, fault)?),
     }
+}
+
+fn refused(name: &AppName, fault: WireError) -> Result<RegistryError, AllocError>
+    ensures { IfOk result (λ error. error ≡ wire_refused name.now fault) }
+{
+    Ok(wire_refused(name.clone()?, fault))
 }
 
 // What each release offers, or the first one whose version is none.

@@ -4,7 +4,7 @@ ghost use Rattle.std.specs.Option.{option_copied};
 ghost use Rattle.hex_registry.specs.Breaches.{IsBreach, IsFirst, IsOfKind, lesser_of};
 ghost use Rattle.hex_registry.specs.declared.breach.Breach.TheVariants.{NotCandidate};
 ghost use Rattle.hex_registry.specs.Missing.{least_with, missing_demands, missing_names, missing_wants};
-ghost use Rattle.hex_registry.specs.Picks.{has_package, is_candidate};
+ghost use Rattle.hex_registry.specs.Picks.{ArePicks, has_package, is_candidate};
 ghost use Rattle.hex_registry.specs.Shelves.{without_apps};
 ghost use Rattle.hex_registry.specs.declared.wants.Wants.{Wants};
 
@@ -118,7 +118,9 @@ fn not_candidate(picked: &Picked) -> Result<Breach, AllocError>
 }
 
 fn first_outside<'a>(registry: &Registry, pick: &'a Pick) -> Option<&'a Picked>
-    ensures { option_copied result ≡ find (λ picked. not (is_candidate registry.now picked)) pick.now }
+    ensures found { option_copied result
+        ≡ find (λ picked. not (is_candidate registry.now picked)) pick.now }
+    ensures in_order { ArePicks pick.now }
 {
     pick.as_slice()
         .iter()
