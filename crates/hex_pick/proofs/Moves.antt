@@ -128,8 +128,8 @@ pub record Below (problem : Problem) (pick : List Picked) (frame : Frame) (frame
   pub stacked : Stacked problem below frames beside
 
 pub take_off : {problem : Problem} (pick : List Picked) (frame : Frame) (frames : List Frame) (later : List (List Picked)) → Stacked problem pick (frame ∷ frames) later → Below problem pick frame frames later
-take_off {problem} _ _ _ _ (on {pick = pick} {frames = frames} {later = later} name at place next is agreed rest) =
-    record { below = pick; place = place; beside = later; is = next; was = refl; later_is = refl; stacked = rest }
+take_off {problem} _ _ _ _ (on {pick = pick} {frames = frames} {later = later} name at place needed is agreed rest) =
+    record { below = pick; place = place; beside = later; is = needed; was = refl; later_is = refl; stacked = rest }
 
 -- back to the picks before the last decision
 pub goes_back : (problem : Problem) (p : Position) (frame : Frame) (frames : List Frame) (name first : List ℕ) → (s : StandsAt problem p) → next_needed problem p.pick ≡ Some name → decided_from problem p.pick name p.from ≡ [] → p.frames ≡ frame ∷ frames → (k : Below problem p.pick frame frames s.later) → IfSome p.dead (λ d. first ≡ d) → IfNone p.dead (first ≡ name) → StandsAt problem (record { pick = k.below; frames = frames; from = frame.next; count = p.count; dead = Some first })

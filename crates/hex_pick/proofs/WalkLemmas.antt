@@ -26,6 +26,9 @@ use Rattle.hex_pick.proofs.Ways.{begins, way_on}
 stands_agreed : (problem : Problem) (p : Position) → StandsAt problem p → agrees problem p.pick ≡ true
 stands_agreed problem p s = let on = way_on [] p.pick (begins problem) (stacked_way p.pick p.frames s.later s.stacked) in on.agreed
 
+abbrev frame_at : List ℕ → ℕ → Frame
+frame_at name next = record { name = name; next = next }
+
 frames_more : (steps : List Step) (step : Step) → map frame_of (reverse (steps ++ step ∷ [])) ≡ frame_of step ∷ map frame_of (reverse steps)
 frames_more steps step = ap (map frame_of) (reverse-append steps (step ∷ []))
 
@@ -49,7 +52,7 @@ has_decided problem old new step at s fit pick_is steps_are count_is dead_is =
     let next : at + 1 ≡ suc at = omega arith in
     let frames : map frame_of (reverse new.steps.items) ≡ record { name = step.name; next = suc at } ∷ map frame_of (reverse old.steps.items) =
     ap (λ (ss : List Step). map frame_of (reverse ss)) steps_are ∙ frames_more old.steps.items (stepped step at)
-    ∙ ap (λ (n : ℕ). ◌∷◌ {A = Frame} (record { name = step.name; next = n }) (map frame_of (reverse old.steps.items))) next in
+    ∙ ap (λ (n : ℕ). frame_at step.name n ∷ map frame_of (reverse old.steps.items)) next in
     let pick : new.pick ≡ with_picked old.pick (step.name, slice_index step.candidates.items at) = pick_is ∙ added old.pick (step.name, slice_index step.candidates.items at) open_yet.undecided in
     record {
       stands = subst (λ (p : Position). StandsAt problem p) (sym (same_position new.pick (with_picked old.pick (step.name, slice_index step.candidates.items at)) (map frame_of (reverse new.steps.items)) (record { name = step.name; next = suc at } ∷ map frame_of (reverse old.steps.items)) 0 new.count (old.count + 1) new.dead old.dead pick frames count_is dead_is)) down;
@@ -58,7 +61,7 @@ has_decided problem old new step at s fit pick_is steps_are count_is dead_is =
 
 all_front : (candidates : List ℕ → List ℕ) (steps : List Step) (last : Step) → AreSteps candidates (steps ++ last ∷ []) → AreSteps candidates steps × (last.candidates.items ≡ candidates last.name)
 all_front candidates steps last all = (
-  (λ k d below. subst (λ (x : Step). x.candidates.items ≡ candidates x.name) (get_or_append_left steps (last ∷ []) k d below) (all k d (let e = length-append steps (last ∷ []) in omega (arith, e, below)))),
+  (λ k d below. subst (λ (x : Step). x.candidates.items ≡ candidates x.name) (get_or_append_left steps (last ∷ []) d k below) (all k d (let e = length-append steps (last ∷ []) in omega (arith, e, below)))),
   All-contains (λ (x : Step). x.candidates.items ≡ candidates x.name) (steps ++ last ∷ []) last all (Contains-push steps last),
 )
 

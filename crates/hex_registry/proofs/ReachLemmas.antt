@@ -1,7 +1,6 @@
 -- What is reached among picks, by their places and by their packages.
 use Rattle.std.proofs.Common.{◌≡◌, ℕ, zero, suc, ◌+◌, ◌<◌, ◌≤◌, Bool, true, false, not, cond, List, [], ◌∷◌, map, filter, filter_map, length, position, get_or, slice_get, slice_index_or, Option, Some, None, bytes_eq, IsTrue, is_le, ◌⊎◌, inl, inr, refl, sym, ap, subst, ◌∙◌, arith, ◌↔◌}
-use Rattle.std.specs.List.{All, AllPairs, Contains}
-use Rattle.std.specs.Option.{cons_option}
+use Rattle.std.specs.List.{All, Contains, cons_option}
 use Rattle.std.proofs.lemmas.Bool.{cases_lt, not-true}
 use Rattle.std.proofs.lemmas.List.{get_or_past, length-map}
 use Rattle.std.proofs.lemmas.List.Elements.{All-map, Contains-get_or}

@@ -78,18 +78,21 @@ past_end [] m e = omega arith
 past_end (x ∷ xs) zero e = absurd (cc)
 past_end (x ∷ xs) (suc m) e = let k = past_end xs m e in omega (arith, k)
 
+-- a release at its place
+abbrev ranked_at : Option ℕ → ℕ → Offer → Ranked
+ranked_at locked place offer = record { place = place; locked = is_place locked place; offer = offer }
+
 usable_on : (stock : Stock) (locked : Option ℕ) (done : List Ranked) (n : ℕ) (offers : List Offer) → AreUsableTo stock locked done n → ((k at : ℕ) → at ≡ n + k → slice_get offers k ≡ slice_get stock.offers at) → AreUsable stock locked (done ++ usable_from locked n offers)
 usable_on stock locked done n [] u same =
     subst (λ (cs : List Ranked). AreUsable stock locked cs) (sym (append-nil done)) (all_usable stock locked done n u (past_end stock.offers n (sym (same 0 n (omega arith)))))
 usable_on stock locked done n (offer ∷ offers) u same =
     let at : slice_get stock.offers n ≡ Some offer = sym (same 0 n (omega arith)) in
     let later : (k at : ℕ) → at ≡ suc n + k → slice_get offers k ≡ slice_get stock.offers at = λ k place e. same (suc k) place (omega (arith, e)) in
-    (elim (is_usable offer) as (λ b. is_usable offer ≡ b → AreUsable stock locked (done ++ cond b (◌∷◌ {A = Ranked} (record { place = n; locked = is_place locked n; offer = offer }) (usable_from locked (suc n) offers)) (usable_from locked (suc n) offers))) [
+    (elim (is_usable offer) as (λ b. is_usable offer ≡ b → AreUsable stock locked (done ++ cond b (ranked_at locked n offer ∷ usable_from locked (suc n) offers) (usable_from locked (suc n) offers))) [
       | true ↦ (λ e.
-          let new : Ranked = record { place = n; locked = is_place locked n; offer = offer } in
           let is : IsCandidate stock locked (record { place = n; locked = is_place locked n; offer = offer }) = record { at = at; usable = e; is_locked = is_place_decides locked n } in
-          subst (λ (cs : List Ranked). AreUsable stock locked cs) (append_assoc done (◌∷◌ {A = Ranked} (record { place = n; locked = is_place locked n; offer = offer }) []) (usable_from locked (suc n) offers))
-          (usable_on stock locked (done ++ ◌∷◌ {A = Ranked} (record { place = n; locked = is_place locked n; offer = offer }) []) (suc n) offers (one_usable stock locked done (record { place = n; locked = is_place locked n; offer = offer }) (suc n) u is (omega arith)) later))
+          subst (λ (cs : List Ranked). AreUsable stock locked cs) (append_assoc done (ranked_at locked n offer ∷ []) (usable_from locked (suc n) offers))
+          (usable_on stock locked (done ++ ranked_at locked n offer ∷ []) (suc n) offers (one_usable stock locked done (record { place = n; locked = is_place locked n; offer = offer }) (suc n) u is (omega arith)) later))
       | false ↦ (λ e. usable_on stock locked done (suc n) offers (one_unusable stock locked done offer n (suc n) u at e (omega arith)) later)
     ]) refl
 
