@@ -1,5 +1,5 @@
 -- What releases offer, by their texts.
-use Rattle.std.proofs.Common.{◌≡◌, ℕ, zero, suc, ◌+◌, ◌<◌, ◌≤◌, Bool, true, false, List, [], ◌∷◌, ◌++◌, length, get_or, take, drop, Option, Some, None, Result, Ok, Err, refl, sym, ap, subst, ◌∙◌, arith}
+use Rattle.std.proofs.Common.{◌≡◌, ℕ, zero, suc, ◌+◌, ◌<◌, ◌≤◌, Bool, true, false, List, [], ◌∷◌, ◌++◌, length, get_or, take, drop, Option, Some, None, Result, Ok, Err, refl, sym, ap, subst, ◌∙◌, arith, add-one}
 use Rattle.std.specs.List.{All, AllZip, Contains}
 use Rattle.std.specs.Str.{IsUtf8, is_utf8}
 use Rattle.std.proofs.lemmas.List.Elements.{All-cons}
@@ -30,6 +30,17 @@ zip_breaks R [] ys i x below at never zip = omega (arith, below)
 zip_breaks R (x' ∷ xs) [] i x below at never zip = zip
 zip_breaks R (x' ∷ xs) (y ∷ ys) zero x below at never zip = never y (subst (λ z. R z y) at zip.0)
 zip_breaks R (x' ∷ xs) (y ∷ ys) (suc i) x below at never zip = zip_breaks R xs ys i x (omega (arith, below)) at never zip.1
+
+-- one more element on each side
+zip_more : {A B : Type 0} (R : A → B → Type 0) (xs : List A) (ys : List B) (i : ℕ) (x : A) (y : B) → AllZip R (take i xs) ys → i < length xs → get_or xs i x ≡ x → R x y → AllZip R (take (suc i) xs) (ys ++ y ∷ [])
+zip_more R [] ys i x y zip below at r = absurd (omega (arith, below))
+zip_more R (z ∷ xs) [] zero x y zip below at r = (subst (λ w. R w y) (sym at) r, tt)
+zip_more R (z ∷ xs) (w ∷ ys) zero x y zip below at r = absurd zip
+zip_more R (z ∷ xs) [] (suc i) x y zip below at r = absurd zip
+zip_more R (z ∷ xs) (w ∷ ys) (suc i) x y zip below at r = (zip.0, zip_more R xs ys i x y zip.1 (omega (arith, below)) at r)
+
+pub zip_next : {A B : Type 0} (R : A → B → Type 0) (xs : List A) (ys : List B) (i : ℕ) (x : A) (y : B) → AllZip R (take i xs) ys → i < length xs → get_or xs i x ≡ x → R x y → AllZip R (take (i + 1) xs) (ys ++ y ∷ [])
+zip_next R xs ys i x y zip below at r = rw add-one (zip_more R xs ys i x y zip below at r)
 
 pub no_demands : (repository : List ℕ) (dependencies : List Dependency) (i : ℕ) (d : Dependency) → i < length dependencies → get_or dependencies i d ≡ d → SaysDemand repository d None → SaysDemands repository dependencies None
 no_demands repository dependencies i d below at none = λ demands are. zip_breaks (IsDemand repository) dependencies demands i d below at none are

@@ -169,3 +169,8 @@ place_reached shelves wants pick place o (demanded by demand c r d required) at 
     Further t.0 place (place_reached shelves wants pick t.0 o r t.1)
     (subst (λ (ns : List ℕ). Contains ns place) (sym (needs_at (λ (q : Picked). links_of pick (demands_at shelves wants q)) pick t.0 by (k.at ∙ ap Some is)))
     (in_links pick (demands_at shelves wants by) demand place d required at))
+
+pub starts_fit : (shelves : List Shelf) (wants : Wants) (pick : List Picked) (graph : List (List ℕ)) (starts : List ℕ) → graph ≡ graph_of shelves wants pick → starts ≡ starts_of pick wants.wants → All (λ start. start < length graph) starts
+starts_fit shelves wants pick graph starts g s =
+    subst (λ (ns : List ℕ). All (λ start. start < length graph) ns) (sym s)
+    (subst (λ (n : ℕ). All (λ start. start < n) (starts_of pick wants.wants)) (sym (ap length g ∙ graph_long shelves wants pick)) (starts_within wants.wants pick))

@@ -1,5 +1,5 @@
 -- A pick is valid exactly where it has no breach.
-use Rattle.std.proofs.Common.{◌≡◌, ℕ, Bool, true, false, not, ◌&&◌, List, find, position, bytes_eq, Option, Some, None, IsTrue, IsFalse, ◌⊎◌, inl, inr, refl, sym, ap, subst, ◌∙◌}
+use Rattle.std.proofs.Common.{◌≡◌, ℕ, Bool, true, false, not, ◌&&◌, List, find, position, bytes_eq, Option, Some, None, IsTrue, IsFalse, IsNone, IfNone, ◌↔◌, ◌⊎◌, inl, inr, refl, sym, ap, subst, ◌∙◌}
 use Rattle.std.specs.List.{Contains, list_any, All}
 use Rattle.std.proofs.lemmas.Bool.{and_from, and_parts, cases_Bool}
 use Rattle.std.proofs.lemmas.List.Elements.{All-contains}
@@ -19,7 +19,7 @@ use Rattle.hex_registry.specs.Breaches.IsFirst.{none, first}
 use Rattle.hex_registry.specs.Picks.{Picked, ArePicks, IsAsked, IsReached, demand_refuses, demand_takes, demands_at, has_package, is_candidate, want_refuses, want_takes}
 use Rattle.hex_registry.specs.Shelves.{offer_at}
 use Rattle.hex_registry.specs.Valid.{IsValid}
-use Rattle.hex_registry.proofs.KindLemmas.{no_kind}
+use Rattle.hex_registry.proofs.KindLemmas.{first_3, no_kind}
 use Rattle.hex_registry.proofs.Lists.{any_found, any_from, find_some, found_one, position_found, position_one}
 
 pub same_bytes : (a b : List ℕ) → bytes_eq a b ≡ true → a ≡ b
@@ -104,3 +104,11 @@ valid_of shelves wants pick in_order no_0 no_1 no_2 all =
       ];
       reached = λ picked c. All-contains (λ (q : Picked). IsReached shelves wants pick q.0) pick picked all c;
     }
+
+-- where there is a breach the pick isn't valid, and where there is none it is
+pub first_refuses : (shelves : List Shelf) (wants : Wants) (pick : List Picked) (breach : Breach) → SaysBreach shelves wants pick (Some breach) → IsNone (Some breach) ↔ IsValid shelves wants pick
+first_refuses shelves wants pick breach says = ((λ h. absurd (let e : true ≡ false = h in cc)), (λ v. absurd (first_not_valid shelves wants pick breach says v)))
+
+pub last_decides : (shelves : List Shelf) (wants : Wants) (pick : List Picked) (found : Option Breach) → IsFirst (IsOfKind (IsBreach shelves wants pick) 0) None → IsFirst (IsOfKind (IsBreach shelves wants pick) 1) None → IsFirst (IsOfKind (IsBreach shelves wants pick) 2) None → IsFirst (IsOfKind (IsBreach shelves wants pick) 3) found → IfNone found (ArePicks pick × All (λ picked. IsReached shelves wants pick picked.0) pick) → IsNone found ↔ IsValid shelves wants pick
+last_decides shelves wants pick None no_0 no_1 no_2 no_3 all = ((λ h. valid_of shelves wants pick all.0 no_0 no_1 no_2 all.1), (λ v. refl))
+last_decides shelves wants pick (Some breach) no_0 no_1 no_2 is all = first_refuses shelves wants pick breach (first_3 (IsBreach shelves wants pick) (Some breach) no_0 no_1 no_2 is)

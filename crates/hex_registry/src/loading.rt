@@ -31,6 +31,7 @@ impl Registry {
     ///
     /// At the first place met: `Read`; for a wanted package without a file `NoPackage`; `Wire`; `NameDiffers`;
     /// `BadVersion`. A package that only dependencies name has no candidates where it has no file.
+    #[tactic(auto, using(crate::proofs::LoadSteps::begins, crate::proofs::LoadSteps::refuses, crate::proofs::LoadSteps::goes_on, crate::proofs::LoadSteps::loads, crate::proofs::LoadSteps::has_names))]
     pub fn load<S: Store>(
         alloc: Global,
         store: &mut S,
@@ -89,6 +90,7 @@ fn add_named(
     Ok(())
 }
 
+#[tactic(auto, using(crate::proofs::Walks::insert_aside))]
 fn add_named_by(
     names: &mut IndexSet<AppName>,
     wants: &Wants,
@@ -98,9 +100,10 @@ fn add_named_by(
         ≡ insert_all bytes_eq names.old.keys (named_by_offer wants.now.pinned offer.now)) }
 {
     for demand in offer.demands() {
-        if !wants.sets_aside(demand) {
-            names.insert(demand.package.clone()?)?;
+        if wants.sets_aside(demand) {
+            continue;
         }
+        names.insert(demand.package.clone()?)?;
     }
     Ok(())
 }
@@ -131,6 +134,7 @@ fn message_path(alloc: Global, name: &AppName) -> Result<RelPath, AllocError>
 }
 
 // What there is under a name, of which a file was found or not.
+#[tactic(auto, using(crate::proofs::OfferSteps::stock_refused, crate::proofs::OfferSteps::stock_read, crate::proofs::OfferSteps::stock_missing, crate::proofs::OfferSteps::stock_absent))]
 fn stock_of(
     alloc: Global,
     name: &AppName,
@@ -147,6 +151,7 @@ fn stock_of(
 }
 
 // What the message says that stands under a name.
+#[tactic(auto, using(crate::proofs::OfferSteps::message_refused, crate::proofs::OfferSteps::message_differs, crate::proofs::OfferSteps::message_bad, crate::proofs::OfferSteps::message_read))]
 fn stock_of_message(alloc: Global, name: &AppName, bytes: &[u8]) -> Result<Stock, RegistryError>
     ensures { Computes blame_of result (SaysMessage name.now bytes.now) }
 {
@@ -177,6 +182,7 @@ fn refused(name: &AppName, fault: WireError) -> Result<RegistryError, AllocError
 }
 
 // What each release offers, or the first one whose version is none.
+#[tactic(auto, using(crate::proofs::OfferSteps::offers_refused, crate::proofs::OfferSteps::offers_more, crate::proofs::OfferSteps::offers_whole))]
 fn offers_of(alloc: Global, name: &AppName, message: &Package) -> Result<Offers, RegistryError>
     ensures { Computes blame_of result (SaysOffers name.now message.now) }
 {
@@ -187,6 +193,7 @@ fn offers_of(alloc: Global, name: &AppName, message: &Package) -> Result<Offers,
     Ok(offers)
 }
 
+#[tactic(auto, using(crate::proofs::OfferSteps::bad_offer, crate::proofs::OfferSteps::good_offer))]
 fn offer_of(
     alloc: Global,
     name: &AppName,

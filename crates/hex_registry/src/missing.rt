@@ -2,7 +2,7 @@
 ghost use Rattle.std.specs.Prelude.{◌≡◌, find, not, ◌&&◌, Some, None, IfOk};
 ghost use Rattle.std.specs.Option.{option_copied};
 ghost use Rattle.hex_registry.specs.Breaches.{IsBreach, IsFirst, IsOfKind, lesser_of};
-ghost use Rattle.hex_registry.specs.declared.breach.Breach.TheVariants.{NotCandidate};
+ghost use Rattle.hex_registry.specs.declared.breach.Breach.TheVariants.{NotCandidate, NotPicked};
 ghost use Rattle.hex_registry.specs.Missing.{least_with, missing_demands, missing_names, missing_wants};
 ghost use Rattle.hex_registry.specs.Picks.{ArePicks, has_package, is_candidate};
 ghost use Rattle.hex_registry.specs.Shelves.{without_apps};
@@ -17,7 +17,6 @@ use mx_base::AppName;
 use std::alloc::AllocError;
 
 /// The first package in byte order that is required and not picked.
-#[tactic(auto, using(crate::proofs::MissingLemmas::first_missing))]
 pub(crate) fn first_not_picked(
     registry: &Registry,
     wants: &Wants,
@@ -26,9 +25,15 @@ pub(crate) fn first_not_picked(
     ensures { IfOk result (IsFirst (IsOfKind (IsBreach registry.now wants.now pick.now) 0)) }
 {
     match first_missing(registry, wants, pick) {
-        Some(name) => Ok(Some(Breach::NotPicked(name.clone()?))),
+        Some(name) => Ok(Some(not_picked(name)?)),
         None => Ok(None),
     }
+}
+
+fn not_picked(name: &AppName) -> Result<Breach, AllocError>
+    ensures { IfOk result (λ breach. breach ≡ NotPicked name.now) }
+{
+    Ok(Breach::NotPicked(name.clone()?))
 }
 
 /// The package that is decided next: the least in byte order that is required and not picked.

@@ -74,6 +74,7 @@ pub(crate) fn version_of(alloc: Global, text: &Text) -> Result<Option<Version>, 
 }
 
 /// What a release of a repository asks for, where it is usable.
+#[tactic(auto, using(crate::proofs::OfferLemmas::no_demands, crate::proofs::OfferLemmas::zip_next))]
 pub(crate) fn demands_of(
     alloc: Global,
     repository: &Text,

@@ -122,7 +122,7 @@ fn insert_into(picks: &mut Vec<Picked>, name: AppName, place: u64) -> Result<(),
 }
 
 // Where a package would stand: behind those with lesser names.
-#[tactic(auto, using(crate::proofs::PickLists::place_found, crate::proofs::PickLists::place_past, crate::proofs::PickLists::place_short))]
+#[tactic(auto, using(crate::proofs::PickPlaces::place_found, crate::proofs::PickPlaces::place_past, crate::proofs::PickPlaces::place_short))]
 fn place_for(picks: &[Picked], name: &AppName) -> usize
     ensures place { result
         ≡ position_or_len (λ picked. not (is_lt (text_cmp picked.0 name.now))) picks.now }

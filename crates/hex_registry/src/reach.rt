@@ -3,7 +3,7 @@ ghost use Rattle.std.specs.Prelude.{◌≡◌, ◌<◌, ◌↔◌, ℕ, Some, Is
 ghost use Rattle.std.specs.List.{All, AllPairs, Contains};
 ghost use Rattle.dep_order.specs.Reach.{AreReachedFrom};
 ghost use Rattle.hex_registry.specs.Breaches.{IsBreach, IsFirst, IsOfKind};
-ghost use Rattle.hex_registry.specs.Picks.{IsReached};
+ghost use Rattle.hex_registry.specs.Picks.{ArePicks, IsReached};
 ghost use Rattle.hex_registry.specs.Reach.{graph_of, links_of, starts_of};
 ghost use Rattle.hex_registry.specs.Shelves.{without_apps};
 ghost use Rattle.hex_registry.specs.declared.breach.Breach.TheVariants.{Unreached};
@@ -24,8 +24,8 @@ pub(crate) fn first_unreached(
     pick: &Pick,
 ) -> Result<Option<Breach>, AllocError>
     ensures first { IfOk result (IsFirst (IsOfKind (IsBreach registry.now wants.now pick.now) 3)) }
-    ensures whole { IfOk result (λ found. IfNone found
-        (All (λ picked. IsReached registry.now wants.now pick.now picked.0) pick.now)) }
+    ensures whole { IfOk result (λ found. IfNone found (ArePicks pick.now
+        × All (λ picked. IsReached registry.now wants.now pick.now picked.0) pick.now)) }
 {
     let reached = reached_places(alloc, registry, wants, pick)?;
     match first_gap(&reached, pick.as_slice().len()) {
@@ -41,6 +41,7 @@ fn unreached(picked: &Picked) -> Result<Breach, AllocError>
 }
 
 // The places of the picked packages that wants come to.
+#[tactic(auto, using(crate::proofs::ReachLemmas::needs_within))]
 fn reached_places(
     alloc: Global,
     registry: &Registry,
@@ -72,6 +73,7 @@ fn links(
 }
 
 // The places of the picked packages that these demands require.
+#[tactic(auto, using(crate::proofs::Walks::links_aside, crate::proofs::Walks::links_optional, crate::proofs::Walks::links_none, crate::proofs::Walks::links_some))]
 fn links_of(
     alloc: Global,
     wants: &Wants,
@@ -97,6 +99,7 @@ fn links_of(
 }
 
 // The places of the picked packages that wants require.
+#[tactic(auto, using(crate::proofs::Walks::starts_optional, crate::proofs::Walks::starts_none, crate::proofs::Walks::starts_some))]
 fn starts_of(alloc: Global, wants: &[Want], pick: &Pick) -> Result<Vec<usize>, AllocError>
     ensures { IfOk result (λ starts. starts.items ≡ starts_of pick.now wants.now) }
 {

@@ -30,6 +30,7 @@ pub enum By {
 }
 
 /// The first picked package in byte order whose release doesn't meet a requirement in force.
+#[tactic(auto, using(crate::proofs::FirstLemmas::unmet_first, crate::proofs::FirstLemmas::unmet_none))]
 pub(crate) fn first_unmet(
     registry: &Registry,
     wants: &Wants,

@@ -3,7 +3,7 @@ use Rattle.std.specs.Ordering.{is_lt}
 use Rattle.std.proofs.lemmas.List.Sorted.{answers_always}
 use Rattle.mx_base.specs.Order.{text_cmp}
 use Rattle.hex_registry.specs.Picks.{Picked}
-use Rattle.hex_registry.proofs.PickLists.{order_of_answer}
+use Rattle.hex_registry.proofs.PickPlaces.{order_of_answer}
 use Rattle.hex_registry.proofs.pick.are_in_order.Goals as goal
 
 pub returns : goal.returns
