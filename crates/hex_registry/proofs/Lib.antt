@@ -1,4 +1,5 @@
 pub mod AnyRelease
+pub mod BreachSteps
 pub mod CandidateLemmas
 pub mod FirstLemmas
 pub mod GapLemmas

@@ -1,6 +1,7 @@
 -- What is answered of a release, of a package's releases and of a message.
-use Rattle.std.proofs.Common.{◌≡◌, ◌≢◌, ℕ, ◌+◌, ◌<◌, ◌≤◌, Bool, true, false, List, [], ◌∷◌, ◌++◌, length, get_or, take, Option, Some, None, Result, Ok, Err, is_some, refl, sym, ap, subst, ◌∙◌, arith}
+use Rattle.std.proofs.Common.{◌≡◌, ◌≢◌, ℕ, ◌+◌, ◌<◌, ◌≤◌, Bool, true, false, bytes_eq, List, [], ◌∷◌, ◌++◌, length, get_or, take, Option, Some, None, Result, Ok, Err, is_some, refl, sym, ap, subst, ◌∙◌, arith}
 use Rattle.std.specs.List.{AllZip}
+use Rattle.std.proofs.lemmas.List.{take_all}
 use Rattle.hex_messages.specs.declared.package.Package.{Package}
 use Rattle.hex_messages.specs.declared.package.Release.{Release}
 use Rattle.hex_messages.specs.Stands.{Stands}
@@ -18,10 +19,11 @@ use Rattle.hex_registry.specs.declared.error.RegistryError.TheVariants.{BadVersi
 use Rattle.hex_registry.specs.declared.offer.Offer.{Offer}
 use Rattle.hex_registry.specs.declared.shelf.Stock.{Stock}
 use Rattle.hex_registry.proofs.OfferLemmas.{first_bad, zip_next}
+use Rattle.hex_registry.proofs.ValidLemmas.{bytes_itself}
 
 -- of a release
-pub bad_offer : (name repository : List ℕ) (release : Release) (package version : List ℕ) → SaysVersion release.version None → package ≡ name → version ≡ release.version → Computes {X = Offer} blame_of (Err (BadVersion package version)) (SaysOffer name repository release)
-bad_offer name repository release package version never p v =
+pub bad_offer : (name repository : List ℕ) (release : Release) (asked version : List ℕ) → SaysVersion release.version None → asked ≡ name → version ≡ release.version → Computes {X = Offer} blame_of (Err (BadVersion asked version)) (SaysOffer name repository release)
+bad_offer name repository release asked version never p v =
     subst (λ (n : List ℕ). Computes {X = Offer} blame_of (Err (BadVersion n version)) (SaysOffer name repository release)) (sym p)
     (subst (λ (t : List ℕ). Computes {X = Offer} blame_of (Err (BadVersion name t)) (SaysOffer name repository release)) (sym v)
     (record { answer = λ input. one_bad never; alone = refl }))
@@ -34,9 +36,14 @@ good_offer name repository release offer version retired demands =
 bad_among : (name : List ℕ) (message : Package) (offers : List Offer) (i : ℕ) (release : Release) (error : RegistryError) → AreOffers message.repository (take i message.releases) offers → i < length message.releases → get_or message.releases i release ≡ release → SaysOffer name message.repository release (Err error) → SaysOffers name message (Err error)
 bad_among name message offers i release _ are below at (one_bad never) = all_bad (first_bad message.repository message.releases offers i release are below at never)
 
-pub offers_refused : (name : List ℕ) (message : Package) (offers : List Offer) (i : ℕ) (release : Release) (error : RegistryError) → AreOffers message.repository (take i message.releases) offers → i < length message.releases → get_or message.releases i release ≡ release → Computes {X = Offer} blame_of (Err error) (SaysOffer name message.repository release) → Computes {X = List Offer} blame_of (Err error) (SaysOffers name message)
-offers_refused name message offers i release error are below at computes =
-    record { answer = λ input. bad_among name message offers i release error are below at (computes.answer input); alone = computes.alone }
+pub offers_refused : (name : List ℕ) (message : Package) (releases : List Release) (offers : List Offer) (i : ℕ) (release : Release) (error : RegistryError) → releases ≡ message.releases → AreOffers message.repository (take i releases) offers → i < length releases → get_or releases i release ≡ release → Computes {X = Offer} blame_of (Err error) (SaysOffer name message.repository release) → Computes {X = List Offer} blame_of (Err error) (SaysOffers name message)
+offers_refused name message releases offers i release error is are below at computes =
+    record {
+      answer = λ input. bad_among name message offers i release error
+          (subst (λ (rs : List Release). AreOffers message.repository (take i rs) offers) is are)
+          (subst (λ (rs : List Release). i < length rs) is below) (subst (λ (rs : List Release). get_or rs i release ≡ release) is at) (computes.answer input);
+      alone = computes.alone;
+    }
 
 made_offer : (name repository : List ℕ) (release : Release) (offer : Offer) → SaysOffer name repository release (Ok offer) → IsOffer repository release offer
 made_offer name repository release offer (one_good is) = is
@@ -45,10 +52,16 @@ pub offers_more : (name repository : List ℕ) (releases : List Release) (offers
 offers_more name repository releases offers i release offer are below at computes =
     zip_next (IsOffer repository) releases offers i release offer are below at (made_offer name repository release offer computes.answer)
 
-pub offers_whole : (name : List ℕ) (message : Package) (offers : List Offer) → AreOffers message.repository message.releases offers → Computes blame_of (Ok offers) (SaysOffers name message)
-offers_whole name message offers are = record { answer = all_good are; alone = refl }
+pub offers_whole : (name : List ℕ) (message : Package) (releases : List Release) (offers : List Offer) (i : ℕ) → releases ≡ message.releases → length releases ≤ i → AreOffers message.repository (take i releases) offers → Computes blame_of (Ok offers) (SaysOffers name message)
+offers_whole name message releases offers i is past are =
+    record { answer = all_good (subst (λ (rs : List Release). AreOffers message.repository rs offers) (take_all i releases past ∙ is) are); alone = refl }
 
 -- of a message
+pub apart_bytes : (a b : List ℕ) → bytes_eq a b ≡ false → a ≢ b
+apart_bytes a b e same =
+    let own : bytes_eq a b ≡ true = ap (λ (n : List ℕ). bytes_eq a n) (sym same) ∙ bytes_itself a in
+    let clash : true ≡ false = sym own ∙ e in cc
+
 stands_of : (name bytes : List ℕ) (message : Package) → IsMessage name bytes (Ok message) → Stands bytes message
 stands_of name bytes message (whole stands) = stands
 

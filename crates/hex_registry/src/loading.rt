@@ -31,7 +31,6 @@ impl Registry {
     ///
     /// At the first place met: `Read`; for a wanted package without a file `NoPackage`; `Wire`; `NameDiffers`;
     /// `BadVersion`. A package that only dependencies name has no candidates where it has no file.
-    #[tactic(auto, using(crate::proofs::LoadSteps::begins, crate::proofs::LoadSteps::refuses, crate::proofs::LoadSteps::goes_on, crate::proofs::LoadSteps::loads, crate::proofs::LoadSteps::has_names))]
     pub fn load<S: Store>(
         alloc: Global,
         store: &mut S,
@@ -134,7 +133,6 @@ fn message_path(alloc: Global, name: &AppName) -> Result<RelPath, AllocError>
 }
 
 // What there is under a name, of which a file was found or not.
-#[tactic(auto, using(crate::proofs::OfferSteps::stock_refused, crate::proofs::OfferSteps::stock_read, crate::proofs::OfferSteps::stock_missing, crate::proofs::OfferSteps::stock_absent))]
 fn stock_of(
     alloc: Global,
     name: &AppName,
@@ -151,12 +149,11 @@ fn stock_of(
 }
 
 // What the message says that stands under a name.
-#[tactic(auto, using(crate::proofs::OfferSteps::message_refused, crate::proofs::OfferSteps::message_differs, crate::proofs::OfferSteps::message_bad, crate::proofs::OfferSteps::message_read))]
 fn stock_of_message(alloc: Global, name: &AppName, bytes: &[u8]) -> Result<Stock, RegistryError>
     ensures { Computes blame_of result (SaysMessage name.now bytes.now) }
 {
     let message = message_of(alloc, name, bytes)?;
-    if message.name.as_slice() != name.as_str().as_bytes() {
+    if !is_named(&message, name) {
         return Err(RegistryError::NameDiffers {
             asked: name.clone()?,
             found: message.name,
@@ -164,6 +161,12 @@ fn stock_of_message(alloc: Global, name: &AppName, bytes: &[u8]) -> Result<Stock
     }
     let offers = offers_of(alloc, name, &message)?;
     Ok(Stock { message, offers })
+}
+
+fn is_named(message: &Package, name: &AppName) -> bool
+    ensures { result ≡ bytes_eq message.now.name name.now }
+{
+    message.name.as_slice() == name.as_str().as_bytes()
 }
 
 fn message_of(alloc: Global, name: &AppName, bytes: &[u8]) -> Result<Package, RegistryError>
@@ -182,7 +185,6 @@ fn refused(name: &AppName, fault: WireError) -> Result<RegistryError, AllocError
 }
 
 // What each release offers, or the first one whose version is none.
-#[tactic(auto, using(crate::proofs::OfferSteps::offers_refused, crate::proofs::OfferSteps::offers_more, crate::proofs::OfferSteps::offers_whole))]
 fn offers_of(alloc: Global, name: &AppName, message: &Package) -> Result<Offers, RegistryError>
     ensures { Computes blame_of result (SaysOffers name.now message.now) }
 {
@@ -193,7 +195,6 @@ fn offers_of(alloc: Global, name: &AppName, message: &Package) -> Result<Offers,
     Ok(offers)
 }
 
-#[tactic(auto, using(crate::proofs::OfferSteps::bad_offer, crate::proofs::OfferSteps::good_offer))]
 fn offer_of(
     alloc: Global,
     name: &AppName,

@@ -8,9 +8,9 @@ use Rattle.hex_registry.proofs.unmet.against.Goals as goal
 
 pub returns-in-Some-first_want_against : goal.returns-in-Some-first_want_against
 returns-in-Some-first_want_against c =
-    want c.in-Some.offer.now (sym (ap option_copied c.in-Some.is) ∙ c.offer.ensures) (sym c.first_want_against.ensures ∙ c.in-Some-first_want_against.is)
+    want c.in-Some.offer.now (sym c.offer.ensures ∙ ap option_copied c.in-Some.is) (sym c.first_want_against.ensures ∙ c.in-Some-first_want_against.is)
 
 pub returns-in_ok-by_package-in-Some-first_demand_against : goal.returns-in_ok-by_package-in-Some-first_demand_against
 returns-in_ok-by_package-in-Some-first_demand_against c =
     subst (λ (b : By). IsAgainst c.args.registry.now c.args.wants.now c.args.pick.now c.args.picked.now b) (sym c.in_ok-by_package-in-Some-first_demand_against.ensures)
-    (demand c.in-Some-first_demand_against.by.now c.in-Some.offer.now (sym (ap option_copied c.in-Some.is) ∙ c.offer.ensures) (search rules) (sym (ap option_copied c.in-Some-first_demand_against.is) ∙ c.first_demand_against.ensures))
+    (demand c.in-Some-first_demand_against.by.now c.in-Some.offer.now (sym c.offer.ensures ∙ ap option_copied c.in-Some.is) (search rules) (sym c.first_demand_against.ensures ∙ ap option_copied c.in-Some-first_demand_against.is))
