@@ -102,12 +102,12 @@ stock_read wanted name found bytes made is computes =
     (record { answer = stock_says computes.answer; alone = refl })
 
 pub stock_missing : (wanted : Bool) (name asked : List ℕ) (found : Option (List ℕ)) → found ≡ None → wanted ≡ true → asked ≡ name → Computes {X = Option Stock} blame_of (Err (NoPackage asked)) (SaysStock wanted name found)
-stock_missing wanted name asked found is yes same =
+stock_missing wanted name asked found is on same =
     subst (λ (o : Option (List ℕ)). Computes {X = Option Stock} blame_of (Err (NoPackage asked)) (SaysStock wanted name o)) (sym is)
     (subst (λ (n : List ℕ). Computes {X = Option Stock} blame_of (Err (NoPackage n)) (SaysStock wanted name None)) (sym same)
-    (record { answer = λ input. missing yes; alone = refl }))
+    (record { answer = λ input. missing on; alone = refl }))
 
 pub stock_absent : (wanted : Bool) (name : List ℕ) (found : Option (List ℕ)) → found ≡ None → wanted ≡ false → Computes {X = Option Stock} blame_of (Ok None) (SaysStock wanted name found)
-stock_absent wanted name found is no =
+stock_absent wanted name found is off =
     subst (λ (o : Option (List ℕ)). Computes {X = Option Stock} blame_of (Ok None) (SaysStock wanted name o)) (sym is)
-    (record { answer = absent no; alone = refl })
+    (record { answer = absent off; alone = refl })

@@ -1,4 +1,5 @@
 use Rattle.std.proofs.Common.{List, ◌+◌, take, sym, subst}
+use Rattle.std.proofs.lemmas.Result.{err_from_is_err_and}
 use Rattle.hex_registry.specs.Offers.{AreOffers}
 use Rattle.hex_registry.specs.declared.offer.Offer.{Offer}
 use Rattle.hex_registry.proofs.OfferSteps.{offers_more, offers_refused, offers_whole}
@@ -6,8 +7,9 @@ use Rattle.hex_registry.proofs.loading.offers_of.Goals as goal
 
 pub returns-in_err-offer_of : goal.returns-in_err-offer_of
 returns-in_err-offer_of c =
-    offers_refused c.args.name.now c.args.message.now c.as_slice-release-items.result.now c.loop-release.offers c.loop-release.release-index c.release-item.result _
-    c.as_slice-release-items.ensures c.loop-release.invariant c.loop-release-test.true (sym c.release-item.is) c.in_err-offer_of.ensures
+    let p = err_from_is_err_and c.from_residual.result c.from_residual.ensures.1 in
+    rw (p.1, p.2) (offers_refused c.args.name.now c.args.message.now c.as_slice-release-items.result.now c.loop-release.offers c.loop-release.release-index c.release-item.result _
+    c.as_slice-release-items.ensures c.loop-release.invariant c.loop-release-test.true (sym c.release-item.is) c.in_err-offer_of.ensures)
 
 pub loop-release-preserved : goal.loop-release-preserved
 loop-release-preserved c =
