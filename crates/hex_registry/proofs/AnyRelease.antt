@@ -15,7 +15,8 @@ zero_least zero = inl refl
 zero_least (suc n) = inr (sym (nat_cmp_is (suc n) 0 Greater (omega arith)))
 
 then_least : (o p : Ordering) → IsAtLeast o → IsAtLeast p → IsAtLeast (ordering_then o p)
-then_least o p (inl e) least = elim least [ inl f ↦ inl (ap (λ (x : Ordering). ordering_then x p) e ∙ f) | inr f ↦ inr (ap (λ (x : Ordering). ordering_then x p) e ∙ f) ]
+then_least o p (inl e) least =
+    elim least [ inl f ↦ inl (ap (λ (x : Ordering). ordering_then x p) e ∙ f) | inr f ↦ inr (ap (λ (x : Ordering). ordering_then x p) e ∙ f) ]
 then_least o p (inr e) least = inr (ap (λ (x : Ordering). ordering_then x p) e)
 
 ge_of : (o : Ordering) → IsAtLeast o → is_ge o ≡ true
@@ -38,6 +39,7 @@ barred false = refl
 pub any_takes : (major minor patch : ℕ) (pre build : List ℕ) → sat any_release (major, minor, patch, pre, build) false ≡ (length pre == 0)
 any_takes major minor patch [] build = at_least major minor patch build
 any_takes major minor patch (b ∷ pre) build =
-    ap (λ (t : Bool). ((stands GreaterOrEqual from_zero (major, minor, patch, b ∷ pre, build) && (false || not (true && (t && true)))) && true) || false) (lt-ltb 0 (length (b ∷ pre)) (omega arith))
+    ap (λ (t : Bool). ((stands GreaterOrEqual from_zero (major, minor, patch, b ∷ pre, build) && (false || not (true && (t && true)))) && true) || false)
+    (lt-ltb 0 (length (b ∷ pre)) (omega arith))
     ∙ barred (stands GreaterOrEqual from_zero (major, minor, patch, b ∷ pre, build))
     ∙ sym (ne_eqb (length (b ∷ pre)) 0 (λ e. omega (arith, e)))

@@ -15,7 +15,9 @@ use Rattle.hex_registry.specs.Picks.{Picked, ArePicks, IsReached}
 use Rattle.hex_registry.proofs.NameOrder.{in_order_at}
 
 -- the first that isn't met
-pub unmet_first : (shelves : List Shelf) (wants : Wants) (pick : List Picked) (i : ℕ) (picked : Picked) (by : By) → ArePicks pick → i < length pick → get_or pick i picked ≡ picked → ((k : ℕ) (d : Picked) → k < i → (b : By) → IsAgainst shelves wants pick (get_or pick k d) b → ⊥) → IsAgainst shelves wants pick picked by → IsFirst (IsOfKind (IsBreach shelves wants pick) 2) (Some (Unmet picked.0 by))
+pub unmet_first : (shelves : List Shelf) (wants : Wants) (pick : List Picked) (i : ℕ) (picked : Picked) (by : By) → ArePicks pick → i < length pick
+    → get_or pick i picked ≡ picked → ((k : ℕ) (d : Picked) → k < i → (b : By) → IsAgainst shelves wants pick (get_or pick k d) b → ⊥)
+    → IsAgainst shelves wants pick picked by → IsFirst (IsOfKind (IsBreach shelves wants pick) 2) (Some (Unmet picked.0 by))
 unmet_first shelves wants pick i picked by o l at before against = first (refl, unmet picked (i, l, at) against) after
   where
     after : (other : Breach) → IsOfKind (IsBreach shelves wants pick) 2 other → IsTrue (is_le (breach_cmp (Unmet picked.0 by) other))
@@ -27,7 +29,9 @@ unmet_first shelves wants pick i picked by o l at before against = first (refl, 
     ]
     after (Unreached name) (kind, is) = absurd (omega (arith, kind))
 
-pub unmet_none : (shelves : List Shelf) (wants : Wants) (pick : List Picked) → ((k : ℕ) (d : Picked) → k < length pick → (b : By) → IsAgainst shelves wants pick (get_or pick k d) b → ⊥) → IsFirst (IsOfKind (IsBreach shelves wants pick) 2) None
+pub unmet_none : (shelves : List Shelf) (wants : Wants) (pick : List Picked)
+    → ((k : ℕ) (d : Picked) → k < length pick → (b : By) → IsAgainst shelves wants pick (get_or pick k d) b → ⊥)
+    → IsFirst (IsOfKind (IsBreach shelves wants pick) 2) None
 unmet_none shelves wants pick before = none never
   where
     never : (other : Breach) → IsOfKind (IsBreach shelves wants pick) 2 other → ⊥
@@ -37,7 +41,9 @@ unmet_none shelves wants pick before = none never
     never (Unreached name) (kind, is) = omega (arith, kind)
 
 -- the first that isn't reached
-pub unreached_first : (shelves : List Shelf) (wants : Wants) (pick : List Picked) (i : ℕ) (picked : Picked) → ArePicks pick → i < length pick → get_or pick i picked ≡ picked → ((k : ℕ) (q : Picked) → k < i → slice_get pick k ≡ Some q → IsReached shelves wants pick q.0) → (IsReached shelves wants pick picked.0 → ⊥) → IsFirst (IsOfKind (IsBreach shelves wants pick) 3) (Some (Unreached picked.0))
+pub unreached_first : (shelves : List Shelf) (wants : Wants) (pick : List Picked) (i : ℕ) (picked : Picked) → ArePicks pick → i < length pick
+    → get_or pick i picked ≡ picked → ((k : ℕ) (q : Picked) → k < i → slice_get pick k ≡ Some q → IsReached shelves wants pick q.0)
+    → (IsReached shelves wants pick picked.0 → ⊥) → IsFirst (IsOfKind (IsBreach shelves wants pick) 3) (Some (Unreached picked.0))
 unreached_first shelves wants pick i picked o l at before never = first (refl, unreached picked (i, l, at) never) after
   where
     after : (other : Breach) → IsOfKind (IsBreach shelves wants pick) 3 other → IsTrue (is_le (breach_cmp (Unreached picked.0) other))
@@ -49,7 +55,8 @@ unreached_first shelves wants pick i picked o l at before never = first (refl, u
       | inr later ↦ in_order_at pick i picked other o l at c later
     ]
 
-pub unreached_none : (shelves : List Shelf) (wants : Wants) (pick : List Picked) → ((q : Picked) → Contains pick q → IsReached shelves wants pick q.0) → IsFirst (IsOfKind (IsBreach shelves wants pick) 3) None
+pub unreached_none : (shelves : List Shelf) (wants : Wants) (pick : List Picked) → ((q : Picked) → Contains pick q → IsReached shelves wants pick q.0)
+    → IsFirst (IsOfKind (IsBreach shelves wants pick) 3) None
 unreached_none shelves wants pick all = none never
   where
     never : (other : Breach) → IsOfKind (IsBreach shelves wants pick) 3 other → ⊥

@@ -36,7 +36,8 @@ first_1 Is found no_0 (first is least) = first is.1 later
     later (Unmet n by) o = lesser_kind found (Unmet n by) (omega (arith, is.0))
     later (Unreached n) o = lesser_kind found (Unreached n) (omega (arith, is.0))
 
-pub first_2 : (Is : Breach → Type 0) (found : Breach) → IsFirst (IsOfKind Is 0) None → IsFirst (IsOfKind Is 1) None → IsFirst (IsOfKind Is 2) (Some found) → IsFirst Is (Some found)
+pub first_2 : (Is : Breach → Type 0) (found : Breach) → IsFirst (IsOfKind Is 0) None → IsFirst (IsOfKind Is 1) None → IsFirst (IsOfKind Is 2) (Some found)
+    → IsFirst Is (Some found)
 first_2 Is found no_0 no_1 (first is least) = first is.1 later
   where
     later : (other : Breach) → Is other → IsTrue (is_le (breach_cmp found other))
@@ -45,7 +46,8 @@ first_2 Is found no_0 no_1 (first is least) = first is.1 later
     later (Unmet n by) o = least (Unmet n by) (refl, o)
     later (Unreached n) o = lesser_kind found (Unreached n) (omega (arith, is.0))
 
-pub first_3 : (Is : Breach → Type 0) (found : Option Breach) → IsFirst (IsOfKind Is 0) None → IsFirst (IsOfKind Is 1) None → IsFirst (IsOfKind Is 2) None → IsFirst (IsOfKind Is 3) found → IsFirst Is found
+pub first_3 : (Is : Breach → Type 0) (found : Option Breach) → IsFirst (IsOfKind Is 0) None → IsFirst (IsOfKind Is 1) None → IsFirst (IsOfKind Is 2) None
+    → IsFirst (IsOfKind Is 3) found → IsFirst Is found
 first_3 Is (Some found) no_0 no_1 no_2 (first is least) = first is.1 later
   where
     later : (other : Breach) → Is other → IsTrue (is_le (breach_cmp found other))

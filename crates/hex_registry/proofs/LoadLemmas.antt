@@ -48,12 +48,15 @@ in_keys keys (first ∷ names) name c =
         | inr more ↦ in_keys keys names name more
       ])
       | false ↦ (λ e. elim (contains_cases first name names c) [
-        | inl is ↦ Contains-append_right keys (first ∷ news (keys ++ first ∷ []) names) name (subst (λ (n : List ℕ). Contains (first ∷ news (keys ++ first ∷ []) names) n) is (here first (news (keys ++ first ∷ []) names)))
-        | inr more ↦ subst (λ (ks : List (List ℕ)). Contains ks name) (append_assoc keys (first ∷ []) (news (keys ++ first ∷ []) names)) (in_keys (keys ++ first ∷ []) names name more)
+        | inl is ↦ Contains-append_right keys (first ∷ news (keys ++ first ∷ []) names) name
+            (subst (λ (n : List ℕ). Contains (first ∷ news (keys ++ first ∷ []) names) n) is (here first (news (keys ++ first ∷ []) names)))
+        | inr more ↦ subst (λ (ks : List (List ℕ)). Contains ks name) (append_assoc keys (first ∷ []) (news (keys ++ first ∷ []) names))
+            (in_keys (keys ++ first ∷ []) names name more)
       ])
     ]) refl
 
-get_cases : (keys more : List (List ℕ)) (m : ℕ) (name : List ℕ) → slice_get (keys ++ more) m ≡ Some name → ((m < length keys) × Contains keys name) ⊎ ((length keys ≤ m) × Contains more name)
+get_cases : (keys more : List (List ℕ)) (m : ℕ) (name : List ℕ) → slice_get (keys ++ more) m ≡ Some name
+    → ((m < length keys) × Contains keys name) ⊎ ((length keys ≤ m) × Contains more name)
 get_cases [] more m name e = inr (omega arith, (m, slice_get_within more m name e, get_or_from_slice_get more m name name e))
 get_cases (k ∷ keys) more zero name e = let same : k ≡ name = cc in inl (omega arith, subst (λ (n : List ℕ). Contains (k ∷ keys) n) same (here k keys))
 get_cases (k ∷ keys) more (suc m) name e =
@@ -72,40 +75,47 @@ pub have_begun : (wants : Wants) (keys : List (List ℕ)) → keys ≡ insert_al
 have_begun wants keys is =
     record { named = is ∙ ap (insert_all bytes_eq []) (sym (append-nil (wanted_names wants))); taken = refl; first = ap length is }
 
-next_is : (wants : Wants) (shelves : List Shelf) (keys : List (List ℕ)) (wanted : ℕ) → HaveRead wants shelves keys wanted → next_name wants shelves ≡ slice_get keys (length shelves)
+next_is : (wants : Wants) (shelves : List Shelf) (keys : List (List ℕ)) (wanted : ℕ) → HaveRead wants shelves keys wanted
+    → next_name wants shelves ≡ slice_get keys (length shelves)
 next_is wants shelves keys wanted h =
     let keys_are : keys ≡ news [] (names_so_far wants shelves) = h.named ∙ inserted [] (names_so_far wants shelves) in
     ap (λ (ks : List (List ℕ)). find (λ (n : List ℕ). not (is_among n ks)) (names_so_far wants shelves)) (h.taken ∙ ap (take (length shelves)) keys_are)
     ∙ next_at [] (names_so_far wants shelves) (length shelves) (omega arith)
     ∙ ap (λ (ks : List (List ℕ)). slice_get ks (length shelves)) (sym keys_are)
 
-pub next_read : (wants : Wants) (shelves : List Shelf) (keys : List (List ℕ)) (wanted : ℕ) (name : List ℕ) → HaveRead wants shelves keys wanted → slice_get keys (length shelves) ≡ Some name → next_name wants shelves ≡ Some name
+pub next_read : (wants : Wants) (shelves : List Shelf) (keys : List (List ℕ)) (wanted : ℕ) (name : List ℕ) → HaveRead wants shelves keys wanted
+    → slice_get keys (length shelves) ≡ Some name → next_name wants shelves ≡ Some name
 next_read wants shelves keys wanted name h at = next_is wants shelves keys wanted h ∙ at
 
 -- only the first names are of wants
-pub is_wanted : (wants : Wants) (shelves : List Shelf) (keys : List (List ℕ)) (wanted : ℕ) (name : List ℕ) → HaveRead wants shelves keys wanted → slice_get keys (length shelves) ≡ Some name → nat_lt (length shelves) wanted ≡ is_among name (wanted_names wants)
+pub is_wanted : (wants : Wants) (shelves : List Shelf) (keys : List (List ℕ)) (wanted : ℕ) (name : List ℕ) → HaveRead wants shelves keys wanted
+    → slice_get keys (length shelves) ≡ Some name → nat_lt (length shelves) wanted ≡ is_among name (wanted_names wants)
 is_wanted wants shelves keys wanted name h at =
     let more = flat_map (λ (s : Shelf). named_by_stock wants.pinned s.stock) shelves in
     let front = insert_all bytes_eq [] (wanted_names wants) in
     let front_is : insert_all bytes_eq [] (wanted_names wants) ≡ news [] (wanted_names wants) = inserted [] (wanted_names wants) in
-    let parts : keys ≡ insert_all bytes_eq [] (wanted_names wants) ++ news (insert_all bytes_eq [] (wanted_names wants)) (flat_map (λ (s : Shelf). named_by_stock wants.pinned s.stock) shelves) =
+    let parts : keys ≡ insert_all bytes_eq [] (wanted_names wants) ++ news (insert_all bytes_eq [] (wanted_names wants))
+    (flat_map (λ (s : Shelf). named_by_stock wants.pinned s.stock) shelves) =
     h.named ∙ insert_both [] (wanted_names wants) (flat_map (λ (s : Shelf). named_by_stock wants.pinned s.stock) shelves)
     ∙ inserted (insert_all bytes_eq [] (wanted_names wants)) (flat_map (λ (s : Shelf). named_by_stock wants.pinned s.stock) shelves) in
     elim (get_cases front (news front more) (length shelves) name (subst (λ (ks : List (List ℕ)). slice_get ks (length shelves) ≡ Some name) parts at)) [
       | inl k ↦ (let less = k.0 in
           lt-ltb (length shelves) wanted (let w = h.first in omega (arith, less, w))
-          ∙ sym (contains_among name (wanted_names wants) (news_in [] (wanted_names wants) name (subst (λ (ks : List (List ℕ)). Contains ks name) front_is k.1))))
+          ∙ sym (contains_among name (wanted_names wants) (news_in [] (wanted_names wants) name
+          (subst (λ (ks : List (List ℕ)). Contains ks name) front_is k.1))))
       | inr k ↦ (let past = k.0 in
           le-ltb (length shelves) wanted (let w = h.first in omega (arith, past, w))
           ∙ sym (elim (cases_Bool (is_among name (wanted_names wants))) [
-            | inl having ↦ absurd (let own = contains_among name front (subst (λ (ks : List (List ℕ)). Contains ks name) (sym front_is) (in_keys [] (wanted_names wants) name (among_contains name (wanted_names wants) having))) in
+            | inl having ↦ absurd (let own = contains_among name front (subst (λ (ks : List (List ℕ)). Contains ks name) (sym front_is)
+                (in_keys [] (wanted_names wants) name (among_contains name (wanted_names wants) having))) in
                 let clash : true ≡ false = sym own ∙ news_apart front more name k.1 in cc)
             | inr lacking ↦ lacking
           ]))
     ]
 
 -- all was read
-pub all_read : (wants : Wants) (shelves : List Shelf) (keys : List (List ℕ)) (wanted : ℕ) → HaveRead wants shelves keys wanted → length keys ≤ length shelves → next_name wants shelves ≡ None
+pub all_read : (wants : Wants) (shelves : List Shelf) (keys : List (List ℕ)) (wanted : ℕ) → HaveRead wants shelves keys wanted → length keys ≤ length shelves
+    → next_name wants shelves ≡ None
 all_read wants shelves keys wanted h past = next_is wants shelves keys wanted h ∙ slice_get_past keys (length shelves) past
 
 take_whole : (m : ℕ) (keys : List (List ℕ)) → length keys ≤ m → take m keys ≡ keys
@@ -114,7 +124,8 @@ take_whole zero (k ∷ keys) l = absurd (omega (arith, l))
 take_whole (suc m) [] l = refl
 take_whole (suc m) (k ∷ keys) l = ap (λ (ks : List (List ℕ)). k ∷ ks) (take_whole m keys (omega (arith, l)))
 
-pub names_are : (wants : Wants) (shelves : List Shelf) (keys : List (List ℕ)) (wanted : ℕ) → HaveRead wants shelves keys wanted → length keys ≤ length shelves → keys ≡ shelf_names shelves
+pub names_are : (wants : Wants) (shelves : List Shelf) (keys : List (List ℕ)) (wanted : ℕ) → HaveRead wants shelves keys wanted → length keys ≤ length shelves
+    → keys ≡ shelf_names shelves
 names_are wants shelves keys wanted h past = sym (h.taken ∙ take_whole (length shelves) keys past)
 
 map_pushed : (shelves : List Shelf) (s : Shelf) → shelf_names (shelves ++ s ∷ []) ≡ shelf_names shelves ++ s.name ∷ []
@@ -126,15 +137,20 @@ take_next m [] more name e = absurd (cc)
 take_next zero (k ∷ keys) more name e = let same : k ≡ name = cc in ap (λ (n : List ℕ). n ∷ []) same
 take_next (suc m) (k ∷ keys) more name e = ap (λ (ks : List (List ℕ)). k ∷ ks) (take_next m keys more name e)
 
-pub reads_on : (wants : Wants) (shelves : List Shelf) (keys new : List (List ℕ)) (wanted : ℕ) (name : List ℕ) (stock : Option Stock) → HaveRead wants shelves keys wanted → slice_get keys (length shelves) ≡ Some name → new ≡ insert_all bytes_eq keys (named_by_stock wants.pinned stock) → HaveRead wants (shelves ++ shelf name stock ∷ []) new wanted
+pub reads_on : (wants : Wants) (shelves : List Shelf) (keys new : List (List ℕ)) (wanted : ℕ) (name : List ℕ) (stock : Option Stock)
+    → HaveRead wants shelves keys wanted → slice_get keys (length shelves) ≡ Some name → new ≡ insert_all bytes_eq keys (named_by_stock wants.pinned stock)
+    → HaveRead wants (shelves ++ shelf name stock ∷ []) new wanted
 reads_on wants shelves keys new wanted name stock h at is =
-    let long : length (shelves ++ shelf name stock ∷ []) ≡ suc (length shelves) = (let e = length-append shelves (shelf name stock ∷ []) in omega (arith, e)) in
+    let long : length (shelves ++ shelf name stock ∷ []) ≡ suc (length shelves) =
+    (let e = length-append shelves (shelf name stock ∷ []) in omega (arith, e)) in
     record {
       named = is ∙ ap (λ (ks : List (List ℕ)). insert_all bytes_eq ks (named_by_stock wants.pinned stock)) h.named
           ∙ sym (insert_both [] (names_so_far wants shelves) (named_by_stock wants.pinned stock))
-          ∙ ap (insert_all bytes_eq []) (append_assoc (wanted_names wants) (flat_map (λ (s : Shelf). named_by_stock wants.pinned s.stock) shelves) (named_by_stock wants.pinned stock)
+          ∙ ap (insert_all bytes_eq []) (append_assoc (wanted_names wants) (flat_map (λ (s : Shelf). named_by_stock wants.pinned s.stock) shelves)
+          (named_by_stock wants.pinned stock)
           ∙ ap (λ (ns : List (List ℕ)). wanted_names wants ++ ns)
-          (ap (λ (ns : List (List ℕ)). flat_map (λ (s : Shelf). named_by_stock wants.pinned s.stock) shelves ++ ns) (sym (append-nil (named_by_stock wants.pinned stock)))
+          (ap (λ (ns : List (List ℕ)). flat_map (λ (s : Shelf). named_by_stock wants.pinned s.stock) shelves ++ ns)
+          (sym (append-nil (named_by_stock wants.pinned stock)))
           ∙ sym (flat_map-append (λ (s : Shelf). named_by_stock wants.pinned s.stock) shelves (shelf name stock ∷ []))));
       taken = map_pushed shelves (shelf name stock) ∙ ap (λ (ks : List (List ℕ)). ks ++ name ∷ []) h.taken
           ∙ sym (take_next (length shelves) keys (news keys (named_by_stock wants.pinned stock)) name at)

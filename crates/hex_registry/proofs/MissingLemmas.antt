@@ -40,13 +40,14 @@ low_more names _ name (lowest {name = low} stands least) =
           | inr more ↦ absurd (contains_none other more)
         ]
       ]))
-      | false ↦ (λ e. lowest (Contains-append_right names (name ∷ []) name (here name [])) (λ other c. elim (Contains-append_cases names (name ∷ []) other c) [
-        | inl h ↦ le_then name low other (le_other low name e) (least other h)
-        | inr h ↦ elim (contains_cases name other [] h) [
-          | inl same ↦ subst (λ (n : List ℕ). is_le (text_cmp name n) ≡ true) same (le_itself name)
-          | inr more ↦ absurd (contains_none other more)
-        ]
-      ]))
+      | false ↦ (λ e. lowest (Contains-append_right names (name ∷ []) name (here name []))
+          (λ other c. elim (Contains-append_cases names (name ∷ []) other c) [
+            | inl h ↦ le_then name low other (le_other low name e) (least other h)
+            | inr h ↦ elim (contains_cases name other [] h) [
+              | inl same ↦ subst (λ (n : List ℕ). is_le (text_cmp name n) ≡ true) same (le_itself name)
+              | inr more ↦ absurd (contains_none other more)
+            ]
+          ]))
     ]) refl
 
 low_all : (before names : List (List ℕ)) (low : Option (List ℕ)) → IsLow before low → IsLow (before ++ names) (least_with low names)
@@ -63,7 +64,8 @@ pub record IsMissing (shelves : List Shelf) (wants : Wants) (pick : List Picked)
   pub asked : IsAsked shelves wants pick name
   pub lacks : has_package pick name ≡ false
 
-pub missing_of : (shelves : List Shelf) (wants : Wants) (pick : List Picked) (name : List ℕ) → Contains (missing_names shelves wants pick) name → IsMissing shelves wants pick name
+pub missing_of : (shelves : List Shelf) (wants : Wants) (pick : List Picked) (name : List ℕ) → Contains (missing_names shelves wants pick) name
+    → IsMissing shelves wants pick name
 missing_of shelves wants pick name c =
     elim (Contains-append_cases (missing_wants pick wants.wants) (flat_map (λ (by : Picked). missing_demands pick (demands_at shelves wants by)) pick) name c) [
       | inl h ↦ (let k = mapped_of (λ (want : Want). want.«package») (filter (misses_want pick) wants.wants) name h in
@@ -79,22 +81,28 @@ missing_of shelves wants pick name c =
           (record { asked = demanded j.x k.x j.stands f.0 (not-true k.x.optional both.0); lacks = not-true (has_package pick k.x.«package») both.1 }))
     ]
 
-pub in_missing : (shelves : List Shelf) (wants : Wants) (pick : List Picked) (name : List ℕ) → IsAsked shelves wants pick name → has_package pick name ≡ false → Contains (missing_names shelves wants pick) name
+pub in_missing : (shelves : List Shelf) (wants : Wants) (pick : List Picked) (name : List ℕ) → IsAsked shelves wants pick name → has_package pick name ≡ false
+    → Contains (missing_names shelves wants pick) name
 in_missing shelves wants pick _ (wanted want c required) lacking =
     Contains-append_left (missing_wants pick wants.wants) (flat_map (λ (by : Picked). missing_demands pick (demands_at shelves wants by)) pick) want.«package»
     (in_mapped (λ (w : Want). w.«package») (filter (misses_want pick) wants.wants) want
-    (in_filtered (misses_want pick) wants.wants want c (and_from (not want.optional) (not (has_package pick want.«package»)) (ap not required) (ap not lacking))))
+    (in_filtered (misses_want pick) wants.wants want c (and_from (not want.optional) (not (has_package pick want.«package»)) (ap not required)
+    (ap not lacking))))
 in_missing shelves wants pick _ (demanded by demand c d required) lacking =
-    Contains-append_right (missing_wants pick wants.wants) (flat_map (λ (q : Picked). missing_demands pick (demands_at shelves wants q)) pick) demand.«package»
+    Contains-append_right (missing_wants pick wants.wants) (flat_map (λ (q : Picked). missing_demands pick (demands_at shelves wants q)) pick)
+    demand.«package»
     (in_joined (λ (q : Picked). missing_demands pick (demands_at shelves wants q)) pick by demand.«package» c
     (in_mapped (λ (w : Demand). w.«package») (filter (misses_demand pick) (demands_at shelves wants by)) demand
-    (in_filtered (misses_demand pick) (demands_at shelves wants by) demand d (and_from (not demand.optional) (not (has_package pick demand.«package»)) (ap not required) (ap not lacking)))))
+    (in_filtered (misses_demand pick) (demands_at shelves wants by) demand d (and_from (not demand.optional) (not (has_package pick demand.«package»))
+    (ap not required) (ap not lacking)))))
 
-first_low : (shelves : List Shelf) (wants : Wants) (pick : List Picked) (low : Option (List ℕ)) → IsLow (missing_names shelves wants pick) low → IsFirst (IsOfKind (IsBreach shelves wants pick) 0) (option_map NotPicked low)
+first_low : (shelves : List Shelf) (wants : Wants) (pick : List Picked) (low : Option (List ℕ)) → IsLow (missing_names shelves wants pick) low
+    → IsFirst (IsOfKind (IsBreach shelves wants pick) 0) (option_map NotPicked low)
 first_low shelves wants pick _ (nothing empty) = none never
   where
     never : (breach : Breach) → IsOfKind (IsBreach shelves wants pick) 0 breach → ⊥
-    never (NotPicked name) (kind, not_picked asked lacking) = contains_none name (subst (λ (ns : List (List ℕ)). Contains ns name) empty (in_missing shelves wants pick name asked lacking))
+    never (NotPicked name) (kind, not_picked asked lacking) = contains_none name
+        (subst (λ (ns : List (List ℕ)). Contains ns name) empty (in_missing shelves wants pick name asked lacking))
     never (NotCandidate name) (kind, is) = omega (arith, kind)
     never (Unmet name by) (kind, is) = omega (arith, kind)
     never (Unreached name) (kind, is) = omega (arith, kind)
@@ -107,25 +115,33 @@ first_low shelves wants pick _ (lowest {name = low} stands least) =
     after (Unmet name by) (kind, is) = absurd (omega (arith, kind))
     after (Unreached name) (kind, is) = absurd (omega (arith, kind))
 
-pub first_missing : (shelves : List Shelf) (wants : Wants) (pick : List Picked) (low : Option (List ℕ)) → low ≡ least_with None (missing_names shelves wants pick) → IsFirst (IsOfKind (IsBreach shelves wants pick) 0) (option_map NotPicked low)
-first_missing shelves wants pick low is = first_low shelves wants pick low (subst (λ (o : Option (List ℕ)). IsLow (missing_names shelves wants pick) o) (sym is) (low_of (missing_names shelves wants pick)))
+pub first_missing : (shelves : List Shelf) (wants : Wants) (pick : List Picked) (low : Option (List ℕ))
+    → low ≡ least_with None (missing_names shelves wants pick) → IsFirst (IsOfKind (IsBreach shelves wants pick) 0) (option_map NotPicked low)
+first_missing shelves wants pick low is =
+    first_low shelves wants pick low (subst (λ (o : Option (List ℕ)). IsLow (missing_names shelves wants pick) o) (sym is)
+    (low_of (missing_names shelves wants pick)))
 
-pub first_not_candidate : (shelves : List Shelf) (wants : Wants) (pick : List Picked) (picked : Picked) → ArePicks pick → find (λ (q : Picked). not (is_candidate shelves q)) pick ≡ Some picked → IsFirst (IsOfKind (IsBreach shelves wants pick) 1) (Some (NotCandidate picked.0))
+pub first_not_candidate : (shelves : List Shelf) (wants : Wants) (pick : List Picked) (picked : Picked) → ArePicks pick
+    → find (λ (q : Picked). not (is_candidate shelves q)) pick ≡ Some picked
+    → IsFirst (IsOfKind (IsBreach shelves wants pick) 1) (Some (NotCandidate picked.0))
 first_not_candidate shelves wants pick picked in_order found =
     (let f = find_some (λ (q : Picked). not (is_candidate shelves q)) pick picked found in
     first (refl, not_candidate picked f.0 (not-true (is_candidate shelves picked) f.1)) after)
   where
     after : (other : Breach) → IsOfKind (IsBreach shelves wants pick) 1 other → IsTrue (is_le (breach_cmp (NotCandidate picked.0) other))
-    after (NotCandidate name) (kind, not_candidate other c lacking) = first_of (λ (q : Picked). not (is_candidate shelves q)) pick picked other in_order found c (ap not lacking)
+    after (NotCandidate name) (kind, not_candidate other c lacking) = first_of (λ (q : Picked). not (is_candidate shelves q)) pick picked other in_order found
+        c (ap not lacking)
     after (NotPicked name) (kind, is) = absurd (omega (arith, kind))
     after (Unmet name by) (kind, is) = absurd (omega (arith, kind))
     after (Unreached name) (kind, is) = absurd (omega (arith, kind))
 
-pub no_not_candidate : (shelves : List Shelf) (wants : Wants) (pick : List Picked) → find (λ (q : Picked). not (is_candidate shelves q)) pick ≡ None → IsFirst (IsOfKind (IsBreach shelves wants pick) 1) None
+pub no_not_candidate : (shelves : List Shelf) (wants : Wants) (pick : List Picked) → find (λ (q : Picked). not (is_candidate shelves q)) pick ≡ None
+    → IsFirst (IsOfKind (IsBreach shelves wants pick) 1) None
 no_not_candidate shelves wants pick found = none never
   where
     never : (breach : Breach) → IsOfKind (IsBreach shelves wants pick) 1 breach → ⊥
-    never (NotCandidate name) (kind, not_candidate other c lacking) = let k : not (is_candidate shelves other) ≡ false = find_none (λ (q : Picked). not (is_candidate shelves q)) pick other found c in let clash : true ≡ false = sym (ap not lacking) ∙ k in cc
+    never (NotCandidate name) (kind, not_candidate other c lacking) = let k : not (is_candidate shelves other) ≡ false = find_none
+        (λ (q : Picked). not (is_candidate shelves q)) pick other found c in let clash : true ≡ false = sym (ap not lacking) ∙ k in cc
     never (NotPicked name) (kind, is) = omega (arith, kind)
     never (Unmet name by) (kind, is) = omega (arith, kind)
     never (Unreached name) (kind, is) = omega (arith, kind)

@@ -45,7 +45,8 @@ le_other a b h = at (text_cmp a b) refl h
     at Greater e l = ap is_le (nat_list_cmp_total.antisymm b a ∙ ap ordering_reverse e)
 
 -- the packages that stand after a name
-pub before_each : (name : List ℕ) (pick : List Picked) (q : Picked) → IsBefore name (map (λ (p : Picked). p.0) pick) → Contains pick q → text_cmp name q.0 ≡ Less
+pub before_each : (name : List ℕ) (pick : List Picked) (q : Picked) → IsBefore name (map (λ (p : Picked). p.0) pick) → Contains pick q
+    → text_cmp name q.0 ≡ Less
 before_each name [] q b c = absurd (contains_none q c)
 before_each name (first ∷ rest) q b c =
     elim (contains_cases first q rest c) [
@@ -75,7 +76,8 @@ one_place (first ∷ rest) name one other o c d =
     ]
 
 -- the first pick that passes a test is of the least package of those that do
-pub first_of : (t : Picked → Bool) (pick : List Picked) (q other : Picked) → ArePicks pick → find t pick ≡ Some q → Contains pick other → t other ≡ true → is_le (text_cmp q.0 other.0) ≡ true
+pub first_of : (t : Picked → Bool) (pick : List Picked) (q other : Picked) → ArePicks pick → find t pick ≡ Some q → Contains pick other → t other ≡ true
+    → is_le (text_cmp q.0 other.0) ≡ true
 first_of t [] q other o e c h = absurd (contains_none other c)
 first_of t (first ∷ rest) q other o e c h =
     (elim (t first) as (λ b. t first ≡ b → cond b (Some first) (find t rest) ≡ Some q → is_le (text_cmp q.0 other.0) ≡ true) [
@@ -91,7 +93,8 @@ first_of t (first ∷ rest) q other o e c h =
     ]) refl e
 
 -- of two places the lesser has the lesser package
-pub in_order_at : (pick : List Picked) (i : ℕ) (one other : Picked) → ArePicks pick → i < length pick → get_or pick i one ≡ one → (c : Contains pick other) → i ≤ c.0 → is_le (text_cmp one.0 other.0) ≡ true
+pub in_order_at : (pick : List Picked) (i : ℕ) (one other : Picked) → ArePicks pick → i < length pick → get_or pick i one ≡ one → (c : Contains pick other)
+    → i ≤ c.0 → is_le (text_cmp one.0 other.0) ≡ true
 in_order_at [] i one other o l e c h = absurd (contains_none other c)
 in_order_at (first ∷ rest) zero one other o l e c h =
     elim (contains_cases first other rest c) [
@@ -99,4 +102,5 @@ in_order_at (first ∷ rest) zero one other o l e c h =
       | inr more ↦ subst (λ (p : Picked). is_le (text_cmp p.0 other.0) ≡ true) e (ap is_le (before_each first.0 rest other o.0 more))
     ]
 in_order_at (first ∷ rest) (suc i) one other o l e (zero, below, is) h = absurd (omega (arith, h))
-in_order_at (first ∷ rest) (suc i) one other o l e (suc k, below, is) h = in_order_at rest i one other o.1 (omega (arith, l)) e (k, omega (arith, below), is) (omega (arith, h))
+in_order_at (first ∷ rest) (suc i) one other o l e (suc k, below, is) h =
+    in_order_at rest i one other o.1 (omega (arith, l)) e (k, omega (arith, below), is) (omega (arith, h))

@@ -25,37 +25,55 @@ pub no_requirement : (repository : List ℕ) (d : Dependency) → SaysRequiremen
 no_requirement repository d none = λ demand is. none demand.requirement is.requirement
 
 -- where one of two lists has an element that relates to none, they don't relate
-zip_breaks : {A B : Type 0} (R : A → B → Type 0) (xs : List A) (ys : List B) (i : ℕ) (x : A) → i < length xs → get_or xs i x ≡ x → ((y : B) → R x y → ⊥) → AllZip R xs ys → ⊥
+zip_breaks : {A B : Type 0} (R : A → B → Type 0) (xs : List A) (ys : List B) (i : ℕ) (x : A) → i < length xs → get_or xs i x ≡ x → ((y : B) → R x y → ⊥)
+    → AllZip R xs ys → ⊥
 zip_breaks R [] ys i x below at never zip = omega (arith, below)
 zip_breaks R (x' ∷ xs) [] i x below at never zip = zip
 zip_breaks R (x' ∷ xs) (y ∷ ys) zero x below at never zip = never y (subst (λ z. R z y) at zip.0)
 zip_breaks R (x' ∷ xs) (y ∷ ys) (suc i) x below at never zip = zip_breaks R xs ys i x (omega (arith, below)) at never zip.1
 
 -- one more element on each side
-zip_more : {A B : Type 0} (R : A → B → Type 0) (xs : List A) (ys : List B) (i : ℕ) (x : A) (y : B) → AllZip R (take i xs) ys → i < length xs → get_or xs i x ≡ x → R x y → AllZip R (take (suc i) xs) (ys ++ y ∷ [])
+zip_more : {A B : Type 0} (R : A → B → Type 0) (xs : List A) (ys : List B) (i : ℕ) (x : A) (y : B) → AllZip R (take i xs) ys → i < length xs
+    → get_or xs i x ≡ x → R x y → AllZip R (take (suc i) xs) (ys ++ y ∷ [])
 zip_more R [] ys i x y zip below at r = absurd (omega (arith, below))
 zip_more R (z ∷ xs) [] zero x y zip below at r = (subst (λ w. R w y) (sym at) r, tt)
 zip_more R (z ∷ xs) (w ∷ ys) zero x y zip below at r = absurd zip
 zip_more R (z ∷ xs) [] (suc i) x y zip below at r = absurd zip
 zip_more R (z ∷ xs) (w ∷ ys) (suc i) x y zip below at r = (zip.0, zip_more R xs ys i x y zip.1 (omega (arith, below)) at r)
 
-pub zip_next : {A B : Type 0} (R : A → B → Type 0) (xs : List A) (ys : List B) (i : ℕ) (x : A) (y : B) → AllZip R (take i xs) ys → i < length xs → get_or xs i x ≡ x → R x y → AllZip R (take (i + 1) xs) (ys ++ y ∷ [])
+pub zip_next : {A B : Type 0} (R : A → B → Type 0) (xs : List A) (ys : List B) (i : ℕ) (x : A) (y : B) → AllZip R (take i xs) ys → i < length xs
+    → get_or xs i x ≡ x → R x y → AllZip R (take (i + 1) xs) (ys ++ y ∷ [])
 zip_next R xs ys i x y zip below at r = rw add-one (zip_more R xs ys i x y zip below at r)
 
-pub no_demands : (repository : List ℕ) (dependencies : List Dependency) (i : ℕ) (d : Dependency) → i < length dependencies → get_or dependencies i d ≡ d → SaysDemand repository d None → SaysDemands repository dependencies None
+pub no_demands : (repository : List ℕ) (dependencies : List Dependency) (i : ℕ) (d : Dependency) → i < length dependencies → get_or dependencies i d ≡ d
+    → SaysDemand repository d None → SaysDemands repository dependencies None
 no_demands repository dependencies i d below at none = λ demands are. zip_breaks (IsDemand repository) dependencies demands i d below at none are
 
 -- the first release whose version is none
-versions_so_far : (repository : List ℕ) (releases : List Release) (offers : List Offer) → AreOffers repository releases offers → All (λ earlier. (version : Version) × IsVersion earlier.version version) releases
+versions_so_far : (repository : List ℕ) (releases : List Release) (offers : List Offer) → AreOffers repository releases offers
+    → All (λ earlier. (version : Version) × IsVersion earlier.version version) releases
 versions_so_far repository [] offers are = λ k d below. absurd (omega (arith, below))
 versions_so_far repository (r ∷ releases) [] are = absurd are
-versions_so_far repository (r ∷ releases) (o ∷ offers) are = All-cons (λ earlier. (version : Version) × IsVersion earlier.version version) r releases (o.version, are.0.version) (versions_so_far repository releases offers are.1)
+versions_so_far repository (r ∷ releases) (o ∷ offers) are =
+    All-cons (λ earlier. (version : Version) × IsVersion earlier.version version) r releases (o.version, are.0.version)
+    (versions_so_far repository releases offers are.1)
 
-split_at : (releases : List Release) (i : ℕ) (r : Release) → i < length releases → get_or releases i r ≡ r → releases ≡ take i releases ++ r ∷ drop (suc i) releases
+split_at : (releases : List Release) (i : ℕ) (r : Release) → i < length releases → get_or releases i r ≡ r
+    → releases ≡ take i releases ++ r ∷ drop (suc i) releases
 split_at [] i r below at = absurd (omega (arith, below))
 split_at (x ∷ xs) zero r below at = ap (λ (z : Release). z ∷ xs) at
 split_at (x ∷ xs) (suc i) r below at = ap (λ (zs : List Release). x ∷ zs) (split_at xs i r (omega (arith, below)) at)
 
-pub first_bad : (repository : List ℕ) (releases : List Release) (offers : List Offer) (i : ℕ) (r : Release) → AreOffers repository (take i releases) offers → i < length releases → get_or releases i r ≡ r → IsNoVersion r.version → IsFirstBadVersion releases r.version
+pub first_bad : (repository : List ℕ) (releases : List Release) (offers : List Offer) (i : ℕ) (r : Release) → AreOffers repository (take i releases) offers
+    → i < length releases → get_or releases i r ≡ r → IsNoVersion r.version → IsFirstBadVersion releases r.version
 first_bad repository releases offers i r are below at none =
-    record { before = take i releases; release = r; after = drop (suc i) releases; split = split_at releases i r below at; versions = versions_so_far repository (take i releases) offers are; none = none; text_is = refl }
+    record {
+      before = take i releases;
+      release = r;
+      after = drop (suc i) releases;
+      split = split_at releases i r below at;
+      versions = versions_so_far
+          repository (take i releases) offers are;
+      none = none;
+      text_is = refl;
+    }

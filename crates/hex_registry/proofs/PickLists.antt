@@ -32,14 +32,16 @@ pub has_none : (pick : List Picked) (name : List ℕ) (place : ℕ) → has_pack
 has_none pick name place h c = let k : true ≡ false = sym (has_from pick (name, place) c) ∙ h in cc
 
 -- picks in order with the same releases are one
-tail_of : (x y : Picked) (xs ys : List Picked) → x ≡ y → IsBefore x.0 (map (λ (p : Picked). p.0) xs) → ((z : Picked) → Contains (x ∷ xs) z → Contains (y ∷ ys) z) → (z : Picked) → Contains xs z → Contains ys z
+tail_of : (x y : Picked) (xs ys : List Picked) → x ≡ y → IsBefore x.0 (map (λ (p : Picked). p.0) xs)
+    → ((z : Picked) → Contains (x ∷ xs) z → Contains (y ∷ ys) z) → (z : Picked) → Contains xs z → Contains ys z
 tail_of x y xs ys same before kept z has =
     elim (contains_cases y z ys (kept z (there x z xs has))) [
       | inl first ↦ absurd (not_before_itself x.0 (ap (λ (r : Picked). text_cmp x.0 r.0) (same ∙ first) ∙ before_each x.0 xs z before has))
       | inr rest ↦ rest
     ]
 
-pub same_picks : (xs ys : List Picked) → ArePicks xs → ArePicks ys → ((z : Picked) → Contains xs z → Contains ys z) → ((z : Picked) → Contains ys z → Contains xs z) → xs ≡ ys
+pub same_picks : (xs ys : List Picked) → ArePicks xs → ArePicks ys → ((z : Picked) → Contains xs z → Contains ys z)
+    → ((z : Picked) → Contains ys z → Contains xs z) → xs ≡ ys
 same_picks [] [] o p to from = refl
 same_picks [] (y ∷ ys) o p to from = absurd (contains_none y (from y (here y ys)))
 same_picks (x ∷ xs) [] o p to from = absurd (contains_none x (to x (here x xs)))
@@ -56,7 +58,8 @@ same_picks (x ∷ xs) (y ∷ ys) o p to from =
     ap (λ (z : Picked). z ∷ xs) same ∙ ap (λ (zs : List Picked). y ∷ zs) rest
 
 -- one more decision: what it leaves where the first pick stands before, and where it doesn't
-decide_cases : (P : List Picked → Type 0) (first : Picked) (rest : List Picked) (p : Picked) → P (first ∷ with_picked rest p) → P (p ∷ first ∷ rest) → P (with_picked (first ∷ rest) p)
+decide_cases : (P : List Picked → Type 0) (first : Picked) (rest : List Picked) (p : Picked) → P (first ∷ with_picked rest p) → P (p ∷ first ∷ rest)
+    → P (with_picked (first ∷ rest) p)
 decide_cases P first rest p later now =
     elim (is_lt (text_cmp first.0 p.0)) as (λ b. P (cond b (first ∷ with_picked rest p) (p ∷ first ∷ rest))) [ true ↦ later | false ↦ now ]
 
@@ -115,7 +118,8 @@ decided_more (first ∷ rest) p q c =
     ])
     (there p q (first ∷ rest) c)
 
-before_decided : (name : List ℕ) (pick : List Picked) (p : Picked) → text_cmp name p.0 ≡ Less → IsBefore name (map (λ (q : Picked). q.0) pick) → IsBefore name (map (λ (q : Picked). q.0) (with_picked pick p))
+before_decided : (name : List ℕ) (pick : List Picked) (p : Picked) → text_cmp name p.0 ≡ Less → IsBefore name (map (λ (q : Picked). q.0) pick)
+    → IsBefore name (map (λ (q : Picked). q.0) (with_picked pick p))
 before_decided name [] p less b = (less, tt)
 before_decided name (first ∷ rest) p less b =
     decide_cases (λ (ps : List Picked). IsBefore name (map (λ (q : Picked). q.0) ps)) first rest p
@@ -155,11 +159,14 @@ insert_more : (first : Picked) (rest : List Picked) (n : ℕ) (p : Picked) → i
 insert_more first rest n p = let e : 1 + n ≡ suc n = omega arith in ap (λ (m : ℕ). insert (first ∷ rest) m p) e
 
 -- where a package is put
-pub inserted_is : (pick : List Picked) (p : Picked) → insert pick (position_or_len (λ (q : Picked). not (is_lt (text_cmp q.0 p.0))) pick) p ≡ with_picked pick p
+pub inserted_is : (pick : List Picked) (p : Picked)
+    → insert pick (position_or_len (λ (q : Picked). not (is_lt (text_cmp q.0 p.0))) pick) p ≡ with_picked pick p
 inserted_is [] p = refl
 inserted_is (first ∷ rest) p =
-    elim (is_lt (text_cmp first.0 p.0)) as (λ b. insert (first ∷ rest) (cond (not (not b)) (1 + position_or_len (λ (q : Picked). not (is_lt (text_cmp q.0 p.0))) rest) 0) p ≡ cond b (first ∷ with_picked rest p) (p ∷ first ∷ rest)) [
-      | true ↦ insert_more first rest (position_or_len (λ (q : Picked). not (is_lt (text_cmp q.0 p.0))) rest) p ∙ ap (λ (ps : List Picked). first ∷ ps) (inserted_is rest p)
+    elim (is_lt (text_cmp first.0 p.0)) as (λ b. insert (first ∷ rest) (cond (not (not b))
+    (1 + position_or_len (λ (q : Picked). not (is_lt (text_cmp q.0 p.0))) rest) 0) p ≡ cond b (first ∷ with_picked rest p) (p ∷ first ∷ rest)) [
+      | true ↦ insert_more first rest (position_or_len (λ (q : Picked). not (is_lt (text_cmp q.0 p.0))) rest) p ∙ ap (λ (ps : List Picked). first ∷ ps)
+          (inserted_is rest p)
       | false ↦ refl
     ]
 
@@ -173,7 +180,8 @@ added_stays pick p h = ap (λ (b : Bool). cond b pick (with_picked pick p)) h
 pub added_in_order : (pick : List Picked) (p : Picked) → ArePicks pick → has_package pick p.0 ≡ false → ArePicks (with_picked pick p)
 added_in_order = decided_in_order
 
-before_without : (name : List ℕ) (t : Picked → Bool) (pick : List Picked) → IsBefore name (map (λ (q : Picked). q.0) pick) → IsBefore name (map (λ (q : Picked). q.0) (filter t pick))
+before_without : (name : List ℕ) (t : Picked → Bool) (pick : List Picked) → IsBefore name (map (λ (q : Picked). q.0) pick)
+    → IsBefore name (map (λ (q : Picked). q.0) (filter t pick))
 before_without name t [] b = tt
 before_without name t (first ∷ rest) b =
     elim (t first) as (λ c. IsBefore name (map (λ (q : Picked). q.0) (cond c (first ∷ filter t rest) (filter t rest)))) [
@@ -195,7 +203,8 @@ without_in_order pick name o = filtered_in_order (λ (q : Picked). not (bytes_eq
 kept_whole : (t : Picked → Bool) (pick : List Picked) → ((q : Picked) → Contains pick q → t q ≡ true) → filter t pick ≡ pick
 kept_whole t [] f = refl
 kept_whole t (first ∷ rest) f =
-    ap (λ (c : Bool). cond c (first ∷ filter t rest) (filter t rest)) (f first (here first rest)) ∙ ap (λ (ps : List Picked). first ∷ ps) (kept_whole t rest (λ q c. f q (there first q rest c)))
+    ap (λ (c : Bool). cond c (first ∷ filter t rest) (filter t rest)) (f first (here first rest)) ∙ ap (λ (ps : List Picked). first ∷ ps)
+    (kept_whole t rest (λ q c. f q (there first q rest c)))
 
 taken_out : (t : Picked → Bool) (pick : List Picked) (p : Picked) → t p ≡ false → filter t (with_picked pick p) ≡ filter t pick
 taken_out t [] p e = ap (λ (c : Bool). cond c (p ∷ []) []) e

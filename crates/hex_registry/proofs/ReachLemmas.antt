@@ -32,7 +32,13 @@ at_place : (pick : List Picked) (name : List ℕ) (place : ℕ) → index_of pic
 at_place [] name place e = absurd (cc)
 at_place (p ∷ pick) name place e =
     let k = position-Some (λ (q : Picked). bytes_eq name q.0) (p ∷ pick) place p e in
-    record { picked = get_or (p ∷ pick) place p; within = k.0; at = slice_get-get_or (p ∷ pick) place p k.0; same = sym (same_bytes name (get_or (p ∷ pick) place p).0 k.1) }
+    record {
+      picked = get_or (p ∷ pick) place p;
+      within = k.0;
+      at = slice_get-get_or (p ∷ pick) place p k.0;
+      same = sym
+          (same_bytes name (get_or (p ∷ pick) place p).0 k.1);
+    }
 
 pub same_some : {A : Type 0} (o : Option A) (x y : A) → o ≡ Some x → o ≡ Some y → x ≡ y
 same_some o x y e f = let k : Some x ≡ Some y = sym e ∙ f in cc
@@ -85,9 +91,11 @@ start_of wants pick place c =
     let f = filtered_of (λ (want : Want). not want.optional) wants k.x k.stands in
     record { want = k.x; stands = f.0; required = not-true k.x.optional f.1; at = k.is }
 
-in_starts : (wants : List Want) (pick : List Picked) (want : Want) (place : ℕ) → Contains wants want → want.optional ≡ false → index_of pick want.«package» ≡ Some place → Contains (starts_of pick wants) place
+in_starts : (wants : List Want) (pick : List Picked) (want : Want) (place : ℕ) → Contains wants want → want.optional ≡ false
+    → index_of pick want.«package» ≡ Some place → Contains (starts_of pick wants) place
 in_starts wants pick want place c required at =
-    in_kept (λ (w : Want). index_of pick w.«package») (filter (λ (w : Want). not w.optional) wants) want place (in_filtered (λ (w : Want). not w.optional) wants want c (ap not required)) at
+    in_kept (λ (w : Want). index_of pick w.«package») (filter (λ (w : Want). not w.optional) wants) want place
+    (in_filtered (λ (w : Want). not w.optional) wants want c (ap not required)) at
 
 -- one of these demands requires the package at this place
 record IsLink (pick : List Picked) (demands : List Demand) (place : ℕ) : Type 0 where
@@ -102,9 +110,11 @@ link_of pick demands place c =
     let f = filtered_of (λ (demand : Demand). not demand.optional) demands k.x k.stands in
     record { demand = k.x; stands = f.0; required = not-true k.x.optional f.1; at = k.is }
 
-in_links : (pick : List Picked) (demands : List Demand) (demand : Demand) (place : ℕ) → Contains demands demand → demand.optional ≡ false → index_of pick demand.«package» ≡ Some place → Contains (links_of pick demands) place
+in_links : (pick : List Picked) (demands : List Demand) (demand : Demand) (place : ℕ) → Contains demands demand → demand.optional ≡ false
+    → index_of pick demand.«package» ≡ Some place → Contains (links_of pick demands) place
 in_links pick demands demand place c required at =
-    in_kept (λ (w : Demand). index_of pick w.«package») (filter (λ (w : Demand). not w.optional) demands) demand place (in_filtered (λ (w : Demand). not w.optional) demands demand c (ap not required)) at
+    in_kept (λ (w : Demand). index_of pick w.«package») (filter (λ (w : Demand). not w.optional) demands) demand place
+    (in_filtered (λ (w : Demand). not w.optional) demands demand c (ap not required)) at
 
 -- the places are within the pick
 pub starts_within : (wants : List Want) (pick : List Picked) → All (λ start. start < length pick) (starts_of pick wants)
@@ -122,8 +132,10 @@ graph_long shelves wants pick = length-map pick (λ (by : Picked). links_of pick
 
 pub needs_within : (shelves : List Shelf) (wants : Wants) (pick : List Picked) → NeedsAreWithin (graph_of shelves wants pick)
 needs_within shelves wants pick =
-    All-map (λ (needs : List ℕ). All (λ need. need < length (graph_of shelves wants pick)) needs) (λ (by : Picked). links_of pick (demands_at shelves wants by)) pick
-    (λ k d below. subst (λ (n : ℕ). All (λ need. need < n) (links_of pick (demands_at shelves wants (get_or pick k d)))) (sym (graph_long shelves wants pick)) (links_within pick (demands_at shelves wants (get_or pick k d))))
+    All-map (λ (needs : List ℕ). All (λ need. need < length (graph_of shelves wants pick)) needs)
+    (λ (by : Picked). links_of pick (demands_at shelves wants by)) pick
+    (λ k d below. subst (λ (n : ℕ). All (λ need. need < n) (links_of pick (demands_at shelves wants (get_or pick k d)))) (sym (graph_long shelves wants pick))
+    (links_within pick (demands_at shelves wants (get_or pick k d))))
 
 -- what a picked package leads to
 needs_at : (f : Picked → List ℕ) (pick : List Picked) (place : ℕ) (by : Picked) → slice_get pick place ≡ Some by → needs_of (map f pick) place ≡ f by
@@ -139,7 +151,9 @@ through_within links through need c =
     ]
 
 -- a place that is reached has a package that is
-pub reached_place : (shelves : List Shelf) (wants : Wants) (pick : List Picked) (place : ℕ) (picked : Picked) → IsReachedFrom (graph_of shelves wants pick) (starts_of pick wants.wants) place → slice_get pick place ≡ Some picked → IsReached shelves wants pick picked.0
+pub reached_place : (shelves : List Shelf) (wants : Wants) (pick : List Picked) (place : ℕ) (picked : Picked)
+    → IsReachedFrom (graph_of shelves wants pick) (starts_of pick wants.wants) place → slice_get pick place ≡ Some picked
+    → IsReached shelves wants pick picked.0
 reached_place shelves wants pick _ picked (Direct place c) at =
     let s = start_of wants.wants pick place c in
     let k = at_place pick s.want.«package» place s.at in
@@ -149,7 +163,8 @@ reached_place shelves wants pick _ picked (Further through need r c) at =
     let below = through_within (graph_of shelves wants pick) through need c in
     let long = graph_long shelves wants pick in
     let stands : slice_get pick through ≡ Some (get_or pick through picked) = slice_get-get_or pick through picked (omega (arith, below, long)) in
-    let here_is = subst (λ (ns : List ℕ). Contains ns need) (needs_at (λ (by : Picked). links_of pick (demands_at shelves wants by)) pick through (get_or pick through picked) stands) c in
+    let here_is = subst (λ (ns : List ℕ). Contains ns need) (needs_at (λ (by : Picked). links_of pick (demands_at shelves wants by)) pick through
+    (get_or pick through picked) stands) c in
     let l = link_of pick (demands_at shelves wants (get_or pick through picked)) need here_is in
     let k = at_place pick l.demand.«package» need l.at in
     let same : k.picked ≡ picked = same_some (slice_get pick need) k.picked picked k.at at in
@@ -158,19 +173,23 @@ reached_place shelves wants pick _ picked (Further through need r c) at =
     (reached_place shelves wants pick through (get_or pick through picked) r stands) l.stands l.required)
 
 -- the place of a package that is reached is reached
-pub place_reached : (shelves : List Shelf) (wants : Wants) (pick : List Picked) (place : ℕ) {name : List ℕ} → ArePicks pick → IsReached shelves wants pick name → index_of pick name ≡ Some place → IsReachedFrom (graph_of shelves wants pick) (starts_of pick wants.wants) place
+pub place_reached : (shelves : List Shelf) (wants : Wants) (pick : List Picked) (place : ℕ) {name : List ℕ} → ArePicks pick
+    → IsReached shelves wants pick name → index_of pick name ≡ Some place → IsReachedFrom (graph_of shelves wants pick) (starts_of pick wants.wants) place
 place_reached shelves wants pick place o (wanted want c required) at = Direct place (in_starts wants.wants pick want place c required at)
 place_reached shelves wants pick place o (demanded by demand c r d required) at =
     let t = position_one (λ (q : Picked). bytes_eq by.0 q.0) pick by c (bytes_itself by.0) in
     let k = at_place pick by.0 t.0 t.1 in
-    let stands : Contains pick (by.0, k.picked.1) = subst (λ (n : List ℕ). Contains pick (n, k.picked.1)) k.same (t.0, k.within, get_or_from_slice_get pick t.0 k.picked k.picked k.at) in
+    let stands : Contains pick (by.0, k.picked.1) = subst (λ (n : List ℕ). Contains pick (n, k.picked.1)) k.same
+    (t.0, k.within, get_or_from_slice_get pick t.0 k.picked k.picked k.at) in
     let own : by.1 ≡ k.picked.1 = one_place pick by.0 by.1 k.picked.1 o c stands in
     let is : k.picked ≡ by = ap (λ (n : List ℕ). (n, k.picked.1)) k.same ∙ ap (λ (m : ℕ). (by.0, m)) (sym own) in
     Further t.0 place (place_reached shelves wants pick t.0 o r t.1)
     (subst (λ (ns : List ℕ). Contains ns place) (sym (needs_at (λ (q : Picked). links_of pick (demands_at shelves wants q)) pick t.0 by (k.at ∙ ap Some is)))
     (in_links pick (demands_at shelves wants by) demand place d required at))
 
-pub starts_fit : (shelves : List Shelf) (wants : Wants) (pick : List Picked) (graph : List (List ℕ)) (starts : List ℕ) → graph ≡ graph_of shelves wants pick → starts ≡ starts_of pick wants.wants → All (λ start. start < length graph) starts
+pub starts_fit : (shelves : List Shelf) (wants : Wants) (pick : List Picked) (graph : List (List ℕ)) (starts : List ℕ) → graph ≡ graph_of shelves wants pick
+    → starts ≡ starts_of pick wants.wants → All (λ start. start < length graph) starts
 starts_fit shelves wants pick graph starts g s =
     subst (λ (ns : List ℕ). All (λ start. start < length graph) ns) (sym s)
-    (subst (λ (n : ℕ). All (λ start. start < n) (starts_of pick wants.wants)) (sym (ap length g ∙ graph_long shelves wants pick)) (starts_within wants.wants pick))
+    (subst (λ (n : ℕ). All (λ start. start < n) (starts_of pick wants.wants)) (sym (ap length g ∙ graph_long shelves wants pick))
+    (starts_within wants.wants pick))

@@ -23,7 +23,8 @@ at_mapped f t xs i e = at (nat_lt (position_or_len t (map f xs)) (length (map f 
 none_mapped : {A : Type 0} (f : A → List ℕ) (t : List ℕ → Bool) (xs : List A) → position t (map f xs) ≡ None → None ≡ find (λ x. t (f x)) xs
 none_mapped f t xs e = at (nat_lt (position_or_len t (map f xs)) (length (map f xs))) refl e
   where
-    at : (b : Bool) → nat_lt (position_or_len t (map f xs)) (length (map f xs)) ≡ b → cond b (Some (position_or_len t (map f xs))) None ≡ None → None ≡ find (λ x. t (f x)) xs
+    at : (b : Bool) → nat_lt (position_or_len t (map f xs)) (length (map f xs)) ≡ b → cond b (Some (position_or_len t (map f xs))) None ≡ None
+        → None ≡ find (λ x. t (f x)) xs
     at true is h = absurd (cc)
     at false is h =
         let past = ltb-false (position_or_len t (map f xs)) (length (map f xs)) is in
@@ -33,8 +34,12 @@ none_mapped f t xs e = at (nat_lt (position_or_len t (map f xs)) (length (map f 
         sym (find_at (λ x. t (f x)) xs ∙ slice_get_past xs (position_or_len (λ x. t (f x)) xs) over)
 
 -- the shelf at the place of a name
-pub shelf_at : (shelves : List Shelf) (keys : List (List ℕ)) (name : List ℕ) (i : ℕ) → keys ≡ shelf_names shelves → position (bytes_eq name) keys ≡ Some i → slice_get shelves i ≡ shelf_of shelves name
-shelf_at shelves keys name i named e = at_mapped (λ (s : Shelf). s.name) (bytes_eq name) shelves i (subst (λ (ks : List (List ℕ)). position (bytes_eq name) ks ≡ Some i) named e)
+pub shelf_at : (shelves : List Shelf) (keys : List (List ℕ)) (name : List ℕ) (i : ℕ) → keys ≡ shelf_names shelves → position (bytes_eq name) keys ≡ Some i
+    → slice_get shelves i ≡ shelf_of shelves name
+shelf_at shelves keys name i named e =
+    at_mapped (λ (s : Shelf). s.name) (bytes_eq name) shelves i (subst (λ (ks : List (List ℕ)). position (bytes_eq name) ks ≡ Some i) named e)
 
-pub no_shelf : (shelves : List Shelf) (keys : List (List ℕ)) (name : List ℕ) → keys ≡ shelf_names shelves → position (bytes_eq name) keys ≡ None → None ≡ shelf_of shelves name
-no_shelf shelves keys name named e = none_mapped (λ (s : Shelf). s.name) (bytes_eq name) shelves (subst (λ (ks : List (List ℕ)). position (bytes_eq name) ks ≡ None) named e)
+pub no_shelf : (shelves : List Shelf) (keys : List (List ℕ)) (name : List ℕ) → keys ≡ shelf_names shelves → position (bytes_eq name) keys ≡ None
+    → None ≡ shelf_of shelves name
+no_shelf shelves keys name named e =
+    none_mapped (λ (s : Shelf). s.name) (bytes_eq name) shelves (subst (λ (ks : List (List ℕ)). position (bytes_eq name) ks ≡ None) named e)

@@ -13,15 +13,22 @@ use Rattle.hex_registry.specs.Loaded.IsMessage.{faulty}
 use Rattle.hex_registry.specs.Refusals.{wire_refused, wire_refused_as}
 
 -- by its cause
-computes_as : (name bytes : List ℕ) (fault : WireError) (cause : WireCause) → fault.cause ≡ cause → IsFirstFault bytes fault → Computes {X = Package} blame_of (Err (wire_refused_as cause name fault)) (IsMessage name bytes)
+computes_as : (name bytes : List ℕ) (fault : WireError) (cause : WireCause) → fault.cause ≡ cause → IsFirstFault bytes fault
+    → Computes {X = Package} blame_of (Err (wire_refused_as cause name fault)) (IsMessage name bytes)
 computes_as name bytes fault OutOfMemory e is = record { answer = λ input. absurd (cc); alone = refl }
 computes_as name bytes fault BadKey e is = record { answer = λ input. faulty fault is (λ f. let k : BadKey ≡ OutOfMemory = sym e ∙ f in cc); alone = refl }
-computes_as name bytes fault BadVarint e is = record { answer = λ input. faulty fault is (λ f. let k : BadVarint ≡ OutOfMemory = sym e ∙ f in cc); alone = refl }
-computes_as name bytes fault Truncated e is = record { answer = λ input. faulty fault is (λ f. let k : Truncated ≡ OutOfMemory = sym e ∙ f in cc); alone = refl }
-computes_as name bytes fault (WrongWire field) e is = record { answer = λ input. faulty fault is (λ f. let k : WrongWire field ≡ OutOfMemory = sym e ∙ f in cc); alone = refl }
-computes_as name bytes fault (BadUtf8 field) e is = record { answer = λ input. faulty fault is (λ f. let k : BadUtf8 field ≡ OutOfMemory = sym e ∙ f in cc); alone = refl }
+computes_as name bytes fault BadVarint e is =
+    record { answer = λ input. faulty fault is (λ f. let k : BadVarint ≡ OutOfMemory = sym e ∙ f in cc); alone = refl }
+computes_as name bytes fault Truncated e is =
+    record { answer = λ input. faulty fault is (λ f. let k : Truncated ≡ OutOfMemory = sym e ∙ f in cc); alone = refl }
+computes_as name bytes fault (WrongWire field) e is =
+    record { answer = λ input. faulty fault is (λ f. let k : WrongWire field ≡ OutOfMemory = sym e ∙ f in cc); alone = refl }
+computes_as name bytes fault (BadUtf8 field) e is =
+    record { answer = λ input. faulty fault is (λ f. let k : BadUtf8 field ≡ OutOfMemory = sym e ∙ f in cc); alone = refl }
 computes_as name bytes fault BadEnum e is = record { answer = λ input. faulty fault is (λ f. let k : BadEnum ≡ OutOfMemory = sym e ∙ f in cc); alone = refl }
-computes_as name bytes fault (Missing field) e is = record { answer = λ input. faulty fault is (λ f. let k : Missing field ≡ OutOfMemory = sym e ∙ f in cc); alone = refl }
+computes_as name bytes fault (Missing field) e is =
+    record { answer = λ input. faulty fault is (λ f. let k : Missing field ≡ OutOfMemory = sym e ∙ f in cc); alone = refl }
 
-pub wire_computes : (name bytes : List ℕ) (fault : WireError) → IsFirstFault bytes fault → Computes {X = Package} blame_of (Err (wire_refused name fault)) (IsMessage name bytes)
+pub wire_computes : (name bytes : List ℕ) (fault : WireError) → IsFirstFault bytes fault
+    → Computes {X = Package} blame_of (Err (wire_refused name fault)) (IsMessage name bytes)
 wire_computes name bytes fault is = computes_as name bytes fault fault.cause refl is

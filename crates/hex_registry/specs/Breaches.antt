@@ -25,8 +25,10 @@ first_demand_against shelves wants pick picked =
 
 -- who states a requirement that a picked release doesn't meet: the first want, or where none does the first package
 pub data IsAgainst (shelves : List Shelf) (wants : Wants) (pick : List Picked) (picked : Picked) : By → Type 0 where
-  want : {index : ℕ} (offer : Offer) → offer_at shelves picked ≡ Some offer → first_want_against wants picked.0 offer ≡ Some index → IsAgainst shelves wants pick picked (Want index)
-  demand : (by : Picked) (offer : Offer) → offer_at shelves picked ≡ Some offer → first_want_against wants picked.0 offer ≡ None → first_demand_against shelves wants pick (picked.0, offer) ≡ Some by → IsAgainst shelves wants pick picked (Package by.0)
+  want : {index : ℕ} (offer : Offer) → offer_at shelves picked ≡ Some offer → first_want_against wants picked.0 offer ≡ Some index
+      → IsAgainst shelves wants pick picked (Want index)
+  demand : (by : Picked) (offer : Offer) → offer_at shelves picked ≡ Some offer → first_want_against wants picked.0 offer ≡ None
+      → first_demand_against shelves wants pick (picked.0, offer) ≡ Some by → IsAgainst shelves wants pick picked (Package by.0)
 
 abbrev pub SaysAgainst : List Shelf → Wants → List Picked → Picked → Option By → Type 0
 SaysAgainst shelves wants pick picked None = (by : By) → IsAgainst shelves wants pick picked by → ⊥

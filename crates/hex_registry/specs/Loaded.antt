@@ -58,8 +58,10 @@ pub data SaysOffers (name : List ℕ) (message : Package) : Result (List Offer) 
 pub data SaysMessage (name bytes : List ℕ) : Result Stock RegistryError → Type 0 where
   wire : (fault : WireError) → IsFirstFault bytes fault → fault.cause ≢ cause.OutOfMemory → SaysMessage name bytes (Err (Wire name fault))
   differs : (message : Package) → Stands bytes message → message.name ≢ name → SaysMessage name bytes (Err (NameDiffers name message.name))
-  version : (message : Package) {text : List ℕ} → Stands bytes message → message.name ≡ name → IsFirstBadVersion message.releases text → SaysMessage name bytes (Err (BadVersion name text))
-  read : {stock : Stock} → Stands bytes stock.message → stock.message.name ≡ name → AreOffers stock.message.repository stock.message.releases stock.offers → SaysMessage name bytes (Ok stock)
+  version : (message : Package) {text : List ℕ} → Stands bytes message → message.name ≡ name → IsFirstBadVersion message.releases text
+      → SaysMessage name bytes (Err (BadVersion name text))
+  read : {stock : Stock} → Stands bytes stock.message → stock.message.name ≡ name → AreOffers stock.message.repository stock.message.releases stock.offers
+      → SaysMessage name bytes (Ok stock)
 
 -- what a registry has under a name, whose file has these bytes. Only a package that wants name must have a file
 pub data SaysStock (wanted : Bool) (name : List ℕ) : Option (List ℕ) → Result (Option Stock) RegistryError → Type 0 where
@@ -97,9 +99,11 @@ shelf name stock = record { name = name; stock = stock }
 -- shelves in the order of reading: each package is the first that wants and the packages before it name
 pub data AreShelves (files : List File) (wants : Wants) : List Shelf → Type 0 where
   none : AreShelves files wants []
-  next : {shelves : List Shelf} {name : List ℕ} {stock : Option Stock} → AreShelves files wants shelves → next_name wants shelves ≡ Some name → SaysPackage files wants name (Ok stock) → AreShelves files wants (shelves ++ shelf name stock ∷ [])
+  next : {shelves : List Shelf} {name : List ℕ} {stock : Option Stock} → AreShelves files wants shelves → next_name wants shelves ≡ Some name
+      → SaysPackage files wants name (Ok stock) → AreShelves files wants (shelves ++ shelf name stock ∷ [])
 
 -- what is loaded for the wants, or why the first package that is refused is
 pub data IsLoaded (files : List File) (wants : Wants) : Result (List Shelf) RegistryError → Type 0 where
   whole : {shelves : List Shelf} → AreShelves files wants shelves → next_name wants shelves ≡ None → IsLoaded files wants (Ok shelves)
-  refused : (shelves : List Shelf) (name : List ℕ) {error : RegistryError} → AreShelves files wants shelves → next_name wants shelves ≡ Some name → SaysPackage files wants name (Err error) → IsLoaded files wants (Err error)
+  refused : (shelves : List Shelf) (name : List ℕ) {error : RegistryError} → AreShelves files wants shelves → next_name wants shelves ≡ Some name
+      → SaysPackage files wants name (Err error) → IsLoaded files wants (Err error)

@@ -68,12 +68,14 @@ is_candidate shelves picked = is_usable_in (offer_at shelves picked)
 -- a want, or a release that is picked, requires the package
 pub data IsAsked (shelves : List Shelf) (wants : Wants) (pick : List Picked) : List ℕ → Type 0 where
   wanted : (want : Want) → Contains wants.wants want → want.optional ≡ false → IsAsked shelves wants pick want.«package»
-  demanded : (by : Picked) (demand : Demand) → Contains pick by → Contains (demands_at shelves wants by) demand → demand.optional ≡ false → IsAsked shelves wants pick demand.«package»
+  demanded : (by : Picked) (demand : Demand) → Contains pick by → Contains (demands_at shelves wants by) demand → demand.optional ≡ false
+      → IsAsked shelves wants pick demand.«package»
 
 -- a package is reached from required wants by required dependencies of picked releases
 pub data IsReached (shelves : List Shelf) (wants : Wants) (pick : List Picked) : List ℕ → Type 0 where
   wanted : (want : Want) → Contains wants.wants want → want.optional ≡ false → IsReached shelves wants pick want.«package»
-  demanded : (by : Picked) (demand : Demand) → Contains pick by → IsReached shelves wants pick by.0 → Contains (demands_at shelves wants by) demand → demand.optional ≡ false → IsReached shelves wants pick demand.«package»
+  demanded : (by : Picked) (demand : Demand) → Contains pick by → IsReached shelves wants pick by.0 → Contains (demands_at shelves wants by) demand
+      → demand.optional ≡ false → IsReached shelves wants pick demand.«package»
 
 -- with one more release, in byte order of packages
 abbrev pub with_picked : List Picked → Picked → List Picked

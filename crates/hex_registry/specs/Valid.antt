@@ -16,7 +16,9 @@ pub record IsValid (shelves : List Shelf) (wants : Wants) (pick : List Picked) :
   pub whole : (name : List ℕ) → IsAsked shelves wants pick name → IsTrue (has_package pick name)
   pub candidates : (picked : Picked) → Contains pick picked → IsTrue (is_candidate shelves picked)
   -- each requirement in force on a picked package is met
-  pub wants_met : (want : Want) (picked : Picked) (offer : Offer) → Contains wants.wants want → Contains pick picked → picked.0 ≡ want.«package» → offer_at shelves picked ≡ Some offer → IsTrue (want_takes offer want)
-  pub demands_met : (by picked : Picked) (demand : Demand) (offer : Offer) → Contains pick by → Contains (demands_at shelves wants by) demand → Contains pick picked → picked.0 ≡ demand.«package» → offer_at shelves picked ≡ Some offer → IsTrue (demand_takes wants.overridden offer demand)
+  pub wants_met : (want : Want) (picked : Picked) (offer : Offer) → Contains wants.wants want → Contains pick picked → picked.0 ≡ want.«package»
+      → offer_at shelves picked ≡ Some offer → IsTrue (want_takes offer want)
+  pub demands_met : (by picked : Picked) (demand : Demand) (offer : Offer) → Contains pick by → Contains (demands_at shelves wants by) demand
+      → Contains pick picked → picked.0 ≡ demand.«package» → offer_at shelves picked ≡ Some offer → IsTrue (demand_takes wants.overridden offer demand)
   -- and nothing else is
   pub reached : (picked : Picked) → Contains pick picked → IsReached shelves wants pick picked.0

@@ -31,8 +31,8 @@ impl Registry {
         name: &AppName,
         locked: Option<&Text>,
     ) -> Result<Vec<u64>, AllocError>
-        ensures { IfOk result (λ places.
-            AreCandidatesOf (stock_of self.now name.now) (option_copied locked.entry) places.items) }
+        ensures { IfOk result (λ places. AreCandidatesOf (stock_of self.now name.now)
+            (option_copied locked.entry) places.items) }
     {
         match self.stock(name) {
             Some(stock) => stock.candidates(alloc, locked),

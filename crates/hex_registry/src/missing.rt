@@ -42,7 +42,8 @@ pub fn first_missing<'a>(
     wants: &'a Wants,
     pick: &Pick,
 ) -> Option<&'a AppName>
-    ensures { option_copied result ≡ least_with None (missing_names registry.now wants.now pick.now) }
+    ensures { option_copied result
+        ≡ least_with None (missing_names registry.now wants.now pick.now) }
 {
     let mut least = least_wanted(wants.wants.as_slice(), pick);
     for by in pick.as_slice() {

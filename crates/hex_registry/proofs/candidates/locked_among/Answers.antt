@@ -8,5 +8,6 @@ use Rattle.hex_registry.proofs.candidates.locked_among.Goals as goal
 pub returns : goal.returns
 returns c =
     position_from_yields_List (is_locked c.args.text.now) c.position.new.self _ c.position.result c.position.ensures.ran
-    (YieldsList-from_zip (YieldsList-at c.zip.ensures.first (YieldsList-from_slice c.args.releases.now c.iter.ensures.rest)) (YieldsList-at c.zip.ensures.second (YieldsList-from_slice c.args.offers.now c.iter-2.ensures.rest)))
+    (YieldsList-from_zip (YieldsList-at c.zip.ensures.first (YieldsList-from_slice c.args.releases.now c.iter.ensures.rest))
+    (YieldsList-at c.zip.ensures.second (YieldsList-from_slice c.args.offers.now c.iter-2.ensures.rest)))
     (λ x b q k. search (rules, tests))

@@ -6,7 +6,8 @@ use Rattle.hex_registry.proofs.loading.stock_of.Goals as goal
 pub returns-in_err-stock_of_message-in-Some : goal.returns-in_err-stock_of_message-in-Some
 returns-in_err-stock_of_message-in-Some c =
     let p = err_from_is_err_and c.from_residual.result c.from_residual.ensures.1 in
-    rw (p.1, p.2) (stock_refused c.args.wanted c.args.name.now c.args.bytes c.as_slice.result.now _ (c.in-Some.is ∙ ap Some (sym c.as_slice.ensures)) c.in_err-stock_of_message-in-Some.ensures)
+    rw (p.1, p.2) (stock_refused c.args.wanted c.args.name.now c.args.bytes c.as_slice.result.now _
+    (c.in-Some.is ∙ ap Some (sym c.as_slice.ensures)) c.in_err-stock_of_message-in-Some.ensures)
 
 pub returns-in_ok-stock_of_message-in-Some : goal.returns-in_ok-stock_of_message-in-Some
 returns-in_ok-stock_of_message-in-Some c =

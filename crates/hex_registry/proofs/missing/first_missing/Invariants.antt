@@ -5,4 +5,5 @@ use Rattle.hex_registry.proofs.missing.first_missing.Given as goal
 
 abbrev pub invariant-loop-by : goal.invariant-loop-by
 invariant-loop-by l =
-    least_with (option_copied l.least) (flat_map (λ by. missing_demands l.pick (demands_at l.registry l.wants by)) (drop l.by-index l.by-items)) ≡ least_with None (missing_names l.registry l.wants l.pick)
+    least_with (option_copied l.least) (flat_map (λ by. missing_demands l.pick (demands_at l.registry l.wants by)) (drop l.by-index l.by-items)) ≡ least_with
+    None (missing_names l.registry l.wants l.pick)

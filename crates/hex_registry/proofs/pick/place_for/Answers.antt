@@ -6,4 +6,5 @@ use Rattle.hex_registry.proofs.PickPlaces.{place_past}
 use Rattle.hex_registry.proofs.pick.place_for.Goals as goal
 
 pub returns-in-None-clause-place : goal.returns-in-None-clause-place
-returns-in-None-clause-place c = place_past (λ (q : Picked). not (is_lt (text_cmp q.0 c.args.name.now))) c.args.picks.now (sym c.first_from.ensures ∙ c.in-None.is)
+returns-in-None-clause-place c =
+    place_past (λ (q : Picked). not (is_lt (text_cmp q.0 c.args.name.now))) c.args.picks.now (sym c.first_from.ensures ∙ c.in-None.is)

@@ -11,9 +11,12 @@ first_gap-requires-clause-within c =
 
 pub returns-in-Some-clause-first : goal.returns-in-Some-clause-first
 returns-in-Some-clause-first c =
-    subst (λ (b : Breach). IsFirst (IsOfKind (IsBreach c.args.registry.now c.args.wants.now c.args.pick.now) 3) (Some b)) (sym c.in_ok-unreached-in-Some.ensures)
-    (gap_answers c.args.registry.now c.args.wants.now c.args.pick.now c.in_ok-reached.reached.items c.deref.result.now c.as_slice.result.now c.as_slice-in-Some.result.now
-    c.in-Some.place c.index-as_slice-place.result c.as_slice.ensures.in_order c.in_ok-reached.ensures c.deref.ensures.value c.as_slice.ensures.value c.as_slice-in-Some.ensures.value
+    subst (λ (b : Breach). IsFirst (IsOfKind (IsBreach c.args.registry.now c.args.wants.now c.args.pick.now) 3) (Some b))
+    (sym c.in_ok-unreached-in-Some.ensures)
+    (gap_answers c.args.registry.now c.args.wants.now c.args.pick.now c.in_ok-reached.reached.items c.deref.result.now c.as_slice.result.now
+    c.as_slice-in-Some.result.now
+    c.in-Some.place c.index-as_slice-place.result c.as_slice.ensures.in_order c.in_ok-reached.ensures c.deref.ensures.value c.as_slice.ensures.value
+    c.as_slice-in-Some.ensures.value
     (sym c.index-as_slice-place.is) c.in-Some.ensures.gap)
 
 pub returns-clause-first : goal.returns-clause-first
@@ -22,7 +25,8 @@ returns-clause-first c =
     c.in_ok-reached.ensures c.deref.ensures.value c.as_slice.ensures.value c.in-None.ensures.none
 
 pub returns-clause-whole : goal.returns-clause-whole
-returns-clause-whole c =
-    (c.as_slice.ensures.in_order,
-    all_answered c.args.registry.now c.args.wants.now c.args.pick.now c.in_ok-reached.reached.items c.deref.result.now c.as_slice.result.now
-    c.in_ok-reached.ensures c.deref.ensures.value c.as_slice.ensures.value c.in-None.ensures.none)
+returns-clause-whole c = (
+  c.as_slice.ensures.in_order,
+  all_answered c.args.registry.now c.args.wants.now c.args.pick.now c.in_ok-reached.reached.items c.deref.result.now c.as_slice.result.now
+      c.in_ok-reached.ensures c.deref.ensures.value c.as_slice.ensures.value c.in-None.ensures.none,
+)

@@ -5,4 +5,5 @@ use Rattle.hex_registry.proofs.reach.links.Given as goal
 
 abbrev pub invariant-loop-by : goal.invariant-loop-by
 invariant-loop-by l =
-    l.links.items ++ map (λ by. links_of l.pick (demands_at l.registry l.wants by)) (drop l.by-index l.by-items) ≡ map (λ by. links_of l.pick (demands_at l.registry l.wants by)) l.by-items
+    l.links.items ++ map (λ by. links_of l.pick (demands_at l.registry l.wants by)) (drop l.by-index l.by-items) ≡ map
+    (λ by. links_of l.pick (demands_at l.registry l.wants by)) l.by-items

@@ -12,5 +12,7 @@ returns-in-Some-first_want_against c =
 
 pub returns-in_ok-by_package-in-Some-first_demand_against : goal.returns-in_ok-by_package-in-Some-first_demand_against
 returns-in_ok-by_package-in-Some-first_demand_against c =
-    subst (λ (b : By). IsAgainst c.args.registry.now c.args.wants.now c.args.pick.now c.args.picked.now b) (sym c.in_ok-by_package-in-Some-first_demand_against.ensures)
-    (demand c.in-Some-first_demand_against.by.now c.in-Some.offer.now (sym c.offer.ensures ∙ ap option_copied c.in-Some.is) (search rules) (sym c.first_demand_against.ensures ∙ ap option_copied c.in-Some-first_demand_against.is))
+    subst (λ (b : By). IsAgainst c.args.registry.now c.args.wants.now c.args.pick.now c.args.picked.now b)
+    (sym c.in_ok-by_package-in-Some-first_demand_against.ensures)
+    (demand c.in-Some-first_demand_against.by.now c.in-Some.offer.now (sym c.offer.ensures ∙ ap option_copied c.in-Some.is) (search rules)
+    (sym c.first_demand_against.ensures ∙ ap option_copied c.in-Some-first_demand_against.is))

@@ -6,4 +6,5 @@ use Rattle.hex_registry.proofs.unmet.demands_refuse.Given as goal
 
 abbrev pub invariant-loop-demand : goal.invariant-loop-demand
 invariant-loop-demand l =
-    list_any (demand_refuses l.wants.overridden l.name l.offer) (without_apps l.wants.pinned (drop l.demand-index l.demands)) ≡ list_any (demand_refuses l.wants.overridden l.name l.offer) (without_apps l.wants.pinned l.demands)
+    list_any (demand_refuses l.wants.overridden l.name l.offer) (without_apps l.wants.pinned (drop l.demand-index l.demands)) ≡ list_any
+    (demand_refuses l.wants.overridden l.name l.offer) (without_apps l.wants.pinned l.demands)
