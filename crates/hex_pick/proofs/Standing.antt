@@ -98,4 +98,3 @@ later_parts {problem} _ _ _ other (on {pick = pick} {frames = frames} {later = l
       | inr h ↦ preferred_on pick other (with_picked pick (name, place)) (later_parts pick frames later other rest h)
           (goes (child_in problem pick name place next (contains_get (problem.candidates name) at place is) agreed) stays)
     ]
-

@@ -29,12 +29,7 @@ pub fn pick(alloc: Global, registry: &Registry, wants: &Wants) -> Result<Pick, P
 }
 
 // The same, with so many nodes at most before the pick.
-fn search(
-    alloc: Global,
-    registry: &Registry,
-    wants: &Wants,
-    limit: u64,
-) -> Result<Pick, PickError>
+fn search(alloc: Global, registry: &Registry, wants: &Wants, limit: u64) -> Result<Pick, PickError>
     requires { limit + 1 < 2 ^ 64 }
     ensures { Answers blame_of result (SaysPick registry.now wants.now limit) }
 {

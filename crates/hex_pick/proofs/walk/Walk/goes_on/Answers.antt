@@ -10,7 +10,7 @@ pub returns-in-Some : goal.returns-in-Some
 returns-in-Some c = (
   c.in_ok-decides.ensures.count ∙ ap (λ (n : ℕ). n + 1) c.back.invariant.count,
   λ candidates tried. has_decided (problem_of c.args.registry.now c.args.wants.now candidates) c.back.self c.decides.new.self c.back.step c.in-Some.at (c.back.invariant.stands candidates tried) c.in-Some.ensures.found
-  c.in_ok-decides.ensures.pick c.in_ok-decides.ensures.steps c.in_ok-decides.ensures.count c.in_ok-decides.ensures.dead,
+      c.in_ok-decides.ensures.pick c.in_ok-decides.ensures.steps c.in_ok-decides.ensures.count c.in_ok-decides.ensures.dead,
 )
 
 pub back-preserved : goal.back-preserved
