@@ -12,7 +12,7 @@ use compile_model::{Fate, Meaning, Outcome, Twin};
 use dep_order::Graph;
 use mix_report::trace;
 use mx_base::{Bytes, Files, Shared};
-use partition_core::{BackCause, Core, Event, Illegal, IllegalCause, Next};
+use partition_core::{BackCause, Core, Event, Illegal};
 use std::alloc::Global;
 
 /// Partitions whose outcomes may be any.
@@ -162,29 +162,16 @@ fn push_answer(out: &mut String, answer: Result<(), Illegal>) -> Result<(), Faul
     }
 }
 
-fn push_next(out: &mut String, core: &mut Core<Anything>, numbers: &[u32]) -> Result<(), Fault> {
+fn push_next(out: &mut String, core: &Core<Anything>, numbers: &[u32]) -> Result<(), Fault> {
     let [by] = numbers else {
         return Err(Fault::Form);
     };
-    let next = next_of(core, *by).ok_or(Fault::Form)?;
+    if !core.is_free(*by) {
+        return say(out, " taken;");
+    }
+    let next = core.next(*by);
     write!(out, " {next:?};")?;
     Ok(())
-}
-
-/// What a partition does next, where it is free. It is exactly where an event that is legal nowhere has one of these
-/// causes.
-fn next_of(core: &mut Core<Anything>, by: u32) -> Option<Next> {
-    let nowhere = Event::Skip {
-        place: 0,
-        need: u32::MAX,
-        by,
-    };
-    match core.step(nowhere, None) {
-        Err(Illegal {
-            cause: IllegalCause::Settled | IllegalCause::Running | IllegalCause::WrongNeed,
-        }) => Some(core.next(by)),
-        _ => None,
-    }
 }
 
 fn push_fates(out: &mut String, core: &Core<Anything>) -> Result<(), Fault> {

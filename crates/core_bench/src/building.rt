@@ -5,7 +5,7 @@ ghost use Rattle.compile_model.specs.Planned.{ArePlanned};
 
 use compile_model::{Meaning, Outcome, Plan};
 use mx_base::{Bytes, Files, Shared};
-use partition_core::{Core, Event, Illegal, IllegalCause, Next};
+use partition_core::{Core, Event, Next};
 use std::alloc::{AllocError, Global};
 use std::collections::VecDeque;
 
@@ -65,7 +65,13 @@ pub(crate) fn built(
 fn begun(alloc: Global, plan: Shared<Plan>) -> Result<Core<Anything>, AllocError>
     requires { ArePlanned plan.jobs }
 {
-    let kept = plan.get().jobs.as_slice().iter().map(|_job| None).collect(alloc)?;
+    let kept = plan
+        .get()
+        .jobs
+        .as_slice()
+        .iter()
+        .map(|_job| None)
+        .collect(alloc)?;
     Core::begin(alloc, plan, kept, PARTITIONS)
 }
 
@@ -75,13 +81,24 @@ fn start(core: &mut Core<Anything>, crew: &mut Crew) -> Result<(), AllocError> {
         let Some(by) = crew.free.pop() else {
             return Ok(());
         };
-        let Some(Next::Start(place)) = next_of(core, by) else {
-            return crew.free.push(by);
+        let Some(place) = begin_next(core, by) else {
+            return Ok(crew.free.push(by)?);
         };
-        let _ = core.step(Event::Start { place, by }, None);
         crew.running.push_back((place, by))?;
     }
     Ok(())
+}
+
+/// The place that a partition begins, if there is one.
+fn begin_next(core: &mut Core<Anything>, by: u32) -> Option<u32> {
+    if !core.is_free(by) {
+        return None;
+    }
+    let Next::Start(place) = core.next(by) else {
+        return None;
+    };
+    let _ = core.step(Event::Start { place, by }, None);
+    Some(place)
 }
 
 /// Finishes the place that was begun first.
@@ -99,21 +116,5 @@ fn finish(
         outcome: outcome.clone()?,
     };
     let _ = core.step(event, Some(outcome.clone()?));
-    crew.free.push(by)
-}
-
-/// What a partition does next, where it is free. It is exactly where an event that is legal nowhere has one of these
-/// causes.
-fn next_of(core: &mut Core<Anything>, by: u32) -> Option<Next> {
-    let nowhere = Event::Skip {
-        place: 0,
-        need: u32::MAX,
-        by,
-    };
-    match core.step(nowhere, None) {
-        Err(Illegal {
-            cause: IllegalCause::Settled | IllegalCause::Running | IllegalCause::WrongNeed,
-        }) => Some(core.next(by)),
-        _ => None,
-    }
+    Ok(crew.free.push(by)?)
 }
