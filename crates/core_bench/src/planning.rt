@@ -20,32 +20,29 @@ pub(crate) fn plan_of(alloc: Global, places: u32) -> Result<Plan, AllocError>
     plan(alloc, &mut store, &env).or(Err(AllocError))
 }
 
-/// The root lists all apps, and each app but the first three lists these three.
+/// The root lists all apps: the first three lie in the folder `a`, and all others in `b`, which lists these three.
 fn project(alloc: Global, places: u32) -> Result<Contents, AllocError> {
     let mut files = Contents::new(alloc);
-    put_manifest(alloc, &mut files, "", "", places)?;
-    for place in 0..places {
-        let folder = format!(in alloc; "p{place}/")?;
-        let needs = if place < 3 { 0 } else { 3 };
-        put_manifest(alloc, &mut files, folder.as_str(), "../", needs)?;
-    }
+    put_manifest(alloc, &mut files, b"project.exs", "", places)?;
+    put_manifest(alloc, &mut files, b"a/project.exs", "../", 0)?;
+    put_manifest(alloc, &mut files, b"b/project.exs", "../", 3)?;
     Ok(files)
 }
 
-/// Puts the manifest that lists the first apps into a folder, from which `up` leads to theirs.
+/// Puts the manifest that lists so many apps, from whose folder `up` leads to the root.
 fn put_manifest(
     alloc: Global,
     files: &mut Contents,
-    folder: &str,
+    path: &[u8],
     up: &str,
-    needs: u32,
+    apps: u32,
 ) -> Result<(), AllocError> {
-    let path = format!(in alloc; "{folder}project.exs")?;
     let mut text = String::from_str(alloc, "[app: :p, version: \"1.0.0\", deps: [")?;
-    for need in 0..needs {
-        write!(text, "{{:p{need}, path: \"{up}p{need}\"}},")?;
+    for app in 0..apps {
+        let folder = if app < 3 { "a" } else { "b" };
+        write!(text, "{{:p{app}, path: \"{up}{folder}\"}},")?;
     }
     text.push_str("]]")?;
-    let path = RelPath::join(alloc, &RelPath::root(alloc), path.as_bytes()).or(Err(AllocError))?;
+    let path = RelPath::join(alloc, &RelPath::root(alloc), path).or(Err(AllocError))?;
     files.put(path, Bytes::from_vec(text.into_bytes()))
 }
