@@ -57,20 +57,27 @@ refuse_ends compile env error old new deaths status text first reads (untold qui
 
 module _ (compile : Content → Outcome) (law : (content : Content) → AreInOrder (compile content).files) (env : List ℕ) (jobs : List Job) (fates fates' : List Fate) (planned : ArePlanned jobs) (fs : fates' ≡ fates) (is : fates ≡ seq compile jobs) where
   -- emptied, and then filled
-  pub built_tree : (old mid new : BuildKey → Slot) → ClearsEnv env old mid → ((q : BuildKey) → new q ≡ filled_by env q jobs fates' (mid q)) → LeavesTree env jobs (seq compile jobs) old new
+  pub built_tree : (old mid new : BuildKey → Slot) → ClearsEnv env old mid → ((q : BuildKey) → new q ≡ filled_by env q jobs fates' (mid q)) →
+      LeavesTree env jobs (seq compile jobs) old new
   built_tree old mid new clears fills =
       leaves_tree env jobs (seq compile jobs) old mid new (planned_differ jobs planned) (seq_in_order compile law jobs) clears
       (λ q. fills q ∙ ap (λ (x : List Fate). filled_by env q jobs x (mid q)) (fs ∙ is))
 
   -- emptied, and then filled until an error
-  pub built_partly : (old mid new : BuildKey → Slot) → ClearsEnv env old mid → BeginsEnv env jobs fates' mid new → FillsPartly env jobs (seq compile jobs) old new
+  pub built_partly : (old mid new : BuildKey → Slot) → ClearsEnv env old mid → BeginsEnv env jobs fates' mid new →
+      FillsPartly env jobs (seq compile jobs) old new
   built_partly old mid new clears begins =
       let begun : BeginsEnv env jobs (seq compile jobs) mid new =
       subst (λ (x : List Fate). BeginsEnv env jobs x mid new) (fs ∙ is) begins in
-      cleared_filled env jobs (seq compile jobs) old mid new clears (begun (planned_differ jobs planned) (seq_in_order compile law jobs) (cleared_empty env old mid clears))
+      cleared_filled env jobs (seq compile jobs) old mid new clears
+      (begun (planned_differ jobs planned) (seq_in_order compile law jobs) (cleared_empty env old mid clears))
 
   -- how it ends from the compiled jobs on
-  pub finish_ends : (result : Result Answer Stop) (old mid new : Known) (deaths after : ℕ) → ClearsEnv env old.slot mid.slot → mid.faults ≡ old.faults → mid.returned ≡ old.returned → after ≡ deaths → IfOk result (λ answer. answer.status ≡ status_by fates') → IfOk result (λ answer. answer.text.items ≡ report jobs fates') → OnOk result ((q : BuildKey) → new.slot q ≡ filled_by env q jobs fates' (mid.slot q)) → Fails result mid new → Builds compile env jobs (site_of old deaths) (site_of new after) (status_in result) (text_in result)
+  pub finish_ends : (result : Result Answer Stop) (old mid new : Known) (deaths after : ℕ) →
+      ClearsEnv env old.slot mid.slot → mid.faults ≡ old.faults → mid.returned ≡ old.returned → after ≡ deaths →
+      IfOk result (λ answer. answer.status ≡ status_by fates') → IfOk result (λ answer. answer.text.items ≡ report jobs fates') →
+      OnOk result ((q : BuildKey) → new.slot q ≡ filled_by env q jobs fates' (mid.slot q)) → Fails result mid new →
+      Builds compile env jobs (site_of old deaths) (site_of new after) (status_in result) (text_in result)
   finish_ends (Ok answer) old mid new deaths after clears faults returned died status text filled fails =
       built (record {
         tree = built_tree old.slot mid.slot new.slot clears filled;
