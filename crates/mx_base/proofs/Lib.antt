@@ -1,4 +1,5 @@
 pub mod BlameLemmas
+pub mod BuildNameLemmas
 pub mod FolderLemmas
 pub mod ListingLemmas
 pub mod NameLemmas

@@ -41,7 +41,7 @@ name_with_ending (b ∷ bs) ending is inside =
     ap (λ (t : Bool). not (false || (t && bytes_eq (bs ++ ending) [])) && not (t && bytes_eq (bs ++ ending) (46 ∷ [])) && not (list_any is_outside ((b ∷ bs) ++ ending))) dot ∙ ap not clean
 
 -- past the first place it does not matter where a byte stands
-later_place : (k byte : ℕ) → fits_at (suc k) byte ≡ fits_at 1 byte
+pub later_place : (k byte : ℕ) → fits_at (suc k) byte ≡ fits_at 1 byte
 later_place k byte = ap (λ (t : Bool). byte == 95 || (nat_le 97 byte && nat_le byte 122) || (nat_le 65 byte && nat_le byte 90) || (t && nat_le 48 byte && nat_le byte 57)) (lt-ltb 0 (suc k) (omega arith))
 
 all_later : (text : List ℕ) → ((k : ℕ) → k < length text → IsTrue (fits_at 1 (slice_index text k))) → list_all (fits_at 1) text ≡ true

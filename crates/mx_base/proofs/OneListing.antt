@@ -14,12 +14,12 @@ use Rattle.mx_base.specs.Path.{is_outside, is_path, is_segment, is_slash}
 use Rattle.mx_base.proofs.PathLemmas.{is_clean, clean_segment}
 
 -- the byte doesn't stand in the text
-abbrev IsFree : ℕ → List ℕ → Type 0
+abbrev pub IsFree : ℕ → List ℕ → Type 0
 IsFree c [] = Unit {0}
 IsFree c (b ∷ bs) = (b ≡ c → ⊥) × IsFree c bs
 
 -- two texts that end at the first such byte are one
-split_free : (c : ℕ) (a b x y : List ℕ) → IsFree c a → IsFree c b → a ++ c ∷ x ≡ b ++ c ∷ y → (a ≡ b) × (x ≡ y)
+pub split_free : (c : ℕ) (a b x y : List ℕ) → IsFree c a → IsFree c b → a ++ c ∷ x ≡ b ++ c ∷ y → (a ≡ b) × (x ≡ y)
 split_free c [] [] x y p q e = (refl, cc)
 split_free c [] (b ∷ bs) x y p q e = let is : b ≡ c = cc in absurd (q.0 is)
 split_free c (a ∷ as') [] x y p q e = let is : a ≡ c = cc in absurd (p.0 is)
@@ -28,7 +28,7 @@ split_free c (a ∷ as') (b ∷ bs) x y p q e =
     let same = split_free c as' bs x y p.1 q.1 rest in
     let first : a ≡ b = cc in (cc (first, same.0), same.1)
 
-split_long : (a b x y : List ℕ) → length a ≡ length b → a ++ x ≡ b ++ y → (a ≡ b) × (x ≡ y)
+pub split_long : (a b x y : List ℕ) → length a ≡ length b → a ++ x ≡ b ++ y → (a ≡ b) × (x ≡ y)
 split_long [] [] x y long e = (refl, e)
 split_long [] (b ∷ bs) x y long e = cc
 split_long (a ∷ as') [] x y long e = cc

@@ -1,5 +1,6 @@
 pub mod AppName
 pub mod Blame
+pub mod BuildName
 pub mod Causes
 pub mod Digest
 pub mod Join

@@ -1,6 +1,7 @@
 //! The small types that every crate of the project shares.
 #![tactic(auto)]
 
+mod build;
 mod bytes;
 mod count;
 mod decimal;
@@ -24,6 +25,7 @@ mod text;
 mod utf8;
 mod variable;
 
+pub use build::{HOST, build_name, different_builds};
 pub use bytes::Bytes;
 pub use count::Count;
 pub use decimal::push_decimal;
