@@ -4,6 +4,7 @@ ghost use Rattle.std.specs.List.{All, AllPairs};
 ghost use Rattle.mx_base.specs.Blame.{AnswersBy, fails, is_outside};
 ghost use Rattle.mx_base.specs.Blame.Blame.{Input};
 ghost use Rattle.dep_order.specs.Graph.{needs_of};
+ghost use Rattle.converger.specs.Reach.{admits};
 ghost use Rattle.build_plan.specs.Blame.{blame_of};
 ghost use Rattle.build_plan.specs.Needs.{apps_of, graph_of, is_child_at, node_of, needs_from};
 ghost use Rattle.build_plan.specs.Stages.{OrdersGraph};
@@ -121,12 +122,19 @@ fn need_of(rows: &Rows, target: &AppName, places: &[u32], row: &Row) -> Option<(
         needs_from rows.now.rows target.now places.now (row.now ∷ [])
         (slice_index places.now node) ≡ (if node == need.0 then need.1 ∷ [] else [])) }
 {
-    if !admits(&row.decl.targets, target.as_str()) {
+    if !is_meant(row, target) {
         return None;
     }
     let node = declarer(places, row)?;
     let need = node_of(rows, places, row)?;
     Some((node, need))
+}
+
+/// Whether a row is for the target.
+fn is_meant(row: &Row, target: &AppName) -> bool
+    ensures { result ≡ admits row.now.decl.targets target.now }
+{
+    admits(&row.decl.targets, target.as_str())
 }
 
 /// Which of these winners declares a row.
