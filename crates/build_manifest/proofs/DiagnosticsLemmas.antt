@@ -22,7 +22,8 @@ glue_end : (byte : ℕ) (front : List ℕ) → glue (byte ∷ front) [] ≡ (byt
 glue_end byte [] = refl
 glue_end byte (b ∷ bs) = ap (onto_line byte) (glue_end b bs)
 
-lines_from : (byte : ℕ) (bytes : List ℕ) (is : Bool) → (byte == 10) ≡ is → lines_of (byte ∷ bytes) ≡ cond is ((byte ∷ []) ∷ lines_of bytes) (onto_line byte (lines_of bytes))
+lines_from : (byte : ℕ) (bytes : List ℕ) (is : Bool) → (byte == 10) ≡ is
+    → lines_of (byte ∷ bytes) ≡ cond is ((byte ∷ []) ∷ lines_of bytes) (onto_line byte (lines_of bytes))
 lines_from byte bytes is e = ap (λ (b : Bool). cond b ((byte ∷ []) ∷ lines_of bytes) (onto_line byte (lines_of bytes))) e
 
 module _ (text : List ℕ) (start at : ℕ) (low : start ≤ at) (below : at < length text) where

@@ -9,12 +9,10 @@ use Rattle.mx_base.specs.AppName.{IsAppName, fits_at}
 use Rattle.mx_base.specs.Path.{is_outside, is_path, is_refused, is_segment, is_slash}
 use Rattle.mx_base.proofs.PathLemmas.{both, clean_segment, is_clean}
 use Rattle.reading.specs.Field.{TellsItsEnd}
+use Rattle.build_manifest.specs.Fields.{ended}
 use Rattle.reading.proofs.Lists.{GoesFurther, one_goes_further, same_head}
 
 -- ---- what has no newline ends where one stands
-
-abbrev pub ended : List ℕ → List ℕ
-ended text = text ++ 10 ∷ []
 
 abbrev pub HasNoBreak : List ℕ → Type 0
 HasNoBreak text = (front more : List ℕ) → text ≡ front ++ 10 ∷ more → ⊥
@@ -58,7 +56,7 @@ not_true : (b : Bool) → not b ≡ true → b ≡ false
 not_true true e = cc
 not_true false e = refl
 
-from_onto : (b : ℕ) (parts : List (List ℕ)) → list_all is_clean (onto_first b parts) ≡ true → (is_outside b ≡ false) × (list_all is_clean parts ≡ true)
+pub from_onto : (b : ℕ) (parts : List (List ℕ)) → list_all is_clean (onto_first b parts) ≡ true → (is_outside b ≡ false) × (list_all is_clean parts ≡ true)
 from_onto b [] e = ((either (is_outside b) false (not_true (is_outside b || false) (both (not (is_outside b || false)) true e).0)).0, refl)
 from_onto b (part ∷ parts) e =
     let first = both (not (is_outside b || list_any is_outside part)) (list_all is_clean parts) e in
@@ -82,7 +80,7 @@ none_refused (b ∷ bs) e = at (is_slash b) refl (none_refused bs) e
         let parts = from_onto b (slice_split is_slash bs) all in
         or_false (is_refused b) (list_any is_refused bs) (either (is_slash b) (is_refused b) parts.0).1 (rest parts.1)
 
-clean_all : (names : List (List ℕ)) → list_all is_segment names ≡ true → list_all is_clean names ≡ true
+pub clean_all : (names : List (List ℕ)) → list_all is_segment names ≡ true → list_all is_clean names ≡ true
 clean_all [] e = refl
 clean_all (name ∷ names) e =
     let parts = both (is_segment name) (list_all is_segment names) e in

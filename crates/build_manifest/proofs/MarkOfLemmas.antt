@@ -1,6 +1,6 @@
 -- Rows and needs in turn make a mark.
-use Rattle.std.proofs.Common.{◌≡◌, ◌≢◌, ℕ, suc, zero, ◌<◌, Bool, true, false, List, [], ◌∷◌, ◌++◌, length, map, drop, get_or, ◌+◌, refl, sym, ◌∙◌, ap, subst, arith}
-use Rattle.std.specs.List.{All, AllByRecursion, AllPairs}
+use Rattle.std.proofs.Common.{◌≡◌, ℕ, suc, zero, ◌<◌, Bool, true, false, List, [], ◌∷◌, ◌++◌, length, map, drop, get_or, ◌+◌, refl, sym, ◌∙◌, ap, subst, arith}
+use Rattle.std.specs.List.{All, AllByRecursion}
 use Rattle.std.specs.declared.cmp.Ordering.TheVariants.{Less}
 use Rattle.std.proofs.Math.Seq.{drop-length}
 use Rattle.std.proofs.lemmas.List.{drop_more, length-map}
@@ -67,7 +67,8 @@ LineSound leads line = LeadFits leads line.0 × IsMarkRow line.1
 abbrev row_in : Line → FileRow
 row_in line = line.1
 
-line_fits : (leads : Bool) (before : List Line) (line : Line) → LineSound leads line → AllByRecursion (λ earlier. Rises earlier line) before → LineFits leads before line
+line_fits : (leads : Bool) (before : List Line) (line : Line) → LineSound leads line → AllByRecursion (λ earlier. Rises earlier line) before
+    → LineFits leads before line
 line_fits leads before line sound order = record { lead = sound.0; row = sound.1; order = order }
 
 mark_row : (row : FileRow) → IsRow row → IsMarkRow row
@@ -81,11 +82,11 @@ lines_rise : (lines : List Line) → ArePathsInOrder (row_paths (map row_in line
 lines_rise [] order = tt
 lines_rise (l ∷ lines) order = (rises_from l lines order.0, lines_rise lines order.1)
 
-rows_in_plain : (rows : List FileRow) → map row_in (plain rows) ≡ rows
+pub rows_in_plain : (rows : List FileRow) → map row_in (plain rows) ≡ rows
 rows_in_plain [] = refl
 rows_in_plain (r ∷ rows) = ap (λ (rs : List FileRow). r ∷ rs) (rows_in_plain rows)
 
-rows_in_diagnosed : (digests : List (List ℕ)) (rows : List FileRow) → length digests ≡ length rows → map row_in (diagnosed digests rows) ≡ rows
+pub rows_in_diagnosed : (digests : List (List ℕ)) (rows : List FileRow) → length digests ≡ length rows → map row_in (diagnosed digests rows) ≡ rows
 rows_in_diagnosed [] [] long = refl
 rows_in_diagnosed [] (r ∷ rows) long = absurd (omega (arith, long))
 rows_in_diagnosed (d ∷ digests) [] long = absurd (omega (arith, long))
@@ -117,7 +118,8 @@ pub diagnosed_fit : (digests : List (List ℕ)) (rows : List FileRow) → length
     → FitInTurn (LineFits true) [] (diagnosed digests rows)
 diagnosed_fit digests rows long each are =
     fit_in_turn Rises (LineFits true) (LineSound true) (line_fits true) (diagnosed digests rows)
-    (lines_rise (diagnosed digests rows) (subst (λ (rs : List FileRow). ArePathsInOrder (row_paths rs)) (sym (rows_in_diagnosed digests rows long)) are.in_order))
+    (lines_rise (diagnosed digests rows)
+    (subst (λ (rs : List FileRow). ArePathsInOrder (row_paths rs)) (sym (rows_in_diagnosed digests rows long)) are.in_order))
     (diagnosed_sound digests rows long each are.each)
 
 -- ---- needs
@@ -140,7 +142,8 @@ apart_past app next apps apart zero (suc j) d before below = apart zero (suc (su
 apart_past app next apps apart (suc i) zero d before below = absurd (omega (arith, before))
 apart_past app next apps apart (suc i) (suc j) d before below = apart (suc (suc i)) (suc (suc j)) d (omega (arith, before)) (omega (arith, below))
 
-differs_from : (need : Need) (apps : List (List ℕ)) (outcomes : List Outcome) → AppsDiffer (need.1 ∷ apps) → AllByRecursion (λ later. Differs need later) (need_digests apps outcomes)
+differs_from : (need : Need) (apps : List (List ℕ)) (outcomes : List Outcome) → AppsDiffer (need.1 ∷ apps)
+    → AllByRecursion (λ later. Differs need later) (need_digests apps outcomes)
 differs_from need [] outcomes apart = tt
 differs_from need (app ∷ apps) [] apart = tt
 differs_from need (app ∷ apps) (o ∷ outcomes) apart =
@@ -157,7 +160,8 @@ all_by_recursion P [] all = tt
 all_by_recursion P (v ∷ vs) all = (All-head P v vs all, all_by_recursion P vs (All-tail P v vs all))
 
 -- the needs of different apps fit
-pub needs_fit : (apps : List (List ℕ)) (outcomes : List Outcome) → AppsDiffer apps → All NeedSound (need_digests apps outcomes) → FitInTurn NeedFits [] (need_digests apps outcomes)
+pub needs_fit : (apps : List (List ℕ)) (outcomes : List Outcome) → AppsDiffer apps → All NeedSound (need_digests apps outcomes)
+    → FitInTurn NeedFits [] (need_digests apps outcomes)
 needs_fit apps outcomes apart sound =
     let needs = need_digests apps outcomes in
     fit_in_turn Differs NeedFits NeedSound need_fits needs (needs_apart apps outcomes apart) (all_by_recursion NeedSound needs sound)
@@ -168,7 +172,8 @@ pub need_pushed : (apps : List (List ℕ)) (outcomes : List Outcome) (at : ℕ) 
     → need_digests (drop at apps) (drop at outcomes) ≡ (outcome.digest, app) ∷ need_digests (drop (at + 1) apps) (drop (at + 1) outcomes)
 need_pushed apps outcomes at app outcome below low is was =
     ap (λ (as' : List (List ℕ)). need_digests as' (drop at outcomes)) (drop_more apps at app below ∙ ap (λ (a : List ℕ). a ∷ drop (at + 1) apps) (sym is))
-    ∙ ap (λ (os : List Outcome). need_digests (app ∷ drop (at + 1) apps) os) (drop_more outcomes at outcome low ∙ ap (λ (o : Outcome). o ∷ drop (at + 1) outcomes) (sym was))
+    ∙ ap (λ (os : List Outcome). need_digests (app ∷ drop (at + 1) apps) os) (drop_more outcomes at outcome low
+    ∙ ap (λ (o : Outcome). o ∷ drop (at + 1) outcomes) (sym was))
 
 pub no_need_left : (apps : List (List ℕ)) (outcomes : List Outcome) (at : ℕ) → at ≡ length apps → need_digests (drop at apps) (drop at outcomes) ≡ []
 no_need_left apps outcomes at end =
@@ -176,5 +181,6 @@ no_need_left apps outcomes at end =
 
 -- ---- diagnostics
 
-pub as_many_digests : (sources : List FileRow) (text : List ℕ) (digests : List (List ℕ)) → digests ≡ diagnostics_of sources text → length digests ≡ length sources
+pub as_many_digests : (sources : List FileRow) (text : List ℕ) (digests : List (List ℕ)) → digests ≡ diagnostics_of sources text
+    → length digests ≡ length sources
 as_many_digests sources text digests are = ap length are ∙ length-map sources (λ (row : FileRow). sha256 (text_about row.path (lines_of text)))

@@ -1,11 +1,11 @@
 -- The parts of a mark's text tell where they end.
-use Rattle.std.proofs.Common.{◌≡◌, ℕ, ◌^◌, ◌<◌, ◌≤◌, Bool, true, false, List, [], ◌∷◌, ◌++◌, length, Some, None, Ok, refl, sym, ap, ◌∙◌, arith, append_assoc, inl, decimal}
+use Rattle.std.proofs.Common.{◌≡◌, ℕ, ◌^◌, ◌≤◌, Bool, true, false, List, [], ◌∷◌, ◌++◌, length, Some, None, Ok, refl, sym, ap, ◌∙◌, arith, append_assoc, inl, decimal}
 use Rattle.std.specs.Prelude.{flat_map, IsTrue, Result}
 use Rattle.hex.specs.Hex.{decode_of, encode_lower, lower_digits}
 use Rattle.hex.specs.declared.error.FromHexError.{FromHexError}
 use Rattle.hex.proofs.HexLemmas.{decode_of-encode_lower, length-encode_with}
 use Rattle.reading.specs.Plain.{AreSoMany, IsBelow, IsNoDigit, after_text, number_text}
-use Rattle.reading.specs.Field.{FitInTurn, ListFits, PairFits, TellsItsEnd, pair_text}
+use Rattle.reading.specs.Field.{ListFits, PairFits, TellsItsEnd, pair_text}
 use Rattle.reading.proofs.Fields.{pair_tells, tells_narrower, tells_otherwise}
 use Rattle.reading.proofs.Literals.{after_tells}
 use Rattle.reading.proofs.Numbers.{number_tells, same_front}
@@ -13,12 +13,12 @@ use Rattle.reading.proofs.Repeats.{list_tells}
 use Rattle.mx_base.specs.declared.row.FileRow.{FileRow}
 use Rattle.mx_base.specs.Digest.{IsDigest}
 use Rattle.mx_base.specs.Listing.{row_text}
-use Rattle.build_manifest.specs.Fields.{Block}
+use Rattle.build_manifest.specs.Fields.{Block, LinesFit, ended}
 use Rattle.build_manifest.specs.Mark.{IsMarkRow, LeadFits, Line, LineFits, Need, NeedFits, limit}
 use Rattle.build_manifest.specs.Text.{block_text, line_text, lines_text, need_text}
 use Rattle.mx_base.specs.AppName.{IsAppName}
 use Rattle.mx_base.specs.Path.{is_path}
-use Rattle.build_manifest.proofs.Lines.{ended, line_tells, name_has_no_break, path_has_no_break}
+use Rattle.build_manifest.proofs.Lines.{line_tells, name_has_no_break, path_has_no_break}
 
 -- ---- digests
 
@@ -142,9 +142,6 @@ block_tells word =
     tells_otherwise (after_text word counted_bytes) CountedBytes (block_text word) Block (λ bytes. (length bytes, bytes))
     (λ bytes fits. ((fits, refl), block_parts word bytes)) (λ a b _ _ e. ap (λ (p : ℕ × List ℕ). p.1) e)
     (after_tells word counted_bytes CountedBytes counted_bytes_tell)
-
-abbrev pub LinesFit : {A : Type 0} → (List A → A → Type 0) → List A → Type 0
-LinesFit Fits lines = (length lines < limit) × FitInTurn Fits [] lines
 
 abbrev pub counted_lines : {A : Type 0} → (A → List ℕ) → ℕ × List A → List ℕ
 counted_lines text = pair_text (number_text 10) (λ _. flat_map text)

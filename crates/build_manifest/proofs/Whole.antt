@@ -7,67 +7,63 @@ use Rattle.reading.proofs.Literals.{literal_tells}
 use Rattle.build_manifest.specs.declared.mark.MarkFormat.{MarkFormat}
 use Rattle.build_manifest.specs.declared.mark.MarkFormat.TheVariants.{One, Two}
 use Rattle.mx_base.specs.declared.row.FileRow.{FileRow}
-use Rattle.build_manifest.specs.Fields.{Block}
+use Rattle.build_manifest.specs.Fields.{Block, LinesFit, tag_text}
 use Rattle.build_manifest.specs.Mark.{HasNoMore, IsMark, Line, LineFits, MarkView, Need, NeedFits, diagnosed, has_diagnostics, limit, plain, source_lines}
 use Rattle.build_manifest.specs.Text.{Spells, block_text, format_text, line_text, lines_text, mark_text, need_text}
 use Rattle.build_manifest.proofs.Pushes.{lines_long}
-use Rattle.build_manifest.proofs.Parts.{LinesFit, block_tells, line_text_tells, lines_tell, need_tells}
+use Rattle.build_manifest.proofs.Parts.{block_tells, line_text_tells, lines_tell, need_tells}
 
 -- ---- the fields of a mark, from the last to the first
 
-abbrev Text : Type 0
+abbrev pub Text : Type 0
 Text = List ℕ × Unit {0}
 
-abbrev Outputs : Type 0
+abbrev pub Outputs : Type 0
 Outputs = List Line × Text
 
-abbrev Needs : Type 0
+abbrev pub Needs : Type 0
 Needs = List Need × Outputs
 
-abbrev Sources : Type 0
+abbrev pub Sources : Type 0
 Sources = List Line × Needs
 
-abbrev Options : Type 0
+abbrev pub Options : Type 0
 Options = List ℕ × Sources
 
 abbrev pub Whole : Type 0
 Whole = Bool × Options
 
-abbrev text_part : Text → List ℕ
+abbrev pub text_part : Text → List ℕ
 text_part = pair_text (block_text (codes "text ")) (λ _. literal_text (codes "end" ++ 10 ∷ []))
 
-abbrev outputs_part : Outputs → List ℕ
+abbrev pub outputs_part : Outputs → List ℕ
 outputs_part = pair_text (lines_text (codes "outputs ") line_text) (λ _. text_part)
 
-abbrev needs_part : Needs → List ℕ
+abbrev pub needs_part : Needs → List ℕ
 needs_part = pair_text (lines_text (codes "needs ") need_text) (λ _. outputs_part)
 
-abbrev sources_part : Sources → List ℕ
+abbrev pub sources_part : Sources → List ℕ
 sources_part = pair_text (lines_text (codes "sources ") line_text) (λ _. needs_part)
 
-abbrev options_part : Options → List ℕ
+abbrev pub options_part : Options → List ℕ
 options_part = pair_text (block_text (codes "options ")) (λ _. sources_part)
-
-abbrev tag_text : Bool → List ℕ
-tag_text false = codes "mark 1" ++ 10 ∷ []
-tag_text true = codes "mark 2" ++ 10 ∷ []
 
 abbrev pub whole_text : Whole → List ℕ
 whole_text = pair_text tag_text (λ _. options_part)
 
-abbrev TextFits : Text → Type 0
+abbrev pub TextFits : Text → Type 0
 TextFits = PairFits Block (λ _. Always)
 
-abbrev OutputsFit : Outputs → Type 0
+abbrev pub OutputsFit : Outputs → Type 0
 OutputsFit = PairFits (LinesFit (LineFits false)) (λ _. TextFits)
 
-abbrev NeedsFit : Needs → Type 0
+abbrev pub NeedsFit : Needs → Type 0
 NeedsFit = PairFits (LinesFit NeedFits) (λ _. OutputsFit)
 
-abbrev SourcesFit : Bool → Sources → Type 0
+abbrev pub SourcesFit : Bool → Sources → Type 0
 SourcesFit tag = PairFits (LinesFit (LineFits tag)) (λ _. NeedsFit)
 
-abbrev OptionsFit : Bool → Options → Type 0
+abbrev pub OptionsFit : Bool → Options → Type 0
 OptionsFit tag = PairFits Block (λ _. SourcesFit tag)
 
 abbrev pub WholeFits : Whole → Type 0
@@ -75,27 +71,27 @@ WholeFits = PairFits Always OptionsFit
 
 -- ---- each tells its end
 
-text_tells : TellsItsEnd text_part TextFits
+pub text_tells : TellsItsEnd text_part TextFits
 text_tells =
     pair_tells (block_text (codes "text ")) Block (λ _. literal_text (codes "end" ++ 10 ∷ [])) (λ _. Always) (block_tells (codes "text "))
     (λ _ _. literal_tells (codes "end" ++ 10 ∷ []))
 
-outputs_tell : TellsItsEnd outputs_part OutputsFit
+pub outputs_tell : TellsItsEnd outputs_part OutputsFit
 outputs_tell =
     pair_tells (lines_text (codes "outputs ") line_text) (LinesFit (LineFits false)) (λ _. text_part) (λ _. TextFits)
     (lines_tell (codes "outputs ") line_text (LineFits false) (line_text_tells false)) (λ _ _. text_tells)
 
-needs_tell : TellsItsEnd needs_part NeedsFit
+pub needs_tell : TellsItsEnd needs_part NeedsFit
 needs_tell =
     pair_tells (lines_text (codes "needs ") need_text) (LinesFit NeedFits) (λ _. outputs_part) (λ _. OutputsFit)
     (lines_tell (codes "needs ") need_text NeedFits need_tells) (λ _ _. outputs_tell)
 
-sources_tell : (tag : Bool) → TellsItsEnd sources_part (SourcesFit tag)
+pub sources_tell : (tag : Bool) → TellsItsEnd sources_part (SourcesFit tag)
 sources_tell tag =
     pair_tells (lines_text (codes "sources ") line_text) (LinesFit (LineFits tag)) (λ _. needs_part) (λ _. NeedsFit)
     (lines_tell (codes "sources ") line_text (LineFits tag) (line_text_tells tag)) (λ _ _. needs_tell)
 
-options_tell : (tag : Bool) → TellsItsEnd options_part (OptionsFit tag)
+pub options_tell : (tag : Bool) → TellsItsEnd options_part (OptionsFit tag)
 options_tell tag =
     pair_tells (block_text (codes "options ")) Block (λ _. sources_part) (λ _. SourcesFit tag) (block_tells (codes "options ")) (λ _ _. sources_tell tag)
 
@@ -104,7 +100,7 @@ first_lines_differ x y e =
     let same : ◌≡◌ {A = ℕ} 49 50 = ap (λ (t : List ℕ). get_or t 5 0) e in
     absurd (omega (arith, same))
 
-tag_tells : TellsItsEnd tag_text Always
+pub tag_tells : TellsItsEnd tag_text Always
 tag_tells false false x y fa fb e = refl
 tag_tells false true x y fa fb e = absurd (first_lines_differ x y e)
 tag_tells true false x y fa fb e = absurd (first_lines_differ y x (sym e))
@@ -118,15 +114,15 @@ whole_tells = pair_tells tag_text Always (λ _. options_part) OptionsFit tag_tel
 abbrev pub whole_of : MarkView → Whole
 whole_of mark = (has_diagnostics mark.format, (mark.options, (source_lines mark.format mark.sources, (mark.needs, (plain mark.outputs, (mark.text, tt))))))
 
-abbrev leads : List Line → List (List ℕ)
+abbrev pub leads : List Line → List (List ℕ)
 leads [] = []
 leads ((None, row) ∷ lines) = leads lines
 leads ((Some digest, row) ∷ lines) = digest ∷ leads lines
 
-abbrev rows : List Line → List FileRow
+abbrev pub rows : List Line → List FileRow
 rows lines = map (λ line. line.1) lines
 
-abbrev form : Bool → List Line → MarkFormat
+abbrev pub form : Bool → List Line → MarkFormat
 form false lines = One
 form true lines = Two (leads lines)
 
@@ -163,14 +159,18 @@ form_of_sources : (format : MarkFormat) (list : List FileRow) → HasNoMore form
 form_of_sources One list e = refl
 form_of_sources (Two digests) list e = ap Two (leads_diagnosed digests list e)
 
+abbrev mark_with : MarkView → MarkFormat → List FileRow → List FileRow → MarkView
+mark_with mark format sources outputs =
+    record { format = format; options = mark.options; sources = sources; needs = mark.needs; outputs = outputs; text = mark.text }
+
 pub mark_again : (mark : MarkView) → IsMark mark → mark_of (whole_of mark) ≡ mark
 mark_again mark is =
     let e = form_of_sources mark.format mark.sources is.no_more in
     let f = rows_of_sources mark.format mark.sources in
     let g = rows_plain mark.outputs in
-    ap (λ x. record { format = x; options = mark.options; sources = rows (source_lines mark.format mark.sources); needs = mark.needs; outputs = rows (plain mark.outputs); text = mark.text }) e
-    ∙ ap (λ x. record { format = mark.format; options = mark.options; sources = x; needs = mark.needs; outputs = rows (plain mark.outputs); text = mark.text }) f
-    ∙ ap (λ x. record { format = mark.format; options = mark.options; sources = mark.sources; needs = mark.needs; outputs = x; text = mark.text }) g
+    let sources = rows (source_lines mark.format mark.sources) in
+    let outputs = rows (plain mark.outputs) in
+    ap (λ x. mark_with mark x sources outputs) e ∙ ap (λ x. mark_with mark mark.format x outputs) f ∙ ap (λ x. mark_with mark mark.format mark.sources x) g
 
 pub whole_fits : (mark : MarkView) → IsMark mark → WholeFits (whole_of mark)
 whole_fits mark is =
@@ -178,7 +178,7 @@ whole_fits mark is =
     let outputs : length (plain mark.outputs) < limit = rw (lines_long One mark.outputs) is.outputs in
     (tt, (is.options, ((sources, is.lines), ((is.needs, is.apart), ((outputs, is.rows), (is.text, tt))))))
 
-format_spelled : (format : MarkFormat) → tag_text (has_diagnostics format) ≡ format_text format
+pub format_spelled : (format : MarkFormat) → tag_text (has_diagnostics format) ≡ format_text format
 format_spelled One = refl
 format_spelled (Two digests) = refl
 

@@ -1,6 +1,10 @@
 pub mod Description
 pub mod Diagnostics
 pub mod Fields
+pub mod Lines
 pub mod Mark
 pub mod MarkOf
+pub mod Names
+pub mod Paths
+pub mod Refusal
 pub mod Text

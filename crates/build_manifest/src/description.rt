@@ -14,10 +14,13 @@ use std::alloc::{AllocError, Global};
 
 /// What a build is made from: all that a later build compares.
 #[derive(Drop)]
-pub(crate) struct Description {
-    pub(crate) options: Bytes,
-    pub(crate) sources: Listing,
-    pub(crate) needs: NeedDigests,
+pub struct Description {
+    /// All that is said of how it is compiled.
+    pub options: Bytes,
+    /// The listing of the source files.
+    pub sources: Listing,
+    /// For each need the digest of its outputs, and its app.
+    pub needs: NeedDigests,
 }
 
 /// The description of an input.

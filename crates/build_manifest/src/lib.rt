@@ -8,12 +8,23 @@
 
 mod description;
 mod diagnostics;
+mod digits;
+mod error;
+mod fields;
 mod laws;
 mod making;
 mod mark;
+mod names;
+mod needs;
+mod parsing;
+mod paths;
+mod rows;
 mod writing;
 
+pub use description::Description;
+pub use error::MarkError;
 pub use laws::{no_mark_begins_another, one_mark, upgrade_of_an_outcome};
 pub use making::{mark_of, upgrade};
-pub use mark::{Digests, Mark, MarkFormat, NeedDigests};
+pub use mark::{Digests, Mark, MarkFormat, Need, NeedDigests};
+pub use parsing::read_mark;
 pub use writing::write_mark;

@@ -8,8 +8,11 @@ use std::marker::Model;
 /// Digests, in the order of what they are of.
 pub type Digests = ListOf<Digest32>;
 
-/// The needs of a dependency: the digest of the outputs of each, and its app.
-pub type NeedDigests = ListOf<(Digest32, AppName)>;
+/// The digest of the outputs of a need, and its app.
+pub type Need = (Digest32, AppName);
+
+/// The needs of a dependency.
+pub type NeedDigests = ListOf<Need>;
 
 /// The form of a mark.
 #[derive(Drop)]

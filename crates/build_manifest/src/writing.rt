@@ -60,7 +60,8 @@ fn push_block(
 
 // A digest and a space.
 fn push_digest(text: &mut Vec<u8>, digest: &Digest32) -> Result<(), AllocError>
-    ensures { OnOk result (text.new.items ≡ text.old.items ++ (encode_lower digest.now ++ 32 ∷ [])) }
+    ensures { OnOk result (text.new.items ≡ text.old.items
+        ++ (encode_lower digest.now ++ 32 ∷ [])) }
 {
     text.extend_from_slice(&digest.digits())?;
     text.push(b' ')?;

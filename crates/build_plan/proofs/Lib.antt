@@ -9,6 +9,7 @@ pub mod OneOrder
 pub mod OnePlan
 pub mod OneRoot
 pub mod OptionLemmas
+pub mod PartLemmas
 pub mod PlanLemmas
 pub mod PlannedLemmas
 pub mod Positions

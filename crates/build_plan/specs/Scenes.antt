@@ -18,6 +18,8 @@ use Rattle.build_plan.specs.declared.error.PlanError.TheVariants.{TooLarge}
 use Rattle.build_plan.specs.declared.found.Found.{Found}
 use Rattle.build_plan.specs.declared.opening.Opening.{Opening}
 use Rattle.build_plan.specs.declared.post.Post.{Post}
+use Rattle.build_plan.specs.declared.recipe.Recipe.{Recipe}
+use Rattle.build_plan.specs.declared.scene.Needs.{Needs}
 use Rattle.build_plan.specs.Dependencies.{version_by}
 use Rattle.build_plan.specs.Found.{IsFoundAt, IsSound}
 use Rattle.build_plan.specs.Jobs.{Schedule, StandsAt, IsJobAt, places_in, most_bytes, most_files}
@@ -67,6 +69,23 @@ pub record IsKnownAt (schedule : Schedule) (k : ℕ) (job : Job) : Type 0 where
   pub needs : job.needs ≡ places_in schedule.order reached
   pub need_apps : job.need_apps ≡ apps_of schedule.rows schedule.places reached
   pub placed : IsTrue (is_dep_folder job.dir)
+
+-- the job of a winner that is compiled so, with these needs and sources
+abbrev pub job_of_parts : Post → Recipe → Needs → List File → Job
+job_of_parts post recipe needs sources = record {
+  app = post.row.now.app;
+  version = recipe.version;
+  origin = FromPath;
+  options = recipe.options;
+  how = recipe.how;
+  system_env = recipe.system_env;
+  dir = post.found.now.dir;
+  sources = sources;
+  rows = rows_of sources;
+  needs = needs.places;
+  need_apps = needs.apps;
+  listed = refl;
+}
 
 -- the job of a winner with these sources
 abbrev pub job_from : Schedule → Post → List File → Job

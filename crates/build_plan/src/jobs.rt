@@ -9,7 +9,7 @@ ghost use Rattle.tree_store.specs.Known.{Told, OnlyReads};
 ghost use Rattle.build_plan.specs.Blame.{blame_of};
 ghost use Rattle.build_plan.specs.Found.{IsFound};
 ghost use Rattle.build_plan.specs.Jobs.{AllFit, IsJobAt};
-ghost use Rattle.build_plan.specs.Scenes.{Fits, IsKnownAt, IsPost, Misses, MakesJob, job_from};
+ghost use Rattle.build_plan.specs.Scenes.{Fits, IsKnownAt, IsPost, Misses, MakesJob, job_from, job_of_parts};
 ghost use Rattle.build_plan.specs.Stages.{MakesJobs};
 
 use crate::error::PlanError;
@@ -115,7 +115,6 @@ fn if_sent(job: Job) -> Option<Job>
 }
 
 /// The job of a winner with these sources.
-#[tactic(auto, using(mx_base::proofs::ListingLemmas::apart_from_order))]
 fn described(
     alloc: Global,
     scene: &Scene<'_>,
@@ -128,8 +127,22 @@ fn described(
     ensures { IfOk result (λ job. job ≡ job_from scene.now.schedule post.now sources) }
 {
     let recipe = recipe_of(alloc, scene, post, sources.as_slice())?;
-    let rows = listing_of(alloc, sources.as_slice())?;
     let needs = scene.needs_of(alloc, &post.reached)?;
+    of_parts(alloc, post, recipe, needs, sources)
+}
+
+/// The job of a winner that is compiled so, with these needs and sources.
+#[tactic(auto, using(mx_base::proofs::ListingLemmas::apart_from_order))]
+fn of_parts(
+    alloc: Global,
+    post: &Post<'_>,
+    recipe: Recipe,
+    needs: Needs,
+    sources: Files,
+) -> Result<Job, AllocError>
+    ensures { IfOk result (λ job. job ≡ job_of_parts post.now recipe needs sources) }
+{
+    let rows = listing_of(alloc, sources.as_slice())?;
     let app = post.row.app.clone()?;
     let dir = post.found.dir.clone()?;
     let Recipe {

@@ -1,8 +1,9 @@
 // Compilers, by their meaning.
-ghost use Rattle.std.specs.Prelude.{◌≡◌, ◌≢◌, [], ℕ, length, IfOk};
+ghost use Rattle.std.specs.Prelude.{◌≡◌, ◌≢◌, [], ◌∷◌, ℕ, List, Option, length, IfOk};
 ghost use Rattle.mx_base.specs.Blame.{fails};
 ghost use Rattle.mx_base.specs.Causes.{Counted};
 ghost use Rattle.mx_base.specs.Order.{AreInOrder};
+ghost use Rattle.compile_model.specs.Calls.{Call, after_calls};
 ghost use Rattle.compile_model.specs.Content.{Content, content_of, empty_outcome};
 ghost use Rattle.compile_model.specs.Planned.{IsNamed};
 ghost use Rattle.compile_model.specs.declared.how.How.TheVariants.{Nothing};
@@ -74,11 +75,18 @@ pub trait Compiler: Meaning {
     /// How often it died, up to 2^64 - 1, where the count stands still.
     ghost deaths: { Self → ℕ };
 
+    /// Its calls so far, where they are told: what each was given, and whether it died of it.
+    ghost calls: { Self → Option (List Call) };
+
     /// The outcome that the input's content means. `Died` says that the compiler ended before it answered.
     fn compile(&mut self, alloc: Global, input: &Input) -> Result<Outcome, CompileFault>
         requires needs { length input.now.needs.now ≡ length input.now.job.now.needs }
         requires named { IsNamed input.now.job.now }
         ensures meaning { IfOk result (λ outcome. outcome
             ≡ Self.compile_of (content_of input.now.job.now input.now.needs.now)) }
-        ensures cause { Counted (deaths self.old) (deaths self.new) (fails compile_blame result) };
+        ensures cause { Counted (deaths self.old) (deaths self.new) (fails compile_blame result) }
+        ensures called { calls self.new ≡ after_calls (calls self.old) (record {
+          content = content_of input.now.job.now input.now.needs.now;
+          died = fails compile_blame result;
+        } ∷ []) };
 }

@@ -1,5 +1,5 @@
 // A compiler that copies its sources.
-ghost use Rattle.std.specs.Prelude.{◌≡◌, [], ◌∷◌, ◌++◌, length, map, IfOk, OnOk, find, flat_map, filter};
+ghost use Rattle.std.specs.Prelude.{◌≡◌, [], ◌∷◌, ◌++◌, None, length, map, IfOk, OnOk, find, flat_map, filter};
 ghost use Rattle.std.specs.Option.{option_copied};
 ghost use Rattle.compile_model.specs.Content.{content_of};
 ghost use Rattle.compile_model.specs.Planned.{IsNamed};
@@ -30,6 +30,8 @@ impl Meaning for EchoCompiler {
 
 impl Compiler for EchoCompiler {
     ghost deaths = { λ _. 0 };
+
+    ghost calls = { λ _. None };
 
     fn compile(&mut self, alloc: Global, input: &Input) -> Result<Outcome, CompileFault> {
         if let How::Nothing = &input.job.how {

@@ -1,9 +1,10 @@
 // Compiling one job after another.
-ghost use Rattle.std.specs.Prelude.{◌≡◌, None, IsTrue, IfOk, IfErr, length, vec_len};
+ghost use Rattle.std.specs.Prelude.{◌≡◌, None, [], ◌∷◌, true, false, IsTrue, IfOk, IfErr, length, vec_len};
 ghost use Rattle.mx_base.specs.Blame.{fails};
 ghost use Rattle.mx_base.specs.Causes.{Counted};
 ghost use Rattle.std.specs.List.{All};
 ghost use Rattle.compile_model.specs.Blame.{compile_blame, seq_blame};
+ghost use Rattle.compile_model.specs.Calls.{AreCallsOf, after_calls, call_at, calls_unless};
 ghost use Rattle.compile_model.specs.Planned.{IsNamed};
 ghost use Rattle.compile_model.specs.Seq.{seq, first_unbuilt, outcome_at, outcomes_of, fate_of, DiedAt};
 ghost use Rattle.std.specs.Option.{option_copied};
@@ -45,7 +46,7 @@ impl<T: Drop> From<AllocFailed<T>> for SeqFault {
 }
 
 /// Compiles job after job. A job with a need that isn't built is skipped.
-#[tactic(auto, using(crate::proofs::SeqLemmas::seq_take_more))]
+#[tactic(auto, using(crate::proofs::SeqLemmas::seq_take_more, crate::proofs::CallLemmas::called_more,))]
 pub fn seq_build<C: Compiler>(
     alloc: Global,
     plan: &Plan,
@@ -58,6 +59,8 @@ pub fn seq_build<C: Compiler>(
         (C.deaths compiler.new)) }
     ensures cause { Counted (C.deaths compiler.old) (C.deaths compiler.new)
         (fails seq_blame result) }
+    ensures calls { AreCallsOf C.compile_of plan.now.jobs (C.calls compiler.old)
+        (C.calls compiler.new) result }
 {
     let mut fates = Vec::new(alloc);
     for (place, job) in plan.jobs.as_slice().iter().enumerate() {
@@ -84,6 +87,10 @@ fn fate<C: Compiler>(
         → first_unbuilt fates.now job.now.needs ≡ None }
     ensures cause { Counted (C.deaths compiler.old) (C.deaths compiler.new)
         (fails compile_blame result) }
+    ensures lived { IfOk result (λ fate. C.calls compiler.new ≡ after_calls (C.calls compiler.old)
+        (calls_unless (first_unbuilt fates.now job.now.needs) (call_at fates.now job.now false))) }
+    ensures died { IsTrue (fails compile_blame result) → C.calls compiler.new
+        ≡ after_calls (C.calls compiler.old) (call_at fates.now job.now true ∷ []) }
 {
     if let Some(need) = missing(fates, job.needs.as_slice()) {
         return Ok(Fate::Skipped { need });

@@ -9,6 +9,7 @@ mod compilers;
 mod fields;
 mod graphs;
 mod manifests;
+mod marks;
 mod messages;
 mod mortal;
 mod projects;
@@ -23,6 +24,7 @@ use compilers::{command_case, manager_case, settings_case};
 use fields::{Fault, fields_of};
 use graphs::{closure_case, order_case};
 use manifests::{decls_case, manifest_case, project_case};
+use marks::{listing_case, mark_case};
 use messages::{message_case, write_case};
 use projects::{plan_case, plan_for_case, run_case};
 use rows::{converge_case, reach_case, reach_for_case, rows_case};
@@ -89,6 +91,8 @@ fn answer(alloc: Global, out: &mut String, line: &str) -> Result<(), Fault> {
         "reach_for" => reach_for_case(alloc, out, texts),
         "plan" => plan_case(alloc, out, texts),
         "plan_for" => plan_for_case(alloc, out, texts),
+        "listing" => listing_case(alloc, out, texts),
+        "mark" => mark_case(alloc, out, texts),
         "run" => run_case(alloc, out, texts),
         _ => Err(Fault::Form),
     }

@@ -1,4 +1,5 @@
 // A compiler that dies at the calls of a list, and else copies sources as `EchoCompiler` does.
+ghost use Rattle.std.specs.Prelude.{None};
 ghost use Rattle.compile_model.specs.Echo.{echo_of, echo_failed_is_bare, echo_files_in_order, echo_nothing_is_empty};
 
 use compile_model::{CompileFault, Compiler, EchoCompiler, Input, Meaning, Outcome};
@@ -25,6 +26,8 @@ impl Meaning for MortalCompiler {
 
 impl Compiler for MortalCompiler {
     ghost deaths = { λ compiler. compiler.dying };
+
+    ghost calls = { λ _. None };
 
     fn compile(&mut self, alloc: Global, input: &Input) -> Result<Outcome, CompileFault> {
         if self.dying.fails() {

@@ -1,5 +1,5 @@
 -- What is asked of the children, call by call.
-use Rattle.std.proofs.Common.{◌≡◌, ℕ, ◌+◌, ◌<◌, ◌≤◌, inl, inr, List, [], ◌++◌, length, Option, Some, None, Result, Ok, Err, IsErrAnd, sym, ◌∙◌, ap, subst, arith}
+use Rattle.std.proofs.Common.{◌≡◌, ℕ, ◌+◌, ◌≤◌, inr, List, [], ◌++◌, length, Option, Some, None, Result, Ok, Err, IsErrAnd, sym, ◌∙◌, ap, subst, arith}
 use Rattle.std.proofs.lemmas.List.{length-append}
 use Rattle.dep_options.specs.declared.decl.Decl.{Decl}
 use Rattle.dep_rows.specs.declared.error.RowsError.{RowsError}
@@ -8,7 +8,7 @@ use Rattle.dep_rows.specs.declared.row.Row.{Row}
 use Rattle.dep_rows.specs.declared.tally.Tally.{Tally}
 use Rattle.dep_rows.specs.Listed.{Listed}
 use Rattle.dep_rows.specs.Rows.{most_rows, rows_from}
-use Rattle.dep_rows.specs.Tally.{one_more, AsksOne, Asks, HasAsked, OverflowsBy, PassesAtLast}
+use Rattle.dep_rows.specs.Tally.{one_more, AsksOne, Asks, HasAsked, EndsWith}
 use Rattle.dep_rows.proofs.Blocks.{length-rows_from}
 
 long_more : (by : Option ℕ) (decls : List Decl) (old new : List Row) → new ≡ old ++ rows_from by 0 decls → length new ≡ length old + length decls
@@ -53,8 +53,11 @@ asked_all root rows winners asked start now listed so_far within past is =
 
 -- the next one's children can't come
 asks_at : {Fault : Type 0} (root rows asked : ℕ) (start old new : Tally) → HasAsked root rows asked start old → rows ≤ most_rows → (error : RowsError Fault)
-    → OverflowsBy rows old new error → Asks root start new (Err error)
-asks_at root rows asked start old new so_far few (Children fault) h = tt
+    → EndsWith rows old new error → Asks root start new (Err error)
+asks_at root rows asked start old new so_far few (Children fault) same =
+    let given = so_far.given in
+    let none = ap (λ (t : Tally). t.given) same in
+    omega (arith, given, none, few)
 asks_at root rows asked start old new so_far few OutOfMemory h = tt
 asks_at root rows asked start old new so_far few TooManyRows (count, more, many) =
     let calls = so_far.calls in
@@ -69,7 +72,7 @@ asks_at root rows asked start old new so_far few TooManyRows (count, more, many)
     })
 
 pub asks_on : {Fault : Type 0} (root rows asked : ℕ) (start old new : Tally) → HasAsked root rows asked start old → rows ≤ most_rows → (error : RowsError Fault)
-    → OverflowsBy rows old new error → (result : Result Listed (RowsError Fault)) → IsErrAnd result (λ e. e ≡ error) → Asks root start new result
+    → EndsWith rows old new error → (result : Result Listed (RowsError Fault)) → IsErrAnd result (λ e. e ≡ error) → Asks root start new result
 asks_on root rows asked start old new so_far few error overflows (Ok listed) is = absurd is
 asks_on root rows asked start old new so_far few error overflows (Err e) is =
     subst (λ x. Asks root start new (Err x)) (sym is) (asks_at root rows asked start old new so_far few error overflows)

@@ -1,9 +1,9 @@
 -- The winner of an app: the place that is computed, and the fact that says who wins.
-use Rattle.std.proofs.Common.{◌≡◌, ◌≢◌, ℕ, ◌+◌, ◌<◌, Bool, true, false, cond, ◌&&◌, inl, inr, List, [], ◌∷◌, ◌++◌, length, slice_get, nat_eq, bytes_eq, sym, ◌∙◌, ap, subst, refl, arith, IsTrue, Option, Some, None}
-use Rattle.std.specs.Option.{is_none, is_some, option_or}
+use Rattle.std.proofs.Common.{◌≡◌, ℕ, ◌<◌, Bool, true, false, cond, ◌&&◌, inl, inr, List, [], ◌∷◌, ◌++◌, length, slice_get, nat_eq, bytes_eq, sym, ◌∙◌, ap, refl, IsTrue, Option, Some, None}
+use Rattle.std.specs.Option.{is_some, option_or}
 use Rattle.std.specs.Cmp.Lexicographic.{pointwise, nat_list_eq_equiv}
 use Rattle.indexmap.specs.IndexMap.{IndexMap, get, Updates}
-use Rattle.std.proofs.lemmas.Option.{none-some, slice_get_within}
+use Rattle.std.proofs.lemmas.Option.{slice_get_within}
 use Rattle.std.proofs.lemmas.Bool.{both_ways, cases_order, and_parts, and_from}
 use Rattle.std.proofs.lemmas.Slice.Eq.{bytes_eq-Decides}
 use Rattle.dep_rows.specs.declared.row.Row.{Row}

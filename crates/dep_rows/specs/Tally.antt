@@ -1,7 +1,7 @@
 -- How often children were asked for, and how many declarations came.
 use Rattle.std.specs.Prelude.{◌≡◌, ℕ, ◌+◌, ◌<◌, ◌≤◌, ◌⊎◌, length, Result, Ok, Err}
 use Rattle.dep_rows.specs.declared.error.RowsError.{RowsError}
-use Rattle.dep_rows.specs.declared.error.RowsError.TheVariants.{TooManyRows}
+use Rattle.dep_rows.specs.declared.error.RowsError.TheVariants.{Children, TooManyRows, OutOfMemory}
 use Rattle.dep_rows.specs.declared.tally.Tally.{Tally}
 use Rattle.dep_rows.specs.Listed.{Listed}
 use Rattle.dep_rows.specs.Rows.{most_rows}
@@ -15,10 +15,12 @@ pub record AsksOne (old_rows new_rows : ℕ) (old new : Tally) : Type 0 where
   pub calls : new.calls ≡ old.calls + 1
   pub given : new.given + old_rows ≡ old.given + new_rows
 
--- where there are too many, one call gave more declarations than these rows leave room for
-abbrev pub OverflowsBy : {Fault : Type 0} → ℕ → Tally → Tally → RowsError Fault → Type 0
-OverflowsBy rows old new TooManyRows = (count : ℕ) × (new ≡ one_more old count) × (most_rows < rows + count)
-OverflowsBy rows old new _ = Unit {0}
+-- with the call that ends the rows: where they are too many, it gave more declarations than these rows leave room for; where
+-- it is refused, it gave none
+abbrev pub EndsWith : {Fault : Type 0} → ℕ → Tally → Tally → RowsError Fault → Type 0
+EndsWith rows old new (Children fault) = new ≡ old
+EndsWith rows old new TooManyRows = (count : ℕ) × (new ≡ one_more old count) × (most_rows < rows + count)
+EndsWith rows old new OutOfMemory = Unit {0}
 
 -- the declarations of the root and those that were given are so many rows, and there was a call for each winner that was asked
 pub record HasAsked (root rows asked : ℕ) (old new : Tally) : Type 0 where
@@ -32,8 +34,9 @@ pub record PassesAtLast (root : ℕ) (old new : Tally) : Type 0 where
   pub past : old.given + most_rows < root + new.given
 
 -- what is asked of the children: each winner once, where there are rows; and where they are too many, nobody after the
--- declarations have passed the limit
+-- declarations have passed the limit; where children can't be had, the declarations haven't passed it
 abbrev pub Asks : {Fault : Type 0} → ℕ → Tally → Tally → Result Listed (RowsError Fault) → Type 0
 Asks root old new (Ok listed) = HasAsked root (length listed.rows) (length listed.winners) old new
 Asks root old new (Err TooManyRows) = ((new ≡ old) × (most_rows < root)) ⊎ PassesAtLast root old new
-Asks root old new (Err _) = Unit {0}
+Asks root old new (Err (Children fault)) = root + new.given ≤ old.given + most_rows
+Asks root old new (Err OutOfMemory) = Unit {0}

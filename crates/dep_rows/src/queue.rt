@@ -7,7 +7,7 @@ ghost use Rattle.dep_rows.specs.Growing.{BringsIn, Hinders};
 ghost use Rattle.dep_rows.specs.Listed.{IsWithinLimit};
 ghost use Rattle.dep_rows.specs.Refusal.{IsListing};
 ghost use Rattle.dep_rows.specs.Rows.{most_rows};
-ghost use Rattle.dep_rows.specs.Tally.{Asks, AsksOne, OverflowsBy};
+ghost use Rattle.dep_rows.specs.Tally.{Asks, AsksOne, EndsWith};
 
 use crate::children::Children;
 use crate::decls::copied;
@@ -68,8 +68,9 @@ fn bring_in<C: Children>(
     ensures cause { Counted (C.faults children.old) (C.faults children.new)
         (fails (rows_blame C.blame) result) }
     ensures asks { IfOk result (λ longer.
-        AsksOne (length listing.rows.items) (length longer.rows.items) (C.tally children.old) (C.tally children.new)) }
-    ensures past { IfErr result (OverflowsBy (length listing.rows.items) (C.tally children.old)
+        AsksOne (length listing.rows.items) (length longer.rows.items) (C.tally children.old)
+        (C.tally children.new)) }
+    ensures past { IfErr result (EndsWith (length listing.rows.items) (C.tally children.old)
         (C.tally children.new)) }
 {
     let row = &listing.rows[winner as usize];

@@ -9,7 +9,7 @@ use Rattle.turn_board.specs.declared.sight.Sight.{Sight}
 use Rattle.turn_board.specs.declared.sight.Stage.TheVariants.{Idle, Has}
 use Rattle.turn_board.specs.Histories.{Account, made_by}
 use Rattle.turn_board.specs.Sights.{seated, holding, share, events, Owns}
-use Rattle.turn_board.specs.Turn.{TurnRule, Turning, counts, Fits, passes}
+use Rattle.turn_board.specs.Turn.{TurnRule, counts, Fits, passes}
 use Rattle.turn_board.proofs.Frames.{each_set, fits_grown, apart_set, fits_quiet, apart_kept}
 use Rattle.turn_board.proofs.Steps.{turning, option_some}
 use Rattle.turn_board.proofs.Sums.{total_set, set_at, made_by_more}
@@ -18,17 +18,8 @@ module _ {X O E : Type 0} (account : Account X O E) (n : ℕ) where
   abbrev V : Type 0
   V = Sight O E
 
-  abbrev S : Type 0
-  S = Option X
-
-  abbrev St : Type 0
-  St = State S V
-
-  abbrev Rule : St → Type 0
+  abbrev Rule : State (Option X) V → Type 0
   Rule = TurnRule account n
-
-  abbrev Turn : St → Type 0
-  Turn = Turning account n
 
   pub counts_at : (slots id p nx t : ℕ) (r : Tally O E) (x : X) (e : E) → 0 < p → account.history x ≡ r.seen ++ e ∷ [] → account.maker e ≡ r.number
       → length (account.history x) < 2 ^ 64

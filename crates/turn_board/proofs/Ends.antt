@@ -11,7 +11,7 @@ use Rattle.turn_board.specs.declared.sight.Sight.{Sight}
 use Rattle.turn_board.specs.declared.sight.Stage.TheVariants.{Idle, Has}
 use Rattle.turn_board.specs.Histories.{Account, Continues, total}
 use Rattle.turn_board.specs.Sights.{Each, share, events}
-use Rattle.turn_board.specs.Turn.{TurnRule, Turning}
+use Rattle.turn_board.specs.Turn.{TurnRule}
 use Rattle.turn_board.proofs.Steps.{turning, idle_not_has}
 use Rattle.turn_board.proofs.Sums.{total_two, total_one}
 
@@ -19,21 +19,12 @@ module _ {X O E : Type 0} (account : Account X O E) (n : ℕ) where
   abbrev V : Type 0
   V = Sight O E
 
-  abbrev S : Type 0
-  S = Option X
-
-  abbrev St : Type 0
-  St = State S V
-
-  abbrev Rule : St → Type 0
+  abbrev Rule : State (Option X) V → Type 0
   Rule = TurnRule account n
 
-  abbrev Turn : St → Type 0
-  Turn = Turning account n
-
   -- what the board ends with, where one seat has taken in all the others
-  pub ends : (ws : List ℕ) (xs : List S) (id : ℕ) (v : V) (r : Tally O E) (rs : List (Tally O E)) → v.parts ≡ n → 0 < n → v.stage ≡ Idle → v.tallies ≡ r ∷ rs
-      → Final (Seen Rule id v) ws xs
+  pub ends : (ws : List ℕ) (xs : List (Option X)) (id : ℕ) (v : V) (r : Tally O E) (rs : List (Tally O E)) → v.parts ≡ n → 0 < n → v.stage ≡ Idle
+      → v.tallies ≡ r ∷ rs → Final (Seen Rule id v) ws xs
       → (x : X) × (get_elem? xs 0 ≡ some (Some x)) × Each (λ y. y.opening ≡ Some (account.opening x)) v.tallies
       × Each (λ y. Continues account.maker y.number y.seen (account.history x)) v.tallies × (length (account.history x) ≡ total (λ y. y.made) v.tallies)
   ends ws xs id v r rs all some_seat idle tally final =

@@ -10,7 +10,7 @@ use Rattle.turn_board.specs.declared.sight.Sight.{Sight}
 use Rattle.turn_board.specs.declared.sight.Stage.TheVariants.{Idle}
 use Rattle.turn_board.specs.Histories.{Account, Continues}
 use Rattle.turn_board.specs.Sights.{joined, spent, holding, share, events, tickets_of, HasTicket, Apart}
-use Rattle.turn_board.specs.Turn.{TurnRule, Turning, Fits, OnStage}
+use Rattle.turn_board.specs.Turn.{TurnRule, Fits, OnStage}
 use Rattle.turn_board.proofs.Frames.{each_set, owns_append, housed_set, apart_set_on}
 use Rattle.turn_board.proofs.Steps.{turning, idle_not_has}
 use Rattle.turn_board.proofs.Sums.{total_set, total_append, each_append}
@@ -19,17 +19,8 @@ module _ {X O E : Type 0} (account : Account X O E) (n : ℕ) where
   abbrev V : Type 0
   V = Sight O E
 
-  abbrev S : Type 0
-  S = Option X
-
-  abbrev St : Type 0
-  St = State S V
-
-  abbrev Rule : St → Type 0
+  abbrev Rule : State (Option X) V → Type 0
   Rule = TurnRule account n
-
-  abbrev Turn : St → Type 0
-  Turn = Turning account n
 
   pub joins_at : (id : ℕ) (v : V) (other : ℕ) (u : V) (r : Tally O E) (rs : List (Tally O E)) → 0 < v.parts → v.stage ≡ Idle → u.stage ≡ Idle
       → v.tallies ≡ r ∷ rs → Joins Rule id v other u (joined v u) spent

@@ -7,5 +7,6 @@ pub mod Splitting
 pub mod Joining
 pub mod Ends
 pub mod Tokens
+pub mod Allowed
 pub mod Closing
 pub mod Fresh

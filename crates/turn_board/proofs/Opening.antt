@@ -16,17 +16,8 @@ module _ {X O E : Type 0} (account : Account X O E) (n : ℕ) where
   abbrev V : Type 0
   V = Sight O E
 
-  abbrev S : Type 0
-  S = Option X
-
-  abbrev St : Type 0
-  St = State S V
-
-  abbrev Rule : St → Type 0
+  abbrev Rule : State (Option X) V → Type 0
   Rule = TurnRule account n
-
-  abbrev Turn : St → Type 0
-  Turn = Turning account n
 
   abbrev start_seat : V
   start_seat = blank n
@@ -38,10 +29,10 @@ module _ {X O E : Type 0} (account : Account X O E) (n : ℕ) where
   abbrev opener : X → V
   opener x = seated n 2 (Has 0) (first_of (Some (account.opening x)))
 
-  abbrev opened : X → St
+  abbrev opened : X → State (Option X) V
   opened x = record { words = 1 ∷ 0 ∷ 0 ∷ []; homes = none ∷ []; views = opener x ∷ [] }
 
-  opened_turns : (x : X) → 0 < n → n ≤ 64 → Turn (opened x)
+  opened_turns : (x : X) → 0 < n → n ≤ 64 → Turning account n (opened x)
   opened_turns x some_seat few = record {
     start = account.opening x;
     log = [];
@@ -82,7 +73,7 @@ module _ {X O E : Type 0} (account : Account X O E) (n : ℕ) where
     opener x,
     takes 0 None,
     ap (λ h. get_elem? h 0) b.homes,
-    inr (subst Turn (sym becomes) (opened_turns x some_seat b.few)),
+    inr (subst (Turning account n) (sym becomes) (opened_turns x some_seat b.few)),
     λ y is. ap (λ z. (opener z, (0, None) ∷ [])) (option_some x y (some-injective _ _ is)),
   )
     where

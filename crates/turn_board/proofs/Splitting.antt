@@ -9,7 +9,7 @@ use Rattle.turn_board.specs.declared.sight.Sight.{Sight}
 use Rattle.turn_board.specs.declared.sight.Stage.TheVariants.{Idle}
 use Rattle.turn_board.specs.Histories.{Account, made_by}
 use Rattle.turn_board.specs.Sights.{seated, splitter, split_off, holding, share, events, Apart}
-use Rattle.turn_board.specs.Turn.{TurnRule, Turning, Fits}
+use Rattle.turn_board.specs.Turn.{TurnRule, Fits}
 use Rattle.turn_board.proofs.Frames.{each_set, apart_set, housed_snoc, housed_set, each_snoc, apart_snoc}
 use Rattle.turn_board.proofs.Steps.{turning, idle_not_has}
 use Rattle.turn_board.proofs.Sums.{total_set, total_append, made_by_append}
@@ -18,17 +18,8 @@ module _ {X O E : Type 0} (account : Account X O E) (n : ℕ) where
   abbrev V : Type 0
   V = Sight O E
 
-  abbrev S : Type 0
-  S = Option X
-
-  abbrev St : Type 0
-  St = State S V
-
-  abbrev Rule : St → Type 0
+  abbrev Rule : State (Option X) V → Type 0
   Rule = TurnRule account n
-
-  abbrev Turn : St → Type 0
-  Turn = Turning account n
 
   pub splits_at : (id p nx : ℕ) (r : Tally O E) → 1 < p → 0 < nx
       → Splits Rule id (seated p nx Idle r) (splitter (seated p nx Idle r)) (split_off (seated p nx Idle r))

@@ -1,5 +1,5 @@
 -- Each kind of step keeps the rule.
-use Rattle.std.proofs.Common.{◌≡◌, ℕ, zero, suc, ◌+◌, ◌%◌, ◌<◌, ◌≤◌, List, [], ◌∷◌, length, set, refl, sym, ap, ◌∙◌, subst, inl, inr, ⊎_elim, arith}
+use Rattle.std.proofs.Common.{◌≡◌, ℕ, zero, suc, ◌+◌, ◌%◌, ◌<◌, ◌≤◌, eqb, ne_eqb, eq-eqb, List, [], ◌∷◌, length, set, refl, sym, ap, ◌∙◌, subst, inl, inr, ⊎_elim, arith}
 use Rattle.std.specs.Prelude.{Option, Some, None, slice_index}
 use mathlib.Core.Logic.{dite}
 use mathlib.Core.List.{append-nil}
@@ -7,6 +7,7 @@ use mathlib.Core.Option.{some, none, some-injective, some-ne-none}
 use native.Mathlib.Decide.{ℕ_discrete}
 use lib.ListN.{get_elem?}
 use lib.Seq.{set-get_or}
+use prog.Atomic.{either}
 use Rattle.atomic_table.specs.Table.{State, step, keeps, takes, stepped, Allows}
 use Rattle.atomic_table.proofs.Lists.{one_turn, set_again}
 use Rattle.turn_board.specs.declared.sight.Tally.{Tally}
@@ -15,7 +16,7 @@ use Rattle.turn_board.specs.declared.sight.Stage.{Stage}
 use Rattle.turn_board.specs.declared.sight.Stage.TheVariants.{Idle, Waits, Has}
 use Rattle.turn_board.specs.Histories.{Account}
 use Rattle.turn_board.specs.Sights.{blank, holding, share, tickets_of, seated, events, HasTicket}
-use Rattle.turn_board.specs.Turn.{TurnRule, Turning, draws, Fits, looks}
+use Rattle.turn_board.specs.Turn.{TurnRule, Turning, draws, drew, Fits, looks}
 use Rattle.turn_board.proofs.Frames.{housed_set, each_set, fits_drawn, apart_set, ticket_drawn, has_its_ticket, fits_quiet}
 use Rattle.turn_board.proofs.Sums.{total_below, total_set, set_at}
 
@@ -46,20 +47,12 @@ module _ {X O E : Type 0} (account : Account X O E) (n : ℕ) where
   abbrev V : Type 0
   V = Sight O E
 
-  abbrev S : Type 0
-  S = Option X
-
-  abbrev St : Type 0
-  St = State S V
-
-  abbrev Rule : St → Type 0
+  abbrev Rule : State (Option X) V → Type 0
   Rule = TurnRule account n
 
-  abbrev Turn : St → Type 0
-  Turn = Turning account n
-
   -- a seat that has a tally is at a board that has its value
-  pub turning : (s : St) (id : ℕ) (v : V) (r : Tally O E) (rs : List (Tally O E)) → v.tallies ≡ r ∷ rs → get_elem? s.views id ≡ some v → Rule s → Turn s
+  pub turning : (s : State (Option X) V) (id : ℕ) (v : V) (r : Tally O E) (rs : List (Tally O E)) → v.tallies ≡ r ∷ rs
+      → get_elem? s.views id ≡ some v → Rule s → Turning account n s
   turning s id v r rs tally at (inr t) = t
   turning s id v r rs tally at (inl b) = absurd (nowhere id (subst (λ vs. get_elem? vs id ≡ some v) b.views at))
     where
@@ -67,7 +60,7 @@ module _ {X O E : Type 0} (account : Account X O E) (n : ℕ) where
       nowhere zero e = let l : 0 ≡ length (r ∷ rs) = ap (λ (u : V). length u.tallies) (some-injective _ _ e) ∙ ap length tally in absurd (omega arith)
       nowhere (suc k) e = some-ne-none v (sym e)
 
-  few_tickets : (s : St) (t : Turn s) → t.drawn ≤ t.served + 64
+  few_tickets : (s : State (Option X) V) (t : Turning account n s) → t.drawn ≤ t.served + 64
   few_tickets s t = let a = total_below holding share s.views (λ j v at. each_holds v.stage v.parts (λ z. ((t.each j v at).nobody z).0)) in
       let b = t.tickets in let c = t.whole in let d = t.few in omega arith
     where
@@ -77,9 +70,12 @@ module _ {X O E : Type 0} (account : Account X O E) (n : ℕ) where
           (λ z. omega arith)
       each_holds (Has u) p h = dite (ℕ_discrete p 0) (λ z. let e : tickets_of (Has u) ≡ 0 = ap tickets_of (h z) in absurd (omega arith)) (λ z. omega arith)
 
-  pub draws_at : (slots id p nx : ℕ) (r : Tally O E) (c : List (ℕ × S)) → 0 < p
-      → Allows Rule slots id (seated p nx Idle r, c) 0 (λ k. (k + 1) % 18446744073709551616) (draws (step slots 0 1 0 none) (seated p nx Idle r, c))
-  draws_at slots id p nx r c some_part s kept _ at _ =
+  -- a ticket is drawn, and the word counts it
+  ticket_out : (id p nx : ℕ) (r : Tally O E) (c : List (ℕ × Option X)) (s : State (Option X) V) → 0 < p → Rule s
+      → get_elem? s.views id ≡ some (seated p nx Idle r)
+      → (w : V) × Rule (stepped s 0 ((slice_index s.words 0 + 1) % 18446744073709551616) id c w keeps)
+      × drew (slice_index s.words 0) (seated p nx Idle r, c) (w, c)
+  ticket_out id p nx r c s some_part kept at =
       let v : V = seated p nx Idle r in
       let t = turning s id v r [] refl at kept in
       let f = t.each id v at in
@@ -91,8 +87,6 @@ module _ {X O E : Type 0} (account : Account X O E) (n : ℕ) where
       let whole = t.whole in
       let counted = t.counted in (
         w,
-        keeps,
-        tt,
         inr record {
           start = t.start;
           log = t.log;
@@ -135,11 +129,31 @@ module _ {X O E : Type 0} (account : Account X O E) (n : ℕ) where
       )
 
   -- a step that changes nothing
-  still : (s : St) (i id : ℕ) (v : V) (c : List (ℕ × S)) → get_elem? s.views id ≡ some v → Rule s → Rule (stepped s i (slice_index s.words i) id c v keeps)
+  still : (s : State (Option X) V) (i id : ℕ) (v : V) (c : List (ℕ × Option X)) → get_elem? s.views id ≡ some v → Rule s
+      → Rule (stepped s i (slice_index s.words i) id c v keeps)
   still s i id v c at kept = subst (λ (z : List ℕ × List V). Rule record { words = z.0; homes = s.homes; views = z.1 })
       (λ k. (sym (set-get_or s.words i 0) k, sym (set_again s.views id v at) k)) kept
 
-  pub looks_at : (slots id p nx t : ℕ) (r : Tally O E) (c : List (ℕ × S)) → 0 < p
+  pub draws_at : (slots id p nx old new : ℕ) (r : Tally O E) (c : List (ℕ × Option X)) → 0 < p → new ≡ (old + 1) % 18446744073709551616
+      → Allows Rule slots id (seated p nx Idle r, c) 0 (λ k. either (eqb k old) new k) (draws (step slots 0 old new none) (seated p nx Idle r, c))
+  draws_at slots id p nx old new r c some_part next s kept _ at _ =
+      let k = slice_index s.words 0 in
+      dite (ℕ_discrete k old)
+      (λ hit.
+      let a = ticket_out id p nx r c s some_part kept at in
+      let one_more : (k + 1) % 18446744073709551616 ≡ either (eqb k old) new k =
+      ap (λ z. (z + 1) % 18446744073709551616) hit ∙ (sym next ∙ ap (λ b. either b new k) (sym (eq-eqb k old hit))) in
+      (a.0, keeps, tt, subst (λ z. Rule (stepped s 0 z id c a.0 keeps)) one_more a.1, ((λ miss. absurd (miss hit)), (λ _. a.2))))
+      (λ miss. (
+        seated p nx Idle r,
+        keeps,
+        tt,
+        subst (λ z. Rule (stepped s 0 z id c (seated p nx Idle r) keeps)) (ap (λ b. either b new k) (sym (ne_eqb k old miss)))
+            (still s 0 id (seated p nx Idle r) c at kept),
+        ((λ _. refl), (λ hit. absurd (miss hit))),
+      ))
+
+  pub looks_at : (slots id p nx t : ℕ) (r : Tally O E) (c : List (ℕ × Option X)) → 0 < p
       → Allows Rule slots id (seated p nx (Waits t) r, c) 1 (λ k. k) (looks account (step slots 1 0 0 none) (seated p nx (Waits t) r, c))
   looks_at slots id p nx t r c some_part s kept _ at _ = dite (ℕ_discrete (slice_index s.words 1) (t % 18446744073709551616))
       (λ hit.

@@ -1,22 +1,17 @@
--- The steps of a seat, from what is always true of it, and what they tell.
-use Rattle.std.proofs.Common.{◌≡◌, ◌≢◌, ℕ, suc, ◌+◌, ◌-◌, ◌%◌, ◌^◌, ◌<◌, eqb, List, [], ◌∷◌, ◌++◌, length, Bool, true, false, refl, sym, ap, ◌∙◌, subst, arith}
+-- What the steps of a seat tell, with what is always true of it.
+use Rattle.std.proofs.Common.{◌≡◌, ◌≢◌, ℕ, suc, ◌+◌, ◌-◌, ◌%◌, ◌^◌, ◌<◌, ◌≤◌, List, [], ◌∷◌, ◌++◌, length, Bool, true, false, refl, sym, ap, ◌∙◌, subst, arith}
 use Rattle.std.specs.Prelude.{Option, Some, None, if◌then◌else◌}
-use mathlib.Core.Option.{some, none}
-use prog.Atomic.{either}
-use Rattle.atomic_table.specs.Table.{State, Me, step, rest, Allows, Splits}
+use mathlib.Core.Option.{none}
+use Rattle.atomic_table.specs.Table.{Me, step, rest}
 use Rattle.turn_board.specs.declared.sight.Tally.{Tally}
 use Rattle.turn_board.specs.declared.sight.Sight.{Sight}
 use Rattle.turn_board.specs.declared.sight.Stage.TheVariants.{Idle, Waits, Has}
 use Rattle.atomic_table.specs.Seated.{TableId}
 use Rattle.turn_board.specs.Histories.{Account, made_by, Continues, Grows}
-use Rattle.turn_board.specs.Sights.{seated, at_stage, ticket_of, tally_seen, first_tally, first_of, split_off, splitter, blank}
-use Rattle.turn_board.specs.Turn.{IsWaiting, looks, took, TurnRule, draws, counts, passes, opens}
+use Rattle.turn_board.specs.Sights.{seated, at_stage, ticket_of, tally_seen, first_tally, first_of, split_off, splitter}
+use Rattle.turn_board.specs.Turn.{IsIdle, IsWaiting, looks, took, drew}
 use Rattle.turn_board.specs.Seats.{fresh_seat, numbered}
 use Rattle.turn_board.specs.Inside.{tally_at, SeatIs, IsOut, MayCount, counted_if, seat_view}
-use Rattle.turn_board.proofs.Counting.{counts_at, passes_at}
-use Rattle.turn_board.proofs.Opening.{opens_at}
-use Rattle.turn_board.proofs.Splitting.{splits_at}
-use Rattle.turn_board.proofs.Steps.{draws_at, looks_at}
 use Rattle.turn_board.proofs.Sums.{made_by_append, made_by_one}
 
 module _ {A : Type 0} where
@@ -43,12 +38,18 @@ module _ {X O E : Type 0} (account : Account X O E) where
       let o : IsOut false m = subst (λ b. IsOut b m) e i.1 in
       λ k. ((i.0.alone ∙ ap (λ st. seated 1 m.0.next st (tally_at number m.0)) o.0) k, o.1 k)
 
-  abbrev pub waiting : ℕ → ℕ → M → M
+  pub is_idle : (number : ℕ) (out : Bool) (m : M) → SeatIs account.maker number out m → out ≡ false → IsIdle m
+  is_idle number out m i e = (m.0.next, tally_at number m.0, is_at_home number out m i e)
+
+  abbrev waiting : ℕ → ℕ → M → M
   waiting number t m = (seated 1 m.0.next (Waits t) (tally_at number m.0), [])
 
-  pub drawn : (number t : ℕ) (out : Bool) (m m' : M) → SeatIs account.maker number out m → out ≡ false → m' ≡ (at_stage (Waits t) m.0, m.1)
-      → m' ≡ waiting number t m
-  drawn number t out m m' i e is = is ∙ ap (λ (z : M). (at_stage (Waits t) z.0, z.1)) (is_at_home number out m i e)
+  drawn : (number ticket : ℕ) (out : Bool) (m m' : M) → SeatIs account.maker number out m → out ≡ false → (d : drew ticket m m')
+      → m' ≡ waiting number d.0 m
+  drawn number ticket out m m' i e d = d.2 ∙ ap (λ (z : M). (at_stage (Waits d.0) z.0, z.1)) (is_at_home number out m i e)
+
+  pub is_waiting : (number ticket : ℕ) (out : Bool) (m m' : M) → SeatIs account.maker number out m → out ≡ false → drew ticket m m' → IsWaiting ticket m'
+  is_waiting number ticket out m m' i e d = (m.0.next, d.0, tally_at number m.0, drawn number ticket out m m' i e d, d.1)
 
   -- a seat whose turn it is, with a value in its slot
   abbrev pub having_slot : ℕ → ℕ → Tally O E → X → M
@@ -70,16 +71,19 @@ module _ {X O E : Type 0} (account : Account X O E) where
   abbrev pub outside : ℕ → ℕ → ℕ → Sight O E → List E → M
   outside number nx t v history = (seated 1 nx (Has t) (tally_seen (tally_at number v) history), (0, None) ∷ [])
 
-  pub takes_out : (number t : ℕ) (m m₁ m₂ m₃ : M) (y : Option X) → m₁ ≡ waiting number t m → took account m₁ m₂ → m₂.1 ≡ (0, y) ∷ rest m₂.1
-      → m₃ ≡ (m₂.0, (0, None) ∷ rest m₂.1)
+  -- the seat drew a ticket, it came to its turn, and the value is taken out
+  pub takes_out : (number ticket : ℕ) (out : Bool) (m m₁ m₂ m₃ : M) (y : Option X) → SeatIs account.maker number out m → out ≡ false → (d : drew ticket m m₁)
+      → took account m₁ m₂ → m₂.1 ≡ (0, y) ∷ rest m₂.1 → m₃ ≡ (m₂.0, (0, None) ∷ rest m₂.1)
       → (x : X) × (y ≡ Some x) × ((first_tally m.0.tallies).opening ≡ Some (account.opening x))
-      × Continues account.maker number (first_tally m.0.tallies).seen (account.history x) × (m₃ ≡ outside number m.0.next t m.0 (account.history x))
-  takes_out number t m m₁ m₂ m₃ y d told found is =
-      let k = subst (λ z. took account z m₂) d told in
+      × Continues account.maker number (first_tally m.0.tallies).seen (account.history x) × (m₃ ≡ outside number m.0.next d.0 m.0 (account.history x))
+  takes_out number ticket out m m₁ m₂ m₃ y i e d told found is =
+      let k = subst (λ z. took account z m₂) (drawn number ticket out m m₁ i e d) told in
       (k.0, same_slot (rest m₂.1) [] 0 y (Some k.0) (sym found ∙ ap (λ (z : M). z.1) k.3), k.1, k.2, is ∙ ap (λ (z : M). (z.0, (0, None) ∷ rest z.1)) k.3)
 
-  pub has_slot : (number t : ℕ) (m m₁ m₂ : M) → m₁ ≡ waiting number t m → took account m₁ m₂ → (y : Option X) × (m₂.1 ≡ (0, y) ∷ rest m₂.1)
-  has_slot number t m m₁ m₂ d told = let k = subst (λ z. took account z m₂) d told in (Some k.0, slot_is m₂.1 0 (Some k.0) (ap (λ (z : M). z.1) k.3))
+  pub has_slot : (number ticket : ℕ) (out : Bool) (m m₁ m₂ : M) → SeatIs account.maker number out m → out ≡ false → drew ticket m m₁ → took account m₁ m₂
+      → (y : Option X) × (m₂.1 ≡ (0, y) ∷ rest m₂.1)
+  has_slot number ticket out m m₁ m₂ i e d told = let k = subst (λ z. took account z m₂) (drawn number ticket out m m₁ i e d) told in
+      (Some k.0, slot_is m₂.1 0 (Some k.0) (ap (λ (z : M). z.1) k.3))
 
   pub is_outside : (number t : ℕ) (out : Bool) (m m₃ : M) (history : List E) → SeatIs account.maker number out m
       → Continues account.maker number (first_tally m.0.tallies).seen history → m₃ ≡ outside number m.0.next t m.0 history
@@ -98,7 +102,7 @@ module _ {X O E : Type 0} (account : Account X O E) where
   tally_after grew r history = record { number = r.number; opening = r.opening; seen = history; made = r.made + (if grew then 1 else 0) }
 
   -- a seat that put a value into its slot again
-  pub puts_in : (number : ℕ) (out : Bool) (m m₁ : M) (x : X) → SeatIs account.maker number out m → out ≡ true → m₁ ≡ (m.0, (0, Some x) ∷ rest m.1)
+  puts_in : (number : ℕ) (out : Bool) (m m₁ : M) (x : X) → SeatIs account.maker number out m → out ≡ true → m₁ ≡ (m.0, (0, Some x) ∷ rest m.1)
       → m₁ ≡ having_slot m.0.next (ticket_of m.0.stage) (tally_at number m.0) x
   puts_in number out m m₁ x i e is =
       let o : IsOut true m = subst (λ b. IsOut b m) e i.1 in
@@ -107,12 +111,13 @@ module _ {X O E : Type 0} (account : Account X O E) where
   pub empty_slot : (number : ℕ) (out : Bool) (m : M) → SeatIs account.maker number out m → out ≡ true → m.1 ≡ (0, None) ∷ rest m.1
   empty_slot number out m i e = slot_is m.1 0 None (subst (λ b. IsOut b m) e i.1).1
 
-  pub may_count : (number nx t : ℕ) (grew : Bool) (v : Sight O E) (m₁ : M) (x : X) → m₁ ≡ having_slot nx t (tally_at number v) x
-      → Grows (λ e. account.maker e ≡ number) grew (first_tally v.tallies).seen (account.history x) → length (account.history x) < 2 ^ 64
+  pub may_count : (number : ℕ) (grew out : Bool) (m m₁ : M) (x : X) → SeatIs account.maker number out m → out ≡ true → m₁ ≡ (m.0, (0, Some x) ∷ rest m.1)
+      → Grows (λ e. account.maker e ≡ number) grew (first_tally m.0.tallies).seen (account.history x) → length (account.history x) < 2 ^ 64
       → MayCount account grew m₁
-  may_count number nx t grew v m₁ x is grows small = (nx, t, tally_at number v, x, is, grows, small)
+  may_count number grew out m m₁ x i e is grows small =
+      (m.0.next, ticket_of m.0.stage, tally_at number m.0, x, puts_in number out m m₁ x i e is, grows, small)
 
-  pub counted : (nx t : ℕ) (grew : Bool) (r : Tally O E) (m₁ m₂ : M) (x : X) → m₁ ≡ having_slot nx t r x
+  counted : (nx t : ℕ) (grew : Bool) (r : Tally O E) (m₁ m₂ : M) (x : X) → m₁ ≡ having_slot nx t r x
       → Grows (λ e. account.maker e ≡ r.number) grew r.seen (account.history x) → m₂ ≡ counted_if account.history grew m₁
       → m₂ ≡ having_slot nx t (tally_after grew r (account.history x)) x
   counted nx t true r m₁ m₂ x is grows after = after ∙ ap (counted_if account.history true) is
@@ -121,6 +126,14 @@ module _ {X O E : Type 0} (account : Account X O E) where
     where
       plus_zero : (k : ℕ) → k ≡ k + 0
       plus_zero k = omega arith
+
+  -- the value is put back, and an event is counted where there is one more
+  pub puts_back : (number : ℕ) (grew out : Bool) (m m₁ m₂ : M) (x : X) → SeatIs account.maker number out m → out ≡ true
+      → m₁ ≡ (m.0, (0, Some x) ∷ rest m.1) → Grows (λ e. account.maker e ≡ number) grew (first_tally m.0.tallies).seen (account.history x)
+      → m₂ ≡ counted_if account.history grew m₁
+      → m₂ ≡ having_slot m.0.next (ticket_of m.0.stage) (tally_after grew (tally_at number m.0) (account.history x)) x
+  puts_back number grew out m m₁ m₂ x i e is grows after =
+      counted m.0.next (ticket_of m.0.stage) grew (tally_at number m.0) m₁ m₂ x (puts_in number out m m₁ x i e is) grows after
 
   pub own_grown : (number made : ℕ) (grew : Bool) (seen history : List E) → made ≡ made_by account.maker number seen
       → Grows (λ e. account.maker e ≡ number) grew seen history → made + (if grew then 1 else 0) ≡ made_by account.maker number history
@@ -132,10 +145,11 @@ module _ {X O E : Type 0} (account : Account X O E) where
   abbrev pub back : ℕ → ℕ → Bool → Sight O E → List E → M
   back number nx grew v history = (seated 1 nx Idle (tally_after grew (tally_at number v) history), [])
 
-  pub gives_back : (number nx t : ℕ) (grew : Bool) (v : Sight O E) (m₂ m₃ : M) (x : X)
-      → m₂ ≡ having_slot nx t (tally_after grew (tally_at number v) (account.history x)) x → m₃ ≡ (at_stage Idle m₂.0, rest m₂.1)
-      → m₃ ≡ back number nx grew v (account.history x)
-  gives_back number nx t grew v m₂ m₃ x is after = after ∙ ap (λ (z : M). (at_stage Idle z.0, rest z.1)) is
+  pub gives_back : (number : ℕ) (grew out : Bool) (m m₁ m₂ m₃ : M) (x : X) → SeatIs account.maker number out m → out ≡ true
+      → m₁ ≡ (m.0, (0, Some x) ∷ rest m.1) → Grows (λ e. account.maker e ≡ number) grew (first_tally m.0.tallies).seen (account.history x)
+      → m₂ ≡ counted_if account.history grew m₁ → m₃ ≡ (at_stage Idle m₂.0, rest m₂.1) → m₃ ≡ back number m.0.next grew m.0 (account.history x)
+  gives_back number grew out m m₁ m₂ m₃ x i e is grows after passed =
+      passed ∙ ap (λ (z : M). (at_stage Idle z.0, rest z.1)) (puts_back number grew out m m₁ m₂ x i e is grows after)
 
   pub is_back : (number : ℕ) (grew out : Bool) (m m₃ : M) (history : List E) → SeatIs account.maker number out m
       → Grows (λ e. account.maker e ≡ number) grew (first_tally m.0.tallies).seen history → m₃ ≡ back number m.0.next grew m.0 history
@@ -165,65 +179,20 @@ module _ {X O E : Type 0} (account : Account X O E) where
   pub split_is : (p nx : ℕ) (o : Option O) (m m' : M) → m ≡ (seated p nx Idle (first_of o), []) → m' ≡ (split_off m.0, []) → m' ≡ fresh_me 0 o nx
   split_is p nx o m m' e is = is ∙ ap (λ (z : M). (split_off z.0, [])) e
 
+  -- the first seat, once it has no part to give away
+  pub one_left : (seats number nx : ℕ) (o : Option O) (m : M) → m ≡ (seated ((seats - number) + 1) nx Idle (first_of o), []) → seats ≤ number
+      → m ≡ fresh_me nx o 1
+  one_left seats number nx o m e last = e ∙ ap (λ k. (seated k nx Idle (first_of o), [])) one
+    where
+      one : (seats - number) + 1 ≡ 1
+      one = omega arith
+
   pub splitter_is : (p p' nx nx' : ℕ) (o : Option O) (m m' : M) → m ≡ (seated p nx Idle (first_of o), []) → m' ≡ (splitter m.0, m.1) → p ≡ p' + 1
       → nx' ≡ nx + 1 → m' ≡ (seated p' nx' Idle (first_of o), [])
   splitter_is p p' nx nx' o m m' e is parts next = is ∙ (ap (λ (z : M). (splitter z.0, z.1)) e ∙ (λ k. (seated (less k) (sym next k) Idle (first_of o), [])))
     where
       less : p - 1 ≡ p'
       less = omega arith
-
-  module _ (n : ℕ) where
-    abbrev Rule : State (Option X) (Sight O E) → Type 0
-    Rule = TurnRule account n
-
-    pub draws_from : (slots id number : ℕ) (out : Bool) (m : M) → SeatIs account.maker number out m → out ≡ false
-        → Allows Rule slots id m 0 (λ k. (k + 1) % 18446744073709551616) (draws (step slots 0 1 0 none) m)
-    draws_from slots id number out m i e = subst (λ z. Allows Rule slots id z 0 (λ k. (k + 1) % 18446744073709551616) (draws (step slots 0 1 0 none) z))
-        (sym (is_at_home number out m i e))
-        (draws_at account n slots id 1 m.0.next (tally_at number m.0) [] (omega arith))
-
-    pub looks_from : (slots id ticket : ℕ) (m : M) → IsWaiting ticket m → Allows Rule slots id m 1 (λ k. k) (looks account (step slots 1 0 0 none) m)
-    looks_from slots id ticket m w = subst (λ z. Allows Rule slots id z 1 (λ k. k) (looks account (step slots 1 0 0 none) z)) (sym w.3)
-        (looks_at account n slots id 1 w.0 w.1 w.2 [] (omega arith))
-
-    pub counts_from : (slots id nx t : ℕ) (r : Tally O E) (x : X) (e : E) (m : M) → m ≡ having_slot nx t r x → account.history x ≡ r.seen ++ e ∷ []
-        → account.maker e ≡ r.number → length (account.history x) < 2 ^ 64
-        → Allows Rule slots id m 2 (λ k. (k + 1) % 18446744073709551616) (counts account.history (step slots 2 1 0 none) m)
-    counts_from slots id nx t r x e m is grows own small =
-        subst (λ z. Allows Rule slots id z 2 (λ k. (k + 1) % 18446744073709551616) (counts account.history (step slots 2 1 0 none) z)) (sym is)
-        (counts_at account n slots id 1 nx t r x e (omega arith) grows own small)
-
-    pub passes_from : (slots id nx t p : ℕ) (r : Tally O E) (x : X) (m : M) → 0 < p → m ≡ (seated p nx (Has t) r, (0, Some x) ∷ [])
-        → account.history x ≡ r.seen → r.opening ≡ Some (account.opening x)
-        → Allows Rule slots id m 1 (λ k. (k + 1) % 18446744073709551616) (passes (step slots 1 1 0 none) m)
-    passes_from slots id nx t p r x m some_part is same opening =
-        subst (λ z. Allows Rule slots id z 1 (λ k. (k + 1) % 18446744073709551616) (passes (step slots 1 1 0 none) z)) (sym is)
-        (passes_at account n slots id p nx t r x some_part same opening)
-
-    pub opens_from : (slots id : ℕ) (m : M) (x : X) → 0 < n → m ≡ (blank n, [])
-        → Allows Rule slots id m 0 (λ k. either (eqb k 0) 1 k) (opens account (step slots 0 0 1 (some (Some x))) m)
-    opens_from slots id m x some_seat e =
-        subst (λ z. Allows Rule slots id z 0 (λ k. either (eqb k 0) 1 k) (opens account (step slots 0 0 1 (some (Some x))) z)) (sym e)
-        (opens_at account n slots id x some_seat)
-
-    abbrev pub opened_me : X → M
-    opened_me x = (seated n 2 (Has 0) (first_of (Some (account.opening x))), (0, None) ∷ [])
-
-    pub was_opened : (m m₁ : M) (x : X) → m ≡ (blank n, []) → opens account (step 1 0 0 1 (some (Some x))) m 0 m₁ → m₁ ≡ opened_me x
-    was_opened m m₁ x e told = told x refl ∙ ap (λ (z : M). (seated z.0.parts 2 (Has 0) (first_of (Some (account.opening x))), (0, None) ∷ [])) e
-
-    pub opened_put : (m₁ m₂ : M) (x : X) → m₁ ≡ opened_me x → m₂ ≡ (m₁.0, (0, Some x) ∷ rest m₁.1)
-        → m₂ ≡ (seated n 2 (Has 0) (first_of (Some (account.opening x))), (0, Some x) ∷ [])
-    opened_put m₁ m₂ x e is = is ∙ ap (λ (z : M). (z.0, (0, Some x) ∷ rest z.1)) e
-
-    pub opened_passed : (m₂ m₃ : M) (x : X) → m₂ ≡ (seated n 2 (Has 0) (first_of (Some (account.opening x))), (0, Some x) ∷ [])
-        → m₃ ≡ (at_stage Idle m₂.0, rest m₂.1) → m₃ ≡ (seated n 2 Idle (first_of (Some (account.opening x))), [])
-    opened_passed m₂ m₃ x e is = is ∙ ap (λ (z : M). (at_stage Idle z.0, rest z.1)) e
-
-    pub splits_from : (id p nx : ℕ) (r : Tally O E) (m : M) → m ≡ (seated p nx Idle r, []) → 1 < p → 0 < nx
-        → Splits Rule id m.0 (splitter m.0) (split_off m.0)
-    splits_from id p nx r m e more some_next = subst (λ (z : M). Splits Rule id z.0 (splitter z.0) (split_off z.0)) (sym e)
-        (splits_at account n id p nx r more some_next)
 
 module _ {O E : Type 0} where
   pub fresh_more : (b : TableId) (o : Option O) (k : ℕ) → numbered {E = E} b o (k + 1) ≡ numbered b o k ++ fresh_seat b o (k + 1) ∷ []

@@ -21,13 +21,21 @@ abbrev pub Tells : Type 0 → Type 0 → Type 0 → Type 1
 Tells X O E = Step (Option X) → Seated X O E → ℕ → Seated X O E → Type 0
 
 module _ {X O E : Type 0} where
-  -- draw: the seat has a ticket
+  -- the seat has a ticket, which is this number
+  abbrev pub drew : ℕ → Seated X O E → Seated X O E → Type 0
+  drew ticket m m' = (t : ℕ) × (ticket ≡ t % 2 ^ 64) × (m' ≡ (at_stage (Waits t) m.0, m.1))
+
+  -- draw: where the word was exchanged, the seat has the ticket that was found there
   abbrev pub draws : Tells X O E
-  draws st m r m' = (t : ℕ) × (r ≡ t % 2 ^ 64) × (m' ≡ (at_stage (Waits t) m.0, m.1))
+  draws st m r m' = (r ≢ st.first → m' ≡ m) × (r ≡ st.first → drew r m m')
 
   -- pass on: the seat has no ticket, and its slot is at home
   abbrev pub passes : Tells X O E
   passes st m r m' = m' ≡ (at_stage Idle m.0, rest m.1)
+
+  -- a seat that stands for itself has no ticket
+  abbrev pub IsIdle : Seated X O E → Type 0
+  IsIdle m = (nx : ℕ) × (r : Tally O E) × (m ≡ (seated 1 nx Idle r, []))
 
   -- a seat that stands for itself waits with a ticket, which is this number
   abbrev pub IsWaiting : ℕ → Seated X O E → Type 0

@@ -3,7 +3,7 @@ ghost use Rattle.std.specs.Prelude.{◌≡◌, ℕ, ◌+◌, ◌-◌, ◌%◌, �
 ghost use Rattle.std.specs.List.{All, sum_by};
 ghost use Rattle.turn_board.specs.Histories.{Continues, account_of};
 ghost use Rattle.turn_board.specs.Sights.{blank};
-ghost use Rattle.turn_board.specs.Turn.{IsWaiting, took};
+ghost use Rattle.turn_board.specs.Turn.{IsIdle, IsWaiting, drew, took};
 ghost use Rattle.turn_board.specs.Inside.{MayCount, counted_if, dealer, opening_of};
 ghost use Rattle.turn_board.specs.Seats.{BoardView, GrewBy, fresh_seats, entered, left};
 
@@ -84,10 +84,9 @@ impl<V: Counted> TurnBoard<V> {
         ensures seen { Continues V.maker seat.old.number seat.old.seen (V.history result) }
         ensures seat { seat.new ≡ entered seat.old (V.history result) }
     {
-        let shared = &self.table.shared;
-        let ticket = shared.fetch_add::<Draws<V>>(&mut seat.seat, DRAWN, 1);
+        let ticket = self.draw_ticket(rt, &mut seat.seat);
         self.await_turn(rt, &mut seat.seat, ticket);
-        let taken = shared.exchange(&mut seat.seat, VALUE, None);
+        let taken = self.table.shared.exchange(&mut seat.seat, VALUE, None);
         seat.out = true;
         let Some(value) = taken else { unreachable!() };
         value
@@ -142,6 +141,31 @@ impl<V: Counted> TurnBoard<V> {
         };
         closed.free();
         value
+    }
+
+    // Draws a ticket once the turn is free, so that nobody waits for a seat whose thread isn't
+    // running. Unless the words went round since the look, the ticket's turn is at once.
+    fn draw_ticket<R: Wait>(
+        &self,
+        rt: &R,
+        seat: &mut Seat<Option<V>, Sight<V::Opening, V::Event>>,
+    ) -> u64
+        requires own { seat.old.table_id ≡ self.now.board }
+        requires idle { IsIdle seat.old.me }
+        ensures own { (seat.new.table_id ≡ seat.old.table_id) × (seat.new.id ≡ seat.old.id) }
+        ensures drew { drew result seat.old.me seat.new.me }
+    {
+        let shared = &self.table.shared;
+        for _ in rt.forever() {
+            let turn = shared.peek(PASSED);
+            let next = turn.wrapping_add(1);
+            let found = shared.compare_exchange::<Draws<V>>(seat, DRAWN, turn, next);
+            if found == turn {
+                return found;
+            }
+            yield_now();
+        }
+        unreachable!()
     }
 
     // Looks until it is the turn of this ticket, and then has the slot.

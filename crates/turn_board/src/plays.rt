@@ -28,7 +28,7 @@ impl<V: Counted> Play<Option<V>, Sight<V::Opening, V::Event>> for Opens<V> {
     ghost then = { opens (account_of V.opening V.history V.maker) };
 }
 
-// Draw a ticket.
+// Draw a ticket, where the word is exchanged.
 pub(crate) struct Draws<V> {
     of: PhantomData<V>,
 }

@@ -19,7 +19,8 @@ loop-at-preserved c =
         low = omega (arith, w.start-is);
         made =
             ap₂ (λ (ls : List (List ℕ)) (s : ℕ). ls ++ glue (slice_range text s (at + 1)) after)
-            (ap (λ v. map (λ line. line.now) v.items) w.lines-is ∙ line_pushed _ _ _ (slice_range text start (at + 1)) w.in_ok-push.ensures.items (search rules))
+            (ap (λ v. map (λ line. line.now) v.items) w.lines-is ∙ line_pushed _ _ _
+            (slice_range text start (at + 1)) w.in_ok-push.ensures.items (search rules))
             w.start-is
             ∙ newline text start at held.low below made (lines_of text) w.if-text-at-eq10.true held.made;
       }
@@ -42,7 +43,8 @@ returns c =
     let all = ap (λ (n : ℕ). made ++ glue (slice_range text start n) (lines_of (drop n text))) end ∙ held.made in
     elim c.if-start-text.branch [
       | then-start-text+in_ok-push-2 w ↦
-          ap (λ v. map (λ line. line.now) v.items) w.lines-is ∙ line_pushed _ _ _ (slice_range text start (length text)) w.in_ok-push-2.ensures.items (search rules)
+          ap (λ v. map (λ line. line.now) v.items) w.lines-is ∙ line_pushed _ _ _
+          (slice_range text start (length text)) w.in_ok-push-2.ensures.items (search rules)
           ∙ sym (last_line text start made w.if-start-text.true) ∙ all
       | else-start-text w ↦
           ap (λ v. map (λ line. line.now) v.items) w.lines-is

@@ -1,4 +1,4 @@
-use Rattle.std.proofs.Common.{rules, ◌∙◌, ap, sym}
+use Rattle.std.proofs.Common.{rules, ◌∙◌, ap, sym, refl}
 use Rattle.std.specs.Option.{option_copied}
 use Rattle.compile_model.specs.Content.{content_of}
 use Rattle.compile_model.specs.Echo.{warning_of}
@@ -11,4 +11,4 @@ returns c =
     let none = sym c.named.ensures ∙ ap option_copied c.in_default-named.is in
     let content = content_of c.args.input.now.job.now c.args.input.now.needs.now in
     let built = echo_built content _ _ c.in_default.not-Nothing (rw sources at none) (c.in_ok-text.ensures ∙ ap warning_of sources) c.in_ok-files.ensures in
-    record { meaning = c.in_ok-of-3.ensures ∙ built; cause = search rules }
+    record { meaning = c.in_ok-of-3.ensures ∙ built; cause = search rules; called = refl }

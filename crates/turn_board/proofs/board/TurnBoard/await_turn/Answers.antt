@@ -1,7 +1,8 @@
 use Rattle.std.proofs.Common.{rules, ◌∙◌, sym, ap, subst}
 use Rattle.turn_board.specs.Histories.{account_of}
 use Rattle.turn_board.specs.Turn.{IsWaiting, took}
-use Rattle.turn_board.proofs.Tokens.{looks_from, looked_miss, looked_hit}
+use Rattle.turn_board.proofs.Tokens.{looked_miss, looked_hit}
+use Rattle.turn_board.proofs.Allowed.{looks_from}
 use Rattle.turn_board.proofs.board.TurnBoard.await_turn.Goals as goal
 
 pub load-turn-requires : goal.load-turn-requires

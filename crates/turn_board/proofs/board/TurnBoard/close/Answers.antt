@@ -49,8 +49,8 @@ unreachable-requires-in_default-take g c =
     (c.requires.all ∙ sym (ap (λ b. b.seats) c.self.view_is)) k c.close_with-closed.ensures.values.2 c.take.ensures.value in
     c.in_default-take.not-Some z.0 z.1
 
-pub returns-clause-opening : goal.returns-clause-opening
-returns-clause-opening g c =
+pub returns : goal.returns
+returns g c =
     let account = account_of g.V.Counted.opening g.V.Counted.history g.V.Counted.maker in
     let i = c.loop-next.invariant in
     let gone : c.loop-next.seats.items ≡ [] = search rules in
@@ -58,26 +58,8 @@ returns-clause-opening g c =
     let z = closes account c.self.inside.table.shared.key _ _ c.loop-next.keeper.id c.loop-next.keeper.me c.args.seats.items c.take.result
     (c.requires.all ∙ sym (ap (λ b. b.seats) c.self.view_is)) k c.close_with-closed.ensures.values.2 c.take.ensures.value in
     let same = option_some z.0 c.in-Some-take.value (sym z.1 ∙ c.in-Some-take.is) in
-    subst (λ v. All (λ s. s.opening ≡ Some (g.V.Counted.opening v)) c.args.seats.items) same z.2
-
-pub returns-clause-seen : goal.returns-clause-seen
-returns-clause-seen g c =
-    let account = account_of g.V.Counted.opening g.V.Counted.history g.V.Counted.maker in
-    let i = c.loop-next.invariant in
-    let gone : c.loop-next.seats.items ≡ [] = search rules in
-    let k = subst (λ l. Keeps c.args.seats.items l c.loop-next.keeper.me) gone i.2 in
-    let z = closes account c.self.inside.table.shared.key _ _ c.loop-next.keeper.id c.loop-next.keeper.me c.args.seats.items c.take.result
-    (c.requires.all ∙ sym (ap (λ b. b.seats) c.self.view_is)) k c.close_with-closed.ensures.values.2 c.take.ensures.value in
-    let same = option_some z.0 c.in-Some-take.value (sym z.1 ∙ c.in-Some-take.is) in
-    subst (λ v. All (λ s. Continues g.V.Counted.maker s.number s.seen (g.V.Counted.history v)) c.args.seats.items) same z.3
-
-pub returns-clause-counted : goal.returns-clause-counted
-returns-clause-counted g c =
-    let account = account_of g.V.Counted.opening g.V.Counted.history g.V.Counted.maker in
-    let i = c.loop-next.invariant in
-    let gone : c.loop-next.seats.items ≡ [] = search rules in
-    let k = subst (λ l. Keeps c.args.seats.items l c.loop-next.keeper.me) gone i.2 in
-    let z = closes account c.self.inside.table.shared.key _ _ c.loop-next.keeper.id c.loop-next.keeper.me c.args.seats.items c.take.result
-    (c.requires.all ∙ sym (ap (λ b. b.seats) c.self.view_is)) k c.close_with-closed.ensures.values.2 c.take.ensures.value in
-    let same = option_some z.0 c.in-Some-take.value (sym z.1 ∙ c.in-Some-take.is) in
-    ap (λ v. length (g.V.Counted.history v)) (sym same) ∙ z.4
+    record {
+      opening = subst (λ v. All (λ s. s.opening ≡ Some (g.V.Counted.opening v)) c.args.seats.items) same z.2;
+      seen = subst (λ v. All (λ s. Continues g.V.Counted.maker s.number s.seen (g.V.Counted.history v)) c.args.seats.items) same z.3;
+      counted = ap (λ v. length (g.V.Counted.history v)) (sym same) ∙ z.4;
+    }

@@ -1,7 +1,7 @@
 use Rattle.std.proofs.Common.{rules, ◌∙◌, sym, ap, subst}
 use Rattle.turn_board.specs.Histories.{account_of}
 use Rattle.turn_board.specs.Inside.{MayCount}
-use Rattle.turn_board.proofs.Tokens.{counts_from}
+use Rattle.turn_board.proofs.Allowed.{counts_from}
 use Rattle.turn_board.proofs.board.TurnBoard.count.Goals as goal
 
 pub fetch_add-requires : goal.fetch_add-requires

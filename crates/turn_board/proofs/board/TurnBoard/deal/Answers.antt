@@ -1,17 +1,18 @@
-use Rattle.std.proofs.Common.{rules, arith, ◌≡◌, ◌∙◌, ◌+◌, ◌-◌, [], ◌∷◌, ◌++◌, refl, false, true≢false, sym, ap, subst}
+use Rattle.std.proofs.Common.{rules, arith, ◌≡◌, ◌∙◌, ◌+◌, ◌-◌, [], ◌∷◌, ◌++◌, refl, false, true≢false, sym, ap, subst, ◌≤◌}
 use Rattle.std.specs.Result.{IsOk}
 use Rattle.turn_board.specs.declared.sight.Stage.TheVariants.{Idle}
 use Rattle.turn_board.specs.Histories.{account_of}
-use Rattle.turn_board.specs.Sights.{first_tally, seated, first_of}
+use Rattle.turn_board.specs.Sights.{seated, first_of}
 use Rattle.turn_board.specs.Seats.{fresh_seat, numbered}
-use Rattle.turn_board.specs.Inside.{seat_view}
-use Rattle.turn_board.proofs.Tokens.{splits_from, is_fresh, split_is, fresh_view, splitter_is, fresh_more}
+use Rattle.turn_board.specs.Inside.{opening_of, seat_view}
+use Rattle.turn_board.proofs.Tokens.{is_fresh, split_is, fresh_view, one_left, splitter_is, fresh_more}
+use Rattle.turn_board.proofs.Allowed.{splits_from}
 use Rattle.turn_board.proofs.board.TurnBoard.deal.Goals as goal
 
 pub loop-number-init : goal.loop-number-init
 loop-number-init g c =
     let some_seat = c.requires.seats.0 in
-    let o = (first_tally c.args.first.me.0.tallies).opening in
+    let o = opening_of c.args.first.me in
     let all : c.args.seats ≡ (c.args.seats - 1) + 1 = omega arith in (
       search rules,
       some_seat,
@@ -27,36 +28,25 @@ split_seat-seat-requires g c =
     let account = account_of g.V.Counted.opening g.V.Counted.history g.V.Counted.maker in
     let i = c.loop-number.invariant in
     let more = c.loop-number-test.true in
-    let low = i.0 in
-    let high = i.1 in
-    let o = (first_tally c.args.first.me.0.tallies).opening in
-    let p = (c.args.seats - c.loop-number.number) + 1 in (
+    let low = i.0 in (
       i.2 ∙ sym (ap (λ b. b.board) c.self.view_is),
       search rules,
-      splits_from account _ _ p (c.loop-number.number + 1) (first_of o) _ i.3 (omega arith) (omega arith),
+      splits_from account _ _ _ (c.loop-number.number + 1) _ _ i.3 (omega arith) (omega arith),
     )
 
 pub invariant_of-push_reserved : goal.invariant_of-push_reserved
 invariant_of-push_reserved g c =
     let account = account_of g.V.Counted.opening g.V.Counted.history g.V.Counted.maker in
     let i = c.loop-number.invariant in
-    let more = c.loop-number-test.true in
-    let low = i.0 in
-    let high = i.1 in
-    let o = (first_tally c.args.first.me.0.tallies).opening in
-    let p = (c.args.seats - c.loop-number.number) + 1 in
-    let s = c.split_seat-seat.ensures in
-    is_fresh account 0 (c.loop-number.number + 1) o c.split_seat-seat.result.me
-    (split_is account p (c.loop-number.number + 1) o c.loop-number.first.me c.split_seat-seat.result.me i.3 s.4) (omega arith)
+    let n = c.loop-number.number + 1 in
+    let o = opening_of c.args.first.me in
+    is_fresh account 0 n o c.split_seat-seat.result.me (split_is account _ n o c.loop-number.first.me _ i.3 c.split_seat-seat.ensures.4) (omega arith)
 
 pub push_reserved-requires : goal.push_reserved-requires
 push_reserved-requires g c =
     let i = c.loop-number.invariant in
     let more = c.loop-number-test.true in
-    let low = i.0 in
     let high = i.1 in
-    let o = (first_tally c.args.first.me.0.tallies).opening in
-    let p = (c.args.seats - c.loop-number.number) + 1 in
     let len = i.5 in
     let room = i.6 in
     omega arith
@@ -68,42 +58,33 @@ loop-number-preserved g c =
     let more = c.loop-number-test.true in
     let low = i.0 in
     let high = i.1 in
-    let o = (first_tally c.args.first.me.0.tallies).opening in
-    let p = (c.args.seats - c.loop-number.number) + 1 in
-    let s = c.split_seat-seat.ensures in
-    let b = c.args.self.now.board in
-    let n = c.loop-number.number in
-    let u = c.push_reserved.ensures in
     let len = i.5 in
-    let room = i.6 in
+    let o = opening_of c.args.first.me in
+    let n = c.loop-number.number in
+    let b = c.args.self.now.board in
+    let s = c.split_seat-seat.ensures in
+    let u = c.push_reserved.ensures in
     let longer = u.len in
-    let same = u.capacity in
     let view = fresh_view account 0 (n + 1) o c.split_seat-seat.result.me b c.split_seat-seat.result.table_id
-    (split_is account p (n + 1) o c.loop-number.first.me c.split_seat-seat.result.me i.3 s.4) (s.3 ∙ i.2) in (
+    (split_is account _ (n + 1) o c.loop-number.first.me _ i.3 s.4) (s.3 ∙ i.2) in (
       omega arith,
       omega arith,
       s.0 ∙ i.2,
-      splitter_is account p ((c.args.seats - (n + 1)) + 1) (n + 1) ((n + 1) + 1) o c.loop-number.first.me c.split_seat-seat.new.seat.me i.3 s.2 (omega arith)
+      splitter_is account _ ((c.args.seats - (n + 1)) + 1) (n + 1) ((n + 1) + 1) o c.loop-number.first.me c.split_seat-seat.new.seat.me i.3 s.2 (omega arith)
           refl,
       ap (λ l. fresh_seat b o 1 ∷ l) u.items
           ∙ (ap (λ l. l ++ seat_view c.split_seat-seat.result.table_id (n + 1) false c.split_seat-seat.result.me.0 ∷ []) i.4
           ∙ (ap (λ v. numbered b o n ++ v ∷ []) view ∙ sym (fresh_more b o n))),
       omega arith,
-      omega arith,
+      subst (λ k. c.args.seats ≤ k) (sym u.capacity) i.6,
     )
 
 pub invariant_of-first : goal.invariant_of-first
 invariant_of-first g c =
     let account = account_of g.V.Counted.opening g.V.Counted.history g.V.Counted.maker in
-    let i = c.loop-number.invariant in
     let last = c.loop-number-test.false in
-    let low = i.0 in
-    let high = i.1 in
-    let o = (first_tally c.args.first.me.0.tallies).opening in
-    let one : (c.args.seats - c.loop-number.number) + 1 ≡ 1 = omega arith in
-    let e : c.loop-number.first.me ≡ (seated 1 (c.loop-number.number + 1) Idle (first_of o), []) = i.3
-    ∙ ap (λ k. (seated k (c.loop-number.number + 1) Idle (first_of o), [])) one in
-    is_fresh account (c.loop-number.number + 1) 1 o c.loop-number.first.me e (search rules)
+    let first = one_left account c.args.seats c.loop-number.number _ _ c.loop-number.first.me c.loop-number.invariant.3 (omega arith) in
+    is_fresh account _ 1 _ c.loop-number.first.me first (search rules)
 
 pub unreachable-requires : goal.unreachable-requires
 unreachable-requires g c =
@@ -119,14 +100,10 @@ returns g c =
     let account = account_of g.V.Counted.opening g.V.Counted.history g.V.Counted.maker in
     let i = c.loop-number.invariant in
     let last = c.loop-number-test.false in
-    let low = i.0 in
     let high = i.1 in
-    let o = (first_tally c.args.first.me.0.tallies).opening in
-    let one : (c.args.seats - c.loop-number.number) + 1 ≡ 1 = omega arith in
-    let e : c.loop-number.first.me ≡ (seated 1 (c.loop-number.number + 1) Idle (first_of o), []) = i.3
-    ∙ ap (λ k. (seated k (c.loop-number.number + 1) Idle (first_of o), [])) one in
+    let o = opening_of c.args.first.me in
     let b = c.args.self.now.board in
-    let view = fresh_view account (c.loop-number.number + 1) 1 o c.loop-number.first.me b c.loop-number.first.table_id e i.2 in
+    let first = one_left account c.args.seats c.loop-number.number _ o c.loop-number.first.me i.3 (omega arith) in
+    let view = fresh_view account _ 1 o c.loop-number.first.me b c.loop-number.first.table_id first i.2 in
     let last_number : c.loop-number.number ≡ c.args.seats = omega arith in
-    let all = last_number ∙ sym c.requires.seats.1 in
-    c.in-Ok.ensures.items ∙ (ap (λ v. v ∷ c.loop-number.all.items) view ∙ (i.4 ∙ ap (λ k. numbered b o k) all))
+    c.in-Ok.ensures.items ∙ (ap (λ v. v ∷ c.loop-number.all.items) view ∙ (i.4 ∙ ap (numbered b o) (last_number ∙ sym c.requires.seats.1)))

@@ -3,7 +3,8 @@ use Rattle.std.specs.Prelude.{Some, None}
 use Rattle.turn_board.specs.declared.sight.Stage.TheVariants.{Idle}
 use Rattle.turn_board.specs.Histories.{account_of}
 use Rattle.turn_board.specs.Sights.{blank, first_of, seated}
-use Rattle.turn_board.proofs.Tokens.{opens_from, was_opened, slot_is, same_slot, opened_put, passes_from, opened_passed}
+use Rattle.turn_board.proofs.Tokens.{slot_is, same_slot}
+use Rattle.turn_board.proofs.Allowed.{opens_from, was_opened, opened_put, passes_from, opened_passed}
 use Rattle.turn_board.proofs.board.TurnBoard.open.Goals as goal
 
 pub compare_exchange_with-requires : goal.compare_exchange_with-requires

@@ -1,0 +1,11 @@
+pub mod State
+pub mod Steps
+pub mod Histories
+pub mod Refusals
+pub mod Counts
+pub mod Lots
+pub mod Story
+pub mod PlaceSets
+pub mod Agendas
+pub mod Tables
+pub mod Nexts
