@@ -14,7 +14,7 @@ use Rattle.mx_base.specs.Order.{text_cmp, IsBefore, ArePathsInOrder, AreInOrder,
 use Rattle.mx_base.specs.Path.{is_below}
 use Rattle.tree_store.specs.Contents.{file_of}
 use Rattle.mx_base.specs.Layout.{is_in_build}
-use Rattle.tree_store.specs.Files.{outside_build, paths_below, put_file, put_all, with_file, with_files, HoldsPart}
+use Rattle.tree_store.specs.Files.{outside_build, paths_below, put_file, put_all}
 use Rattle.tree_store.proofs.OrderLemmas.{less_back, same_name, in_order_filter}
 
 abbrev Entry : Type 0
@@ -28,11 +28,6 @@ map_insert_entry (e ∷ es) p b =
       | Equal ↦ refl
       | Greater ↦ ap (λ (fs : List File). file_of e ∷ fs) (map_insert_entry es p b)
     ]
-
--- a file more
-pub with_files_more : (file : File) (files : List File) (held : Option (List File)) → with_files (file ∷ files) held ≡ with_files files (with_file file held)
-with_files_more file files None = refl
-with_files_more file files (Some h) = refl
 
 found : (b : Bool) (e : Entry) (o : Option (List ℕ)) (r : Option File) → o ≡ option_map (λ (f : File). f.bytes) r → cond b (Some e.1) o ≡ option_map (λ (f : File). f.bytes) (cond b (Some (file_of e)) r)
 found true e o r h = refl
@@ -92,14 +87,6 @@ behind_none (f ∷ fs) = (tt, behind_none fs)
 -- files in order, put where there are none, are those files
 pub put_all_in_order : (files : List File) → AreInOrder files → put_all [] files ≡ files
 put_all_in_order files order = put_all_behind [] files (behind_none files) order
-
-filter_all : (files : List File) → filter (λ f. true) files ≡ files
-filter_all [] = refl
-filter_all (f ∷ fs) = ap (λ (gs : List File). f ∷ gs) (filter_all fs)
-
-pub part_of_itself : (held : Option (List File)) → HoldsPart held held
-part_of_itself None = (λ f. true, refl)
-part_of_itself (Some files) = (λ f. true, ap (λ (fs : List File). Some fs) (sym (filter_all files)))
 
 abbrev pub outside : List ℕ → Bool
 outside path = not (is_in_build path)

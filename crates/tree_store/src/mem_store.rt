@@ -1,5 +1,5 @@
 // A store in memory.
-ghost use Rattle.std.specs.Prelude.{◌≡◌, [], Some, false, All, IsTrue, IsFalse, IfOk, OnOk, OnErr};
+ghost use Rattle.std.specs.Prelude.{◌≡◌, Some, false, All, IsTrue, IsFalse, IfOk, OnOk, OnErr};
 ghost use Rattle.std.specs.BTreeMap.{get, IsOrdered};
 ghost use Rattle.mx_base.specs.Blame.{fails};
 ghost use Rattle.mx_base.specs.Order.{ArePathsInOrder};
@@ -9,11 +9,13 @@ ghost use Rattle.tree_store.specs.Blame.{blame_of};
 ghost use Rattle.mx_base.specs.Layout.{is_in_build};
 ghost use Rattle.tree_store.specs.Files.{outside_build, paths_below};
 ghost use Rattle.tree_store.specs.Key.{key_cmp};
-ghost use Rattle.tree_store.specs.MemStore.{slot_of, apps_in, has_files};
-ghost use Rattle.tree_store.specs.Slot.{SetsSlot, AreNamesInOrder};
+ghost use Rattle.tree_store.specs.Holding.{nothing};
+ghost use Rattle.tree_store.specs.MemStore.{slot_of, apps_in, keeps_any};
+ghost use Rattle.tree_store.specs.Slot.{AreEnvironments, AreNamesInOrder, SetsSlot};
 ghost use Rattle.tree_store.specs.Slot.Slot.{Here, Out};
 
 use crate::contents::Contents;
+use crate::holding::Holding;
 use crate::key::BuildKey;
 use crate::mem_folder::MemFolder;
 use crate::store::{Store, StoreFault};
@@ -27,8 +29,8 @@ use std::collections::BTreeMap;
 #[derive(Drop)]
 pub struct MemStore<P> {
     sources: Contents,
-    // A build whose folder is out has no contents here.
-    builds: BTreeMap<BuildKey, Option<Contents>>,
+    // A build whose folder is out has nothing here.
+    builds: BTreeMap<BuildKey, Option<Holding>>,
     plan: P,
     returned: P,
     folder_plan: P,
@@ -37,7 +39,7 @@ pub struct MemStore<P> {
 /// A project in memory of which no call fails.
 pub type ConstStore = MemStore<NoFaults>;
 
-impl<P: Faults + Drop> MemStore<P> {
+impl<P: Faults + Drop + Send> MemStore<P> {
     /// A project of these files, those in `_build` left out, with no builds. `plan` says which calls
     /// of the store fail, `returned` counts the folders that come back with a fault, and each folder
     /// fails as `folder_plan` says, begun anew.
@@ -49,7 +51,8 @@ impl<P: Faults + Drop> MemStore<P> {
         folder_plan: P,
     ) -> MemStore<P>
         ensures sources { (⟦<MemStore<P> as Store>⟧.known result).sources ≡ Some (outside_build sources) }
-        ensures builds { (key : BuildKey) → (⟦<MemStore<P> as Store>⟧.known result).slot key ≡ Here (Some []) }
+        ensures builds { (key : BuildKey) → (⟦<MemStore<P> as Store>⟧.known result).slot key
+            ≡ Here (Some nothing) }
         ensures faults { (⟦<MemStore<P> as Store>⟧.known result).faults ≡ P.count plan }
         ensures folder_faults { (⟦<MemStore<P> as Store>⟧.known result).returned ≡ P.count returned }
     {
@@ -63,7 +66,7 @@ impl<P: Faults + Drop> MemStore<P> {
     }
 }
 
-impl<P: Faults + Drop> Store for MemStore<P> {
+impl<P: Faults + Drop + Send> Store for MemStore<P> {
     type F = MemFolder<P>;
 
     ghost known = { λ store. record {
@@ -84,11 +87,38 @@ impl<P: Faults + Drop> Store for MemStore<P> {
         }
     }
 
+    #[tactic(auto, using(crate::proofs::SourceLemmas::put_outside))]
+    fn put(&mut self, alloc: Global, path: &RelPath, bytes: &[u8]) -> Result<(), StoreFault> {
+        if self.plan.fails() {
+            return Err(StoreFault::Failed);
+        }
+        let path = path.clone()?;
+        let bytes = Bytes::from_slice(alloc, bytes)?;
+        self.sources.put(path, bytes)?;
+        Ok(())
+    }
+
+    #[tactic(auto, using(crate::proofs::SourceLemmas::removed_outside))]
+    fn remove(&mut self, _alloc: Global, path: &RelPath) -> Result<(), StoreFault> {
+        if self.plan.fails() {
+            return Err(StoreFault::Failed);
+        }
+        self.sources.remove(path);
+        Ok(())
+    }
+
     fn list(&mut self, alloc: Global, dir: &RelPath) -> Result<Vec<RelPath>, StoreFault> {
         if self.plan.fails() {
             return Err(StoreFault::Failed);
         }
         Ok(listed(alloc, &self.sources, dir)?)
+    }
+
+    fn environments(&mut self, alloc: Global) -> Result<Vec<AppName>, StoreFault> {
+        if self.plan.fails() {
+            return Err(StoreFault::Failed);
+        }
+        Ok(environments_of(alloc, &self.builds)?)
     }
 
     fn apps(&mut self, alloc: Global, env: &AppName) -> Result<Vec<AppName>, StoreFault> {
@@ -109,22 +139,14 @@ impl<P: Faults + Drop> Store for MemStore<P> {
         }
         let key = BuildKey::of(env, app)?;
         let plan = self.folder_plan.restarted(alloc)?;
-        let contents = lend(alloc, &mut self.builds, &key)?;
-        Ok(MemFolder {
-            key,
-            contents,
-            plan,
-        })
+        let holding = lend(alloc, &mut self.builds, &key)?;
+        Ok(MemFolder { key, holding, plan })
     }
 
     fn give_back(&mut self, folder: MemFolder<P>) {
-        let MemFolder {
-            key,
-            contents,
-            plan,
-        } = folder;
+        let MemFolder { key, holding, plan } = folder;
         self.returned.take_over(&plan);
-        put_back(&mut self.builds, &key, contents);
+        put_back(&mut self.builds, &key, holding);
     }
 }
 
@@ -139,35 +161,39 @@ fn listed(alloc: Global, sources: &Contents, dir: &RelPath) -> Result<Vec<RelPat
     Ok(paths)
 }
 
+// What is kept at a build, whose folder is then out.
 fn lend(
     alloc: Global,
-    builds: &mut BTreeMap<BuildKey, Option<Contents>>,
+    builds: &mut BTreeMap<BuildKey, Option<Holding>>,
     key: &BuildKey,
-) -> Result<Contents, StoreFault>
+) -> Result<Holding, StoreFault>
     requires { slot_of (get key_cmp builds.old key.now) ≡ Out → ⊥ }
-    ensures contents { IfOk result (λ contents. Here (Some contents) ≡ slot_of (get key_cmp builds.old key.now)) }
-    ensures out { OnOk result (SetsSlot key.now Out (λ q. slot_of (get key_cmp builds.old q)) (λ q. slot_of (get key_cmp builds.new q))) }
+    ensures held { IfOk result (λ held. Here (Some held)
+        ≡ slot_of (get key_cmp builds.old key.now)) }
+    ensures out { OnOk result (SetsSlot key.now Out (λ q. slot_of (get key_cmp builds.old q))
+        (λ q. slot_of (get key_cmp builds.new q))) }
     ensures err { OnErr result (builds.new.entries ≡ builds.old.entries) }
     ensures no_fault { fails blame_of result ≡ false }
 {
     match builds.insert(key.clone()?, None)? {
-        Some(Some(contents)) => Ok(contents),
-        _ => Ok(Contents::new(alloc)),
+        Some(Some(holding)) => Ok(holding),
+        _ => Ok(Holding::new(alloc)),
     }
 }
 
-fn put_back(builds: &mut BTreeMap<BuildKey, Option<Contents>>, key: &BuildKey, contents: Contents)
+fn put_back(builds: &mut BTreeMap<BuildKey, Option<Holding>>, key: &BuildKey, holding: Holding)
     requires { slot_of (get key_cmp builds.old key.now) ≡ Out }
-    ensures { SetsSlot key.now (Here (Some contents)) (λ q. slot_of (get key_cmp builds.old q)) (λ q. slot_of (get key_cmp builds.new q)) }
+    ensures { SetsSlot key.now (Here (Some holding)) (λ q. slot_of (get key_cmp builds.old q))
+        (λ q. slot_of (get key_cmp builds.new q)) }
 {
     if let Some(slot) = builds.get_mut(key) {
-        *slot = Some(contents);
+        *slot = Some(holding);
     }
 }
 
 fn apps_of(
     alloc: Global,
-    builds: &BTreeMap<BuildKey, Option<Contents>>,
+    builds: &BTreeMap<BuildKey, Option<Holding>>,
     env: &AppName,
 ) -> Result<Vec<AppName>, AllocError>
     ensures apps { IfOk result (λ apps. apps.items ≡ apps_in env.now builds.now.entries) }
@@ -175,18 +201,36 @@ fn apps_of(
 {
     let mut apps = Vec::new(alloc);
     for (key, slot) in builds {
-        if key.env == *env && holds_files(slot) {
+        if key.env == *env && keeps_any(slot) {
             apps.push(key.app.clone()?)?;
         }
     }
     Ok(apps)
 }
 
-fn holds_files(slot: &Option<Contents>) -> bool
-    ensures { result ≡ has_files slot.now }
+// The environments of which something is kept, each once: keys are ordered by them.
+fn environments_of(
+    alloc: Global,
+    builds: &BTreeMap<BuildKey, Option<Holding>>,
+) -> Result<Vec<AppName>, AllocError>
+    ensures envs { IfOk result (λ envs. AreEnvironments
+        (λ key. slot_of (get key_cmp builds.now key)) envs.items) }
+    ensures in_order { IfOk result (λ envs. AreNamesInOrder envs.items) }
+{
+    let mut envs: Vec<AppName> = Vec::new(alloc);
+    for (key, slot) in builds {
+        if keeps_any(slot) && envs.last() != Some(&key.env) {
+            envs.push(key.env.clone()?)?;
+        }
+    }
+    Ok(envs)
+}
+
+fn keeps_any(slot: &Option<Holding>) -> bool
+    ensures { result ≡ keeps_any slot.now }
 {
     match slot {
-        Some(contents) => !contents.is_empty(),
+        Some(holding) => holding.has_any(),
         None => false,
     }
 }
