@@ -9,12 +9,13 @@ use Rattle.std.specs.declared.cmp.Ordering.TheVariants.{Less, Equal, Greater}
 use Rattle.std.specs.Ordering.{match_ordering, is_eq}
 use Rattle.std.specs.Map.{lookup, keys_of}
 use Rattle.std.specs.BTreeMap.{insert_entry, is_at}
+use Rattle.std.specs.Map.{remove_entry}
 use Rattle.mx_base.specs.declared.file.File.{File}
 use Rattle.mx_base.specs.Order.{text_cmp, IsBefore, ArePathsInOrder, AreInOrder, paths_of, bytes_at}
 use Rattle.mx_base.specs.Path.{is_below}
 use Rattle.tree_store.specs.Contents.{file_of}
 use Rattle.mx_base.specs.Layout.{is_in_build}
-use Rattle.tree_store.specs.Files.{outside_build, paths_below, put_file, put_all}
+use Rattle.tree_store.specs.Files.{outside_build, paths_below, put_file, put_all, without_file}
 use Rattle.tree_store.proofs.OrderLemmas.{less_back, same_name, in_order_filter}
 
 abbrev Entry : Type 0
@@ -37,6 +38,28 @@ found false e o r h = h
 pub lookup_is_bytes_at : (es : List Entry) (path : List ℕ) → lookup (is_at (text_cmp path)) es ≡ bytes_at path (map file_of es)
 lookup_is_bytes_at [] path = refl
 lookup_is_bytes_at (e ∷ es) path = found (is_at (text_cmp path) e.0) e _ _ (lookup_is_bytes_at es path)
+
+-- a path that stands before all has no file to remove
+none_removed : (path : List ℕ) (es : List Entry) → AllByRecursion (λ p. text_cmp path p ≡ Less) (keys_of es) → without_file path (map file_of es) ≡ map file_of es
+none_removed path [] all = refl
+none_removed path (e ∷ es) all =
+    ap (λ (r : Ordering). cond (not (is_eq r)) (file_of e ∷ without_file path (map file_of es)) (without_file path (map file_of es))) all.0
+    ∙ ap (λ (fs : List File). file_of e ∷ fs) (none_removed path es all.1)
+
+-- an entry that is removed from a map
+pub map_remove_entry : (path : List ℕ) (es : List Entry) → IsStrictlySortedBy text_cmp (keys_of es) → map file_of (remove_entry (is_at (text_cmp path)) es) ≡ without_file path (map file_of es)
+unfolding IsStrictlySortedBy
+map_remove_entry path [] o = refl
+map_remove_entry path (e ∷ es) o = at (is_at (text_cmp path) e.0) refl o.0 (map_remove_entry path es o.1)
+  where
+    left : Bool → List File → List File
+    left b rest = cond (not b) (file_of e ∷ rest) rest
+
+    at : (b : Bool) → is_at (text_cmp path) e.0 ≡ b → AllByRecursion (λ p. text_cmp e.0 p ≡ Less) (keys_of es) → map file_of (remove_entry (is_at (text_cmp path)) es) ≡ without_file path (map file_of es) →
+        map file_of (cond b es (e ∷ remove_entry (is_at (text_cmp path)) es)) ≡ left b (without_file path (map file_of es))
+    at true is all rest =
+        sym (none_removed path es (subst (λ (q : List ℕ). AllByRecursion (λ p. text_cmp q p ≡ Less) (keys_of es)) (sym (same_name path e.0 is)) all))
+    at false is all rest = ap (λ (fs : List File). file_of e ∷ fs) rest
 
 before_entries : (path : List ℕ) (es : List Entry) → AllByRecursion (λ p. text_cmp path p ≡ Less) (keys_of es) → IsBefore path (paths_of (map file_of es))
 before_entries path [] all = tt

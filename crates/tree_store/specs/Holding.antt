@@ -2,6 +2,7 @@
 use Rattle.std.specs.Prelude.{ℕ, Bool, true, false, List, [], ◌∷◌, Option, Some, None}
 use Rattle.mx_base.specs.declared.file.File.{File}
 use Rattle.tree_store.specs.declared.holding.Holding.{Holding}
+use Rattle.tree_store.specs.Files.{put_all}
 
 -- no file, and no mark
 abbrev pub nothing : Holding
@@ -16,6 +17,10 @@ marked bytes held = record { files = held.files; mark = Some bytes }
 -- other files beside the same mark
 abbrev pub with_held : List File → Holding → Holding
 with_held files held = record { files = files; mark = held.mark }
+
+-- these files were put, one after another, beside the same mark
+abbrev pub with_all : List File → Holding → Holding
+with_all files held = with_held (put_all held.files files) held
 
 -- just these files, and no mark
 abbrev pub only_files : List File → Holding

@@ -58,7 +58,7 @@ pub record Lends {X E : Type 0} (key : BuildKey) (old new : Known) (result : Res
 
 -- the folder is that of the build, holds what the store has there, and hasn't failed
 pub record IsLent (key : BuildKey) (slot : Slot) (folder : FolderKnown) : Type 0 where
-  pub key : folder.key ≡ key
+  pub build : folder.key ≡ key
   pub held : Here folder.held ≡ slot
   pub fresh : folder.faults ≡ 0
 

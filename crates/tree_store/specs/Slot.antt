@@ -4,8 +4,7 @@ use Rattle.mx_base.specs.declared.file.File.{File}
 use Rattle.mx_base.specs.Order.{ArePathsInOrder}
 use Rattle.tree_store.specs.declared.holding.Holding.{Holding}
 use Rattle.tree_store.specs.declared.key.BuildKey.{BuildKey}
-use Rattle.tree_store.specs.Files.{put_all}
-use Rattle.tree_store.specs.Holding.{nothing, has_any, only_files, with_held}
+use Rattle.tree_store.specs.Holding.{nothing, has_any, only_files, with_all}
 use Rattle.tree_store.specs.Key.{is_same_build}
 
 pub data Slot : Type 0 where
@@ -41,7 +40,7 @@ emptied_slot slot = changed_slot (λ held. nothing) slot
 
 -- these files were put into it
 abbrev pub filled_slot : List File → Slot → Slot
-filled_slot files slot = changed_slot (λ held. with_held (put_all held.files files) held) slot
+filled_slot files slot = changed_slot (with_all files) slot
 
 -- the slot of a build with just these files and no mark, where it tells what it holds
 abbrev pub slot_with : List File → Slot → Slot

@@ -42,8 +42,6 @@ impl Contents {
         ensures err { OnErr result (self.new ≡ self.old) }
         ensures in_order { OnOk result (AreInOrder self.old) }
     {
-        // This call tells that the paths are in order.
-        let _ = self.by_path.len();
         self.by_path.insert(path, bytes)?;
         Ok(())
     }
@@ -52,6 +50,8 @@ impl Contents {
     pub fn remove(&mut self, path: &RelPath)
         ensures { self.new ≡ without_file path.now self.old }
     {
+        // This call tells that the paths are in order.
+        let _ = self.by_path.len();
         self.by_path.remove(path);
     }
 

@@ -3,6 +3,7 @@
 #![tactic(auto)]
 
 mod contents;
+mod filling;
 mod folder;
 mod holding;
 mod key;
@@ -11,6 +12,7 @@ mod mem_store;
 mod store;
 
 pub use contents::{Contents, files_in_order};
+pub use filling::put_files;
 pub use folder::Folder;
 pub use holding::Holding;
 pub use key::BuildKey;

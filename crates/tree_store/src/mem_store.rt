@@ -1,5 +1,5 @@
 // A store in memory.
-ghost use Rattle.std.specs.Prelude.{◌≡◌, Some, false, All, IsTrue, IsFalse, IfOk, OnOk, OnErr};
+ghost use Rattle.std.specs.Prelude.{◌≡◌, [], Some, false, All, IsTrue, IsFalse, IfOk, OnOk, OnErr};
 ghost use Rattle.std.specs.BTreeMap.{get, IsOrdered};
 ghost use Rattle.mx_base.specs.Blame.{fails};
 ghost use Rattle.mx_base.specs.Order.{ArePathsInOrder};
@@ -10,8 +10,8 @@ ghost use Rattle.mx_base.specs.Layout.{is_in_build};
 ghost use Rattle.tree_store.specs.Files.{outside_build, paths_below};
 ghost use Rattle.tree_store.specs.Key.{key_cmp};
 ghost use Rattle.tree_store.specs.Holding.{nothing};
-ghost use Rattle.tree_store.specs.MemStore.{slot_of, apps_in, keeps_any};
-ghost use Rattle.tree_store.specs.Slot.{AreEnvironments, AreNamesInOrder, SetsSlot};
+ghost use Rattle.tree_store.specs.MemStore.{slot_of, apps_in, envs_in, inserted, keeps_any};
+ghost use Rattle.tree_store.specs.Slot.{AreNamesInOrder, SetsSlot};
 ghost use Rattle.tree_store.specs.Slot.Slot.{Here, Out};
 
 use crate::contents::Contents;
@@ -22,7 +22,7 @@ use crate::store::{Store, StoreFault};
 use mx_base::{AppName, Bytes, Faults, NoFaults, RelPath};
 use std::alloc::{AllocError, Global};
 use std::cmp::Ordering;
-use std::collections::BTreeMap;
+use std::collections::{BTreeMap, BTreeSet};
 
 /// A project in memory. One plan says which of its own calls fail, and each folder begins another
 /// plan from its first call.
@@ -118,7 +118,8 @@ impl<P: Faults + Drop + Send> Store for MemStore<P> {
         if self.plan.fails() {
             return Err(StoreFault::Failed);
         }
-        Ok(environments_of(alloc, &self.builds)?)
+        let envs = environments_of(alloc, &self.builds)?;
+        Ok(in_order(alloc, envs)?)
     }
 
     fn apps(&mut self, alloc: Global, env: &AppName) -> Result<Vec<AppName>, StoreFault> {
@@ -208,22 +209,29 @@ fn apps_of(
     Ok(apps)
 }
 
-// The environments of which something is kept, each once: keys are ordered by them.
+// The environments of which something is kept, each once.
 fn environments_of(
     alloc: Global,
     builds: &BTreeMap<BuildKey, Option<Holding>>,
-) -> Result<Vec<AppName>, AllocError>
-    ensures envs { IfOk result (λ envs. AreEnvironments
-        (λ key. slot_of (get key_cmp builds.now key)) envs.items) }
-    ensures in_order { IfOk result (λ envs. AreNamesInOrder envs.items) }
+) -> Result<BTreeSet<AppName>, AllocError>
+    ensures envs { IfOk result (λ envs. envs.keys ≡ inserted [] (envs_in builds.now.entries)) }
+    ensures ordered { IfOk result (λ _. IsOrdered key_cmp builds.now) }
 {
-    let mut envs: Vec<AppName> = Vec::new(alloc);
+    let mut envs = BTreeSet::new(alloc);
     for (key, slot) in builds {
-        if keeps_any(slot) && envs.last() != Some(&key.env) {
-            envs.push(key.env.clone()?)?;
+        if keeps_any(slot) {
+            envs.insert(key.env.clone()?)?;
         }
     }
     Ok(envs)
+}
+
+fn in_order(alloc: Global, names: BTreeSet<AppName>) -> Result<Vec<AppName>, AllocError>
+    ensures names { IfOk result (λ listed. listed.items ≡ names.keys) }
+    ensures in_order { IfOk result (λ listed. AreNamesInOrder listed.items) }
+{
+    let listed = names.into_iter().collect(alloc)?;
+    Ok(listed)
 }
 
 fn keeps_any(slot: &Option<Holding>) -> bool

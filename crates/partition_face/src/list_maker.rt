@@ -1,0 +1,71 @@
+// A maker that hands out given partitions.
+ghost use Rattle.std.specs.Prelude.{◌≡◌};
+ghost use Rattle.std.specs.List.{All};
+ghost use Rattle.partition_face.specs.Counts.{fresh};
+ghost use Rattle.partition_face.specs.Makers.{new_maker};
+
+use crate::counts::Counts;
+use crate::maker::{Maker, MakerFault};
+use crate::partition::Partition;
+use mx_base::Count;
+use std::alloc::Global;
+use std::mem;
+
+/// Hands out the first of its partitions, in their order, as many as it is asked for, and then the next of them.
+/// Where it has fewer that counts as a fault.
+#[derive(Drop)]
+pub struct ListMaker<P: Partition> {
+    waiting: Vec<P>,
+    stopped: Counts,
+    asked: u64,
+    faults: Count,
+    pub ghost ready: { All (λ partition. P.counted partition ≡ fresh) waiting.items },
+}
+
+impl<P: Partition + Drop> ListMaker<P> {
+    /// A maker of these partitions, none of which has made a run or died.
+    pub fn new(partitions: Vec<P>) -> ListMaker<P>
+        requires { All (λ partition. P.counted partition ≡ fresh) partitions.items }
+        ensures { ⟦<ListMaker<P> as Maker>⟧.known result ≡ new_maker }
+    {
+        ListMaker {
+            waiting: partitions,
+            stopped: Counts::new(),
+            asked: 0,
+            faults: Count::new(),
+        }
+    }
+}
+
+impl<P: Partition + Drop> Maker for ListMaker<P> {
+    type P = P;
+
+    ghost known = { λ maker. record {
+      runs = maker.stopped.runs;
+      deaths = maker.stopped.deaths;
+      asked = maker.asked;
+      faults = maker.faults;
+    } };
+
+    fn start(&mut self, _alloc: Global, n: u32) -> Result<Vec<P>, MakerFault> {
+        self.asked = self.asked.saturating_add(n as u64);
+        let wanted = n as usize;
+        let given = self.waiting.len().min(wanted);
+        let rest = self.waiting.split_off(given)?;
+        let started = mem::replace(&mut self.waiting, rest);
+        if given < wanted {
+            self.faults.raise();
+        }
+        if given == 0 && wanted > 0 {
+            return Err(MakerFault::Failed);
+        }
+        Ok(started)
+    }
+
+    fn stop(&mut self, partitions: Vec<P>) {
+        for partition in partitions {
+            let counts = partition.counts();
+            self.stopped = self.stopped.plus(counts);
+        }
+    }
+}
