@@ -14,7 +14,14 @@ use Rattle.compile_model.specs.declared.outcome.Fate.TheVariants.{Built, Failed,
 use Rattle.compile_model.specs.Seq.{HoldsInOrder}
 use Rattle.tree_store.specs.declared.key.BuildKey.{BuildKey}
 use Rattle.tree_store.specs.Key.{is_same_build}
-use Rattle.tree_store.specs.Files.{put_file, put_all, with_file, without_file, emptied, PutsPartly}
+use Rattle.tree_store.specs.declared.holding.Holding.{Holding}
+use Rattle.tree_store.specs.Files.{put_file, without_file, cut_at}
+use Rattle.tree_store.specs.FolderKnown.{FolderKnown, IsStopped}
+use Rattle.tree_store.specs.FolderKnown.IsStopped.{begun as opened, not_begun}
+use Rattle.tree_store.specs.Holding.{nothing, only_files, unmarked, with_all}
+use Rattle.tree_store.specs.Moment.{Part, leaves}
+use Rattle.tree_store.specs.Moment.Part.{Whole, Untouched, Gone, Begun, Those}
+use Rattle.tree_store.specs.Moment.Write.{Put}
 use Rattle.tree_store.specs.Slot.{Slot, emptied_slot, slot_with}
 use Rattle.tree_store.specs.Slot.Slot.{Here, Out}
 use Rattle.tree_store.proofs.FilesLemmas.{put_all_in_order}
@@ -47,12 +54,13 @@ without_behind (p ∷ ps) f post o =
     ap (λ (r : Ordering). cond (not (is_eq r)) (p ∷ without_file f.path ps) (without_file f.path ps)) (less_back p.path f.path (before_at p.path ps f post o.0))
     ∙ ap (λ (fs : List File). p ∷ fs) (without_behind ps f post o.1)
 
-map_const : (g : List File → List File) (xs : List File) (o : Option (List File)) → option_map g (option_map (λ h. xs) o) ≡ option_map (λ h. g xs) o
-map_const g xs None = refl
-map_const g xs (Some h) = refl
+-- just these files are held, where anything was told
+abbrev just : List File → Option Holding → Option Holding
+just xs told = option_map (λ held. only_files xs) told
 
-abbrev just : List File → Option (List File) → Option (List File)
-just xs o = option_map (λ h. xs) o
+map_just : (g : Holding → Holding) (xs : List File) (told : Option Holding) → option_map g (just xs told) ≡ option_map (λ held. g (only_files xs)) told
+map_just g xs None = refl
+map_just g xs (Some held) = refl
 
 next : (files : List File) (k : ℕ) (file : File) → k < length files → get_or files k file ≡ file → drop k files ≡ file ∷ drop (suc k) files
 next files k file lt is = drop-cons files k file lt ∙ ap (λ (f : File). f ∷ drop (suc k) files) is
@@ -62,45 +70,58 @@ split files k file lt is order =
     subst AreInOrder (sym (take-append-drop k files) ∙ ap (λ (fs : List File). take k files ++ fs) (next files k file lt is)) order
 
 -- one file more was put
-pub put_next : (files : List File) (k : ℕ) (file : File) (old mid new : Option (List File)) → k < length files → get_or files k file ≡ file → AreInOrder files → mid ≡ just (take k files) old → new ≡ with_file file mid → new ≡ just (take (k + 1) files) old
+pub put_next : (files : List File) (k : ℕ) (file : File) (old mid new : Option Holding) → k < length files → get_or files k file ≡ file → AreInOrder files → mid ≡ just (take k files) old → new ≡ option_map (leaves (Put file) Whole) mid → new ≡ just (take (k + 1) files) old
 put_next files k file old mid new lt is order m e =
-    e ∙ ap (with_file file) m ∙ map_const (put_file file) (take k files) old
+    e ∙ ap (option_map (leaves (Put file) Whole)) m ∙ map_just (leaves (Put file) Whole) (take k files) old
     ∙ ap (λ (fs : List File). just fs old)
     (put_behind (take k files) file file (drop (suc k) files) (split files k file lt is order) refl
     ∙ ap (λ (f : File). take k files ++ f ∷ []) (sym is) ∙ sym (take_more files k file lt))
 
--- the next one was put in part
-pub put_last_partly : (files : List File) (k : ℕ) (file : File) (old mid new : Option (List File)) → k < length files → get_or files k file ≡ file → AreInOrder files → mid ≡ just (take k files) old → PutsPartly file mid new → (whole : ℕ) × (part : Option ℕ) × (new ≡ just (begun whole part files) old)
-put_last_partly files k file old mid new lt is order m (inl e) =
-    (k, None, e ∙ m ∙ ap (λ (fs : List File). just fs old) (sym (append-nil (take k files))))
-put_last_partly files k file old mid new lt is order m (inr (inl e)) = (
-  k,
-  None,
-  e ∙ ap (option_map (without_file file.path)) m ∙ map_const (without_file file.path) (take k files) old
-      ∙ ap (λ (fs : List File). just fs old) (without_behind (take k files) file (drop (suc k) files) (split files k file lt is order) ∙ sym (append-nil (take k files))),
-)
-put_last_partly files k file old mid new lt is order m (inr (inr (n, e))) =
-    let cut : File = record { path = file.path; bytes = take n file.bytes } in (
-      k,
-      Some n,
-      e ∙ ap (with_file cut) m ∙ map_const (put_file cut) (take k files) old
-          ∙ ap (λ (fs : List File). just fs old)
-          (put_behind (take k files) file cut (drop (suc k) files) (split files k file lt is order) refl
-          ∙ ap (λ (fs : List File). take k files ++ cut_file (Some n) fs) (sym (next files k file lt is))),
-    )
+-- so many files, and of the next one nothing or a prefix
+abbrev pub HoldsBegun : List File → Option Holding → Option Holding → Type 0
+HoldsBegun files old new = (whole : ℕ) × (part : Option ℕ) × (new ≡ just (begun whole part files) old)
 
-here_same : (a b : Option (List File)) → Here a ≡ Here b → a ≡ b
+none_more : (files : List File) (k : ℕ) (old new : Option Holding) → new ≡ just (take k files) old → HoldsBegun files old new
+none_more files k old new e = (k, None, e ∙ ap (λ (fs : List File). just fs old) (sym (append-nil (take k files))))
+
+-- the next one was put in part
+put_in_part : (files : List File) (k : ℕ) (file : File) (old mid new : Option Holding) (part : Part) → k < length files → get_or files k file ≡ file → AreInOrder files → mid ≡ just (take k files) old → new ≡ option_map (leaves (Put file) part) mid → HoldsBegun files old new
+put_in_part files k file old mid new Whole lt is order m e = none_more files (k + 1) old new (put_next files k file old mid new lt is order m e)
+put_in_part files k file old mid new Untouched lt is order m e =
+    none_more files k old new (e ∙ ap (option_map (leaves (Put file) Untouched)) m ∙ map_just (leaves (Put file) Untouched) (take k files) old)
+put_in_part files k file old mid new (Those stays) lt is order m e =
+    none_more files k old new (e ∙ ap (option_map (leaves (Put file) (Those stays))) m ∙ map_just (leaves (Put file) (Those stays)) (take k files) old)
+put_in_part files k file old mid new Gone lt is order m e =
+    none_more files k old new
+    (e ∙ ap (option_map (leaves (Put file) Gone)) m ∙ map_just (leaves (Put file) Gone) (take k files) old
+    ∙ ap (λ (fs : List File). just fs old) (without_behind (take k files) file (drop (suc k) files) (split files k file lt is order)))
+put_in_part files k file old mid new (Begun n) lt is order m e = (
+  k,
+  Some n,
+  e ∙ ap (option_map (leaves (Put file) (Begun n))) m ∙ map_just (leaves (Put file) (Begun n)) (take k files) old
+      ∙ ap (λ (fs : List File). just fs old)
+      (put_behind (take k files) file (cut_at n file) (drop (suc k) files) (split files k file lt is order) refl
+      ∙ ap (λ (fs : List File). take k files ++ cut_file (Some n) fs) (sym (next files k file lt is))),
+)
+
+-- .. or not at all
+pub put_last_partly : (files : List File) (k : ℕ) (file : File) (old : Option Holding) (mid new : FolderKnown) → k < length files → get_or files k file ≡ file → AreInOrder files → mid.held ≡ just (take k files) old → IsStopped (Put file) mid new → HoldsBegun files old new.held
+put_last_partly files k file old mid new lt is order m (opened part e) = put_in_part files k file old mid.held new.held part lt is order m (ap (λ (f : FolderKnown). f.held) e)
+put_last_partly files k file old mid new lt is order m (not_begun e) = none_more files k old new.held (ap (λ (f : FolderKnown). f.held) e ∙ m)
+
+here_same : (a b : Option Holding) → Here a ≡ Here b → a ≡ b
 here_same a b e = cc
 
 -- the same of slots
-pub begins_slot : (files : List File) (old new : Option (List File)) (from to : Slot) → Here old ≡ from → to ≡ Here new → BeginsHeld files old new → BeginsSlot files from to
+pub begins_slot : (files : List File) (old new : Option Holding) (from to : Slot) → Here old ≡ from → to ≡ Here new → BeginsHeld files old new → BeginsSlot files from to
 begins_slot files old new from to is was begins order empty =
-    let none : old ≡ emptied old = here_same old (emptied old) (subst (λ (s : Slot). s ≡ emptied_slot s) (sym is) empty) in
+    let none : old ≡ option_map (λ held. nothing) old = here_same old (option_map (λ held. nothing) old) (subst (λ (s : Slot). s ≡ emptied_slot s) (sym is) empty) in
     let b = begins order none in
     (b.0, b.1, was ∙ ap Here b.2 ∙ ap (slot_with (begun b.0 b.1 files)) is)
 
 emptied_with_none : (s : Slot) → emptied_slot s ≡ slot_with [] s
-emptied_with_none (Here held) = refl
+emptied_with_none (Here None) = refl
+emptied_with_none (Here (Some held)) = refl
 emptied_with_none Out = refl
 
 -- what is empty has begun with none
@@ -167,9 +188,9 @@ order_of (Skipped n) order = tt
 
 once_own : (fate : Fate) (s : Slot) → HoldsInOrder fate → IsEmpty s → filled_once true fate s ≡ slot_with (files_of fate) s
 once_own (Built o) (Here None) order empty = refl
-once_own (Built o) (Here (Some h)) order empty =
-    let none : h ≡ [] = cc in
-    ap (λ (fs : List File). Here (Some (put_all fs o.files))) none ∙ ap (λ (fs : List File). Here (Some fs)) (put_all_in_order o.files order)
+once_own (Built o) (Here (Some held)) order empty =
+    let none : held ≡ nothing = cc in
+    ap (λ (h : Holding). Here (Some (with_all o.files (unmarked h)))) none ∙ ap (λ (fs : List File). Here (Some (only_files fs))) (put_all_in_order o.files order)
 once_own (Built o) Out order empty = refl
 once_own (Failed o) s order empty = empty ∙ emptied_with_none s
 once_own (Skipped n) s order empty = empty ∙ emptied_with_none s

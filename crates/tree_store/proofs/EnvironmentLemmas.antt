@@ -1,5 +1,5 @@
 -- The environments of the entries of a store in memory.
-use Rattle.std.proofs.Common.{◌≡◌, ℕ, zero, suc, Bool, true, false, cond, ◌⊎◌, inl, inr, Option, Some, None, IsSome, List, [], ◌∷◌, refl, sym, ◌∙◌, ap, subst, arith, Contains}
+use Rattle.std.proofs.Common.{◌≡◌, ℕ, zero, suc, Bool, true, false, cond, ◌⊎◌, inl, inr, Option, Some, None, IsSome, is_some, List, [], ◌∷◌, refl, sym, ◌∙◌, ap, subst, arith, Contains}
 use Rattle.std.specs.declared.cmp.Ordering.{Ordering}
 use Rattle.std.specs.declared.cmp.Ordering.TheVariants.{Less, Equal, Greater}
 use Rattle.std.specs.Ordering.{is_eq, match_ordering}
@@ -36,13 +36,13 @@ contains_as xs a b e c = subst (λ (n : List ℕ). Contains xs n) e c
 
 stays_in : (xs : Names) (k a : List ℕ) → Contains xs a → Contains (insert_key text_cmp xs k) a
 stays_in [] k a c = contains_more k [] a c
-stays_in (x ∷ xs) k a c = at (text_cmp k x) (contains_either x xs a c)
+stays_in (x ∷ xs) k a c = at (text_cmp k x) (contains_either x xs a c) (stays_in xs k a)
   where
-    at : (r : Ordering) → (x ≡ a) ⊎ Contains xs a → Contains (match_ordering r (k ∷ x ∷ xs) (x ∷ xs) (x ∷ insert_key text_cmp xs k)) a
-    at Less e = contains_more k (x ∷ xs) a c
-    at Equal e = c
-    at Greater (inl e) = contains_as (x ∷ insert_key text_cmp xs k) x a e (contains_first x (insert_key text_cmp xs k))
-    at Greater (inr d) = contains_more x (insert_key text_cmp xs k) a (stays_in xs k a d)
+    at : (r : Ordering) → (x ≡ a) ⊎ Contains xs a → (Contains xs a → Contains (insert_key text_cmp xs k) a) → Contains (match_ordering r (k ∷ x ∷ xs) (x ∷ xs) (x ∷ insert_key text_cmp xs k)) a
+    at Less e rest = contains_more k (x ∷ xs) a c
+    at Equal e rest = c
+    at Greater (inl e) rest = contains_as (x ∷ insert_key text_cmp xs k) x a e (contains_first x (insert_key text_cmp xs k))
+    at Greater (inr d) rest = contains_more x (insert_key text_cmp xs k) a (rest d)
 
 is_in : (xs : Names) (k : List ℕ) → Contains (insert_key text_cmp xs k) k
 is_in [] k = contains_first k []
@@ -53,22 +53,22 @@ is_in (x ∷ xs) k = at (text_cmp k x) refl (is_in xs k)
     at Equal e rest = contains_as (x ∷ xs) x k (sym (same_name k x (ap is_eq e))) (contains_first x xs)
     at Greater e rest = contains_more x (insert_key text_cmp xs k) k rest
 
+further : (x : List ℕ) (xs : Names) (k a : List ℕ) → (k ≡ a) ⊎ Contains xs a → (k ≡ a) ⊎ Contains (x ∷ xs) a
+further x xs k a (inl e) = inl e
+further x xs k a (inr c) = inr (contains_more x xs a c)
+
 came_from : (xs : Names) (k a : List ℕ) → Contains (insert_key text_cmp xs k) a → (k ≡ a) ⊎ Contains xs a
 came_from [] k a c = contains_either k [] a c
-came_from (x ∷ xs) k a c = at (text_cmp k x) c
+came_from (x ∷ xs) k a c = at (text_cmp k x) c (came_from xs k a)
   where
-    rest : (x ≡ a) ⊎ Contains (insert_key text_cmp xs k) a → (k ≡ a) ⊎ Contains (x ∷ xs) a
-    rest (inl e) = inr (contains_as (x ∷ xs) x a e (contains_first x xs))
-    rest (inr d) = further (came_from xs k a d)
-      where
-        further : (k ≡ a) ⊎ Contains xs a → (k ≡ a) ⊎ Contains (x ∷ xs) a
-        further (inl e) = inl e
-        further (inr f) = inr (contains_more x xs a f)
+    later : (x ≡ a) ⊎ Contains (insert_key text_cmp xs k) a → (Contains (insert_key text_cmp xs k) a → (k ≡ a) ⊎ Contains xs a) → (k ≡ a) ⊎ Contains (x ∷ xs) a
+    later (inl e) rest = inr (contains_as (x ∷ xs) x a e (contains_first x xs))
+    later (inr d) rest = further x xs k a (rest d)
 
-    at : (r : Ordering) → Contains (match_ordering r (k ∷ x ∷ xs) (x ∷ xs) (x ∷ insert_key text_cmp xs k)) a → (k ≡ a) ⊎ Contains (x ∷ xs) a
-    at Less d = contains_either k (x ∷ xs) a d
-    at Equal d = inr d
-    at Greater d = rest (contains_either x (insert_key text_cmp xs k) a d)
+    at : (r : Ordering) → Contains (match_ordering r (k ∷ x ∷ xs) (x ∷ xs) (x ∷ insert_key text_cmp xs k)) a → (Contains (insert_key text_cmp xs k) a → (k ≡ a) ⊎ Contains xs a) → (k ≡ a) ⊎ Contains (x ∷ xs) a
+    at Less d rest = contains_either k (x ∷ xs) a d
+    at Equal d rest = inr d
+    at Greater d rest = later (contains_either x (insert_key text_cmp xs k) a d) rest
 
 stays_inserted : (xs ns : Names) (a : List ℕ) → Contains xs a → Contains (inserted xs ns) a
 stays_inserted xs [] a c = c
@@ -76,11 +76,11 @@ stays_inserted xs (n ∷ ns) a c = stays_inserted (insert_key text_cmp xs n) ns 
 
 is_inserted : (xs ns : Names) (a : List ℕ) → Contains ns a → Contains (inserted xs ns) a
 is_inserted xs [] a c = absurd (omega (arith, c.1))
-is_inserted xs (n ∷ ns) a c = at (contains_either n ns a c)
+is_inserted xs (n ∷ ns) a c = at (contains_either n ns a c) (is_inserted (insert_key text_cmp xs n) ns a)
   where
-    at : (n ≡ a) ⊎ Contains ns a → Contains (inserted (insert_key text_cmp xs n) ns) a
-    at (inl e) = stays_inserted (insert_key text_cmp xs n) ns a (contains_as (insert_key text_cmp xs n) n a e (is_in xs n))
-    at (inr d) = is_inserted (insert_key text_cmp xs n) ns a d
+    at : (n ≡ a) ⊎ Contains ns a → (Contains ns a → Contains (inserted (insert_key text_cmp xs n) ns) a) → Contains (inserted (insert_key text_cmp xs n) ns) a
+    at (inl e) rest = stays_inserted (insert_key text_cmp xs n) ns a (contains_as (insert_key text_cmp xs n) n a e (is_in xs n))
+    at (inr d) rest = rest d
 
 inserted_from : (xs ns : Names) (a : List ℕ) → Contains (inserted xs ns) a → Contains xs a ⊎ Contains ns a
 inserted_from xs [] a c = inl c
@@ -102,7 +102,7 @@ kept_first (Some held) h = h
 
 each_env : (key : BuildKey) (es : Entries) → HasAny (slot_of (lookup (is_at (key_cmp key)) es)) → Contains (envs_in es) key.env
 each_env key [] h = cc
-each_env key (e ∷ es) h = at (is_same_build key e.0) refl h
+each_env key (e ∷ es) h = at (is_same_build key e.0) refl h (each_env key es)
   where
     more : (b : Bool) → Contains (envs_in es) key.env → Contains (cond b (e.0.env ∷ envs_in es) (envs_in es)) key.env
     more true c = contains_more e.0.env (envs_in es) key.env c
@@ -112,9 +112,9 @@ each_env key (e ∷ es) h = at (is_same_build key e.0) refl h
     first true is e = contains_as (_ ∷ envs_in es) _ key.env e (contains_first _ (envs_in es))
     first false is e = cc
 
-    at : (b : Bool) → is_same_build key e.0 ≡ b → HasAny (slot_of (cond b (Some e.1) (lookup (is_at (key_cmp key)) es))) → Contains (envs_in (e ∷ es)) key.env
-    at true is has = first (keeps_any e.1) (kept_first e.1 has) (sym (same_key key e.0 is).0)
-    at false is has = more (keeps_any e.1) (each_env key es has)
+    at : (b : Bool) → is_same_build key e.0 ≡ b → HasAny (slot_of (cond b (Some e.1) (lookup (is_at (key_cmp key)) es))) → (HasAny (slot_of (lookup (is_at (key_cmp key)) es)) → Contains (envs_in es) key.env) → Contains (envs_in (e ∷ es)) key.env
+    at true is has rest = first (keeps_any e.1) (kept_first e.1 has) (sym (same_key key e.0 is).0)
+    at false is has rest = more (keeps_any e.1) (rest has)
 
 none_later : (key : BuildKey) (es : Entries) → AllByRecursion (λ k. key_cmp key k ≡ Less) (keys_of es) → lookup (is_at (key_cmp key)) es ≡ None
 none_later key [] all = refl
@@ -133,7 +133,7 @@ app_here : (env : List ℕ) (e : BuildKey × Option Holding) (es : Entries) → 
 app_here env e es kept is =
     let key : BuildKey = record { env = env; app = e.0.app } in
     let found : lookup (is_at (key_cmp key)) (e ∷ es) ≡ Some e.1 = ap (λ (b : Bool). cond b (Some e.1) (lookup (is_at (key_cmp key)) es)) (is_same key e.0 (sym is) refl) in
-    (e.0.app, ap (λ (o : Option (Option Holding)). Rattle.std.specs.Option.is_some o) found, subst (λ (o : Option (Option Holding)). MayHaveAny (slot_of o)) (sym found) (may_keep e.1 kept))
+    (e.0.app, ap (λ (o : Option (Option Holding)). is_some o) found, subst (λ (o : Option (Option Holding)). MayHaveAny (slot_of o)) (sym found) (may_keep e.1 kept))
 
 app_later : (env : List ℕ) (e : BuildKey × Option Holding) (es : Entries) → AllByRecursion (λ k. key_cmp e.0 k ≡ Less) (keys_of es) → HasApp env es → HasApp env (e ∷ es)
 app_later env e es all (app, there, may) = at (is_same_build key e.0) refl
@@ -144,7 +144,7 @@ app_later env e es all (app, there, may) = at (is_same_build key e.0) refl
     at : (b : Bool) → is_same_build key e.0 ≡ b → HasApp env (e ∷ es)
     at true is =
         let none : lookup (is_at (key_cmp key)) es ≡ None = ap (λ (k : BuildKey). lookup (is_at (key_cmp k)) es) (one_key key e.0 is) ∙ none_later e.0 es all in
-        let clash : IsSome {A = Option Holding} None = subst (λ (o : Option (Option Holding)). IsSome o) none there in
+        let clash : false ≡ true = subst (λ (o : Option (Option Holding)). IsSome o) none there in
         cc
     at false is =
         let found : lookup (is_at (key_cmp key)) (e ∷ es) ≡ lookup (is_at (key_cmp key)) es = ap (λ (b : Bool). cond b (Some e.1) (lookup (is_at (key_cmp key)) es)) is in
@@ -153,15 +153,15 @@ app_later env e es all (app, there, may) = at (is_same_build key e.0) refl
 only_env : (env : List ℕ) (es : Entries) → IsStrictlySortedBy key_cmp (keys_of es) → Contains (envs_in es) env → HasApp env es
 unfolding IsStrictlySortedBy
 only_env env [] order c = absurd (omega (arith, c.1))
-only_env env (e ∷ es) order c = at (keeps_any e.1) refl c
+only_env env (e ∷ es) order c = at (keeps_any e.1) refl c (only_env env es order.1) order.0
   where
-    either : (e.0.env ≡ env) ⊎ Contains (envs_in es) env → keeps_any e.1 ≡ true → HasApp env (e ∷ es)
-    either (inl is) kept = app_here env e es kept is
-    either (inr d) kept = app_later env e es order.0 (only_env env es order.1 d)
+    either : (e.0.env ≡ env) ⊎ Contains (envs_in es) env → keeps_any e.1 ≡ true → (Contains (envs_in es) env → HasApp env es) → AllByRecursion (λ k. key_cmp e.0 k ≡ Less) (keys_of es) → HasApp env (e ∷ es)
+    either (inl is) kept rest all = app_here env e es kept is
+    either (inr d) kept rest all = app_later env e es all (rest d)
 
-    at : (b : Bool) → keeps_any e.1 ≡ b → Contains (cond b (e.0.env ∷ envs_in es) (envs_in es)) env → HasApp env (e ∷ es)
-    at true kept d = either (contains_either e.0.env (envs_in es) env d) kept
-    at false kept d = app_later env e es order.0 (only_env env es order.1 d)
+    at : (b : Bool) → keeps_any e.1 ≡ b → Contains (cond b (e.0.env ∷ envs_in es) (envs_in es)) env → (Contains (envs_in es) env → HasApp env es) → AllByRecursion (λ k. key_cmp e.0 k ≡ Less) (keys_of es) → HasApp env (e ∷ es)
+    at true kept d rest all = either (contains_either e.0.env (envs_in es) env d) kept rest all
+    at false kept d rest all = app_later env e es all (rest d)
 
 pub are_environments : (envs : Names) (es : Entries) → envs ≡ inserted [] (envs_in es) → IsStrictlySortedBy key_cmp (keys_of es) → AreEnvironments (λ key. slot_of (lookup (is_at (key_cmp key)) es)) envs
 are_environments envs es is order = record {

@@ -4,15 +4,16 @@ use Rattle.std.proofs.lemmas.List.{append-nil}
 use Rattle.mx_base.specs.declared.file.File.{File}
 use Rattle.tree_store.specs.declared.holding.Holding.{Holding}
 use Rattle.tree_store.specs.declared.store.StoreFault.{StoreFault}
+use Rattle.tree_store.specs.Holding.{with_all}
 use Rattle.tree_store.specs.Moment.{Write, Part, Moment, leaves, after_all, after_moments, IsImage}
 use Rattle.tree_store.specs.Moment.Write.{Unmark, Clear, Put, Mark}
 use Rattle.tree_store.specs.Moment.Part.{Whole, Untouched, Gone, Begun, Those}
-use Rattle.tree_store.specs.FolderKnown.{FolderKnown, IsStopped, StopsIn, Writes, Looks, written}
+use Rattle.tree_store.specs.FolderKnown.{FolderKnown, IsStopped, IsUnmarked, StopsIn, Writes, written}
 use Rattle.tree_store.specs.FolderKnown.IsStopped.{begun, not_begun}
 
 -- what is told has this
-pub told_has : {Q : Holding → Type 0} (told : Option Holding) (held : Holding) → told ≡ Some held → IfSome told Q → Q held
-told_has {Q = Q} told held is has = subst (λ (o : Option Holding). IfSome o Q) is has
+pub told_has : (Q : Holding → Type 0) (told : Option Holding) (held : Holding) → told ≡ Some held → IfSome told Q → Q held
+told_has Q told held is has = subst (λ (o : Option Holding). IfSome o Q) is has
 
 pub if_told : {Q : Holding → Type 0} (told : Option Holding) → ((held : Holding) → told ≡ Some held → Q held) → IfSome told Q
 if_told None each = tt
@@ -64,8 +65,8 @@ stops_then P a b c first next = record {
 }
   where
     at : (held : Holding) → a.held ≡ Some held → (image : Holding) → IsImage first.more held image ⊎ IsImage next.more (after_all first.more held) image → P image
-    at held is image (inl early) = told_has a.held held is first.each image early
-    at held is image (inr late) = told_has b.held (after_all first.more held) (first.held ∙ ap (option_map (after_all first.more)) is) next.each image late
+    at held is image (inl early) = told_has (λ h. (image : Holding) → IsImage first.more h image → P image) a.held held is first.each image early
+    at held is image (inr late) = told_has (λ h. (image : Holding) → IsImage next.more h image → P image) b.held (after_all first.more held) (first.held ∙ ap (option_map (after_all first.more)) is) next.each image late
 
 -- where nothing was written
 pub stops_still : (P : Holding → Type 0) (old new : FolderKnown) → new ≡ record old { faults = new.faults } → IfSome old.held P → StopsIn P old new
@@ -74,7 +75,7 @@ stops_still P old new same has = record {
   told = ap (λ (f : FolderKnown). f.moments) same ∙ moments_same old.moments;
   held = ap (λ (f : FolderKnown). f.held) same ∙ held_same old.held;
   key = ap (λ (f : FolderKnown). f.key) same;
-  each = if_told old.held (λ held is image now. subst P (sym now) (told_has old.held held is has));
+  each = if_told old.held (λ held is image now. subst P (sym now) (told_has P old.held held is has));
 }
 
 stops_at_part : (P : Holding → Type 0) (write : Write) (part : Part) (old new : FolderKnown) → new ≡ written write part new.faults old → IfSome old.held (λ held. (part : Part) → P (leaves write part held)) → StopsIn P old new
@@ -83,7 +84,7 @@ stops_at_part P write part old new is has = record {
   told = ap (λ (f : FolderKnown). f.moments) is;
   held = ap (λ (f : FolderKnown). f.held) is;
   key = ap (λ (f : FolderKnown). f.key) is;
-  each = if_told old.held (λ held told image i. at held (told_has old.held held told has) image i);
+  each = if_told old.held (λ held told image i. at held (told_has (λ h. (part : Part) → P (leaves write part h)) old.held held told has) image i);
 }
   where
     at : (held : Holding) → ((part : Part) → P (leaves write part held)) → (image : Holding) → ((p : Part) × (image ≡ leaves write p held)) ⊎ (image ≡ leaves write part held) → P image
@@ -103,7 +104,7 @@ stops_at_write P write old new (Err e) writes has = at writes.stopped
 
     at : IsStopped write old new → StopsIn P old new
     at (begun part is) = stops_at_part P write part old new is has
-    at (not_begun same) = stops_still P old new same (if_told old.held (λ held is. subst P (untouched write held) (told_has old.held held is has Untouched)))
+    at (not_begun same) = stops_still P old new same (if_told old.held (λ held is. subst P (untouched write held) (told_has (λ h. (part : Part) → P (leaves write part h)) old.held held is has Untouched)))
 
 -- what stands after all is what a stop leaves
 pub stops_end : (P : Holding → Type 0) (old new : FolderKnown) → StopsIn P old new → IfSome new.held P
@@ -113,7 +114,21 @@ stops_end P old new stops = at old.held refl
     at None is = subst (λ (o : Option Holding). IfSome o P) (sym (stops.held ∙ ap (option_map (after_all stops.more)) is)) tt
     at (Some held) is =
         subst (λ (o : Option Holding). IfSome o P) (sym (stops.held ∙ ap (option_map (after_all stops.more)) is))
-        (told_has old.held held is stops.each (after_all stops.more held) (last_image stops.more held))
+        (told_has (λ h. (image : Holding) → IsImage stops.more h image → P image) old.held held is stops.each (after_all stops.more held) (last_image stops.more held))
+
+-- a file more is put
+pub put_more : (file : File) (files : List File) (told : Option Holding) → option_map (with_all files) (option_map (leaves (Put file) Whole) told) ≡ option_map (with_all (file ∷ files)) told
+put_more file files None = refl
+put_more file files (Some held) = refl
+
+-- .. no mark stands still
+pub put_keeps_unmarked : (file : File) (old new : FolderKnown) → new ≡ written (Put file) Whole new.faults old → IsUnmarked old → IsUnmarked new
+put_keeps_unmarked file old new is bare =
+    subst (λ (o : Option Holding). IfSome o (λ held. held.mark ≡ None)) (sym (ap (λ (f : FolderKnown). f.held) is)) (at old.held bare)
+  where
+    at : (told : Option Holding) → IfSome told (λ held. held.mark ≡ None) → IfSome (option_map (leaves (Put file) Whole) told) (λ held. held.mark ≡ None)
+    at None none = tt
+    at (Some held) none = none
 
 -- a file that is put changes no mark
 pub put_keeps_mark : (file : File) (part : Part) (held : Holding) → (leaves (Put file) part held).mark ≡ held.mark
@@ -122,3 +137,12 @@ put_keeps_mark file Untouched held = refl
 put_keeps_mark file Gone held = refl
 put_keeps_mark file (Begun count) held = refl
 put_keeps_mark file (Those stays) held = refl
+
+-- a write leaves the folder that of its build
+pub writes_key : {X : Type 0} (write : Write) (old new : FolderKnown) (result : Result X StoreFault) → Writes write old new result → new.key ≡ old.key
+writes_key write old new (Ok x) writes = ap (λ (f : FolderKnown). f.key) writes.ended
+writes_key write old new (Err e) writes = at writes.stopped
+  where
+    at : IsStopped write old new → new.key ≡ old.key
+    at (begun part is) = ap (λ (f : FolderKnown). f.key) is
+    at (not_begun same) = ap (λ (f : FolderKnown). f.key) same

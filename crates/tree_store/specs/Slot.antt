@@ -4,7 +4,7 @@ use Rattle.mx_base.specs.declared.file.File.{File}
 use Rattle.mx_base.specs.Order.{ArePathsInOrder}
 use Rattle.tree_store.specs.declared.holding.Holding.{Holding}
 use Rattle.tree_store.specs.declared.key.BuildKey.{BuildKey}
-use Rattle.tree_store.specs.Holding.{nothing, has_any, only_files, with_all}
+use Rattle.tree_store.specs.Holding.{nothing, has_any, only_files, unmarked, with_all}
 use Rattle.tree_store.specs.Key.{is_same_build}
 
 pub data Slot : Type 0 where
@@ -38,9 +38,9 @@ changed_slot change Out = Out
 abbrev pub emptied_slot : Slot → Slot
 emptied_slot slot = changed_slot (λ held. nothing) slot
 
--- these files were put into it
+-- its mark was taken away, and these files were put into it
 abbrev pub filled_slot : List File → Slot → Slot
-filled_slot files slot = changed_slot (with_all files) slot
+filled_slot files slot = changed_slot (λ held. with_all files (unmarked held)) slot
 
 -- the slot of a build with just these files and no mark, where it tells what it holds
 abbrev pub slot_with : List File → Slot → Slot

@@ -2,12 +2,12 @@
 ghost use Rattle.std.specs.Prelude.{◌≡◌, [], Some, false, All, IsTrue, IsFalse, IfOk, OnOk, OnErr};
 ghost use Rattle.std.specs.BTreeMap.{get, IsOrdered};
 ghost use Rattle.mx_base.specs.Blame.{fails};
-ghost use Rattle.mx_base.specs.Order.{ArePathsInOrder};
+ghost use Rattle.mx_base.specs.Order.{AreInOrder, ArePathsInOrder};
 ghost use Rattle.mx_base.specs.Path.{is_below};
 ghost use Rattle.tree_store.specs.declared.key.BuildKey.{BuildKey};
 ghost use Rattle.tree_store.specs.Blame.{blame_of};
 ghost use Rattle.mx_base.specs.Layout.{is_in_build};
-ghost use Rattle.tree_store.specs.Files.{outside_build, paths_below};
+ghost use Rattle.tree_store.specs.Files.{outside_build, paths_below, put_file};
 ghost use Rattle.tree_store.specs.Key.{key_cmp};
 ghost use Rattle.tree_store.specs.Holding.{nothing};
 ghost use Rattle.tree_store.specs.MemStore.{slot_of, apps_in, envs_in, inserted, keeps_any};
@@ -92,10 +92,7 @@ impl<P: Faults + Drop + Send> Store for MemStore<P> {
         if self.plan.fails() {
             return Err(StoreFault::Failed);
         }
-        let path = path.clone()?;
-        let bytes = Bytes::from_slice(alloc, bytes)?;
-        self.sources.put(path, bytes)?;
-        Ok(())
+        Ok(put_source(alloc, &mut self.sources, path, bytes)?)
     }
 
     #[tactic(auto, using(crate::proofs::SourceLemmas::removed_outside))]
@@ -149,6 +146,22 @@ impl<P: Faults + Drop + Send> Store for MemStore<P> {
         self.returned.take_over(&plan);
         put_back(&mut self.builds, &key, holding);
     }
+}
+
+fn put_source(
+    alloc: Global,
+    sources: &mut Contents,
+    path: &RelPath,
+    bytes: &[u8],
+) -> Result<(), AllocError>
+    ensures ok { OnOk result (sources.new
+        ≡ put_file (record { path = path.now; bytes = bytes.now }) sources.old) }
+    ensures err { OnErr result (sources.new ≡ sources.old) }
+    ensures in_order { OnOk result (AreInOrder sources.old) }
+{
+    let path = path.clone()?;
+    let bytes = Bytes::from_slice(alloc, bytes)?;
+    sources.put(path, bytes)
 }
 
 fn listed(alloc: Global, sources: &Contents, dir: &RelPath) -> Result<Vec<RelPath>, AllocError>
