@@ -21,7 +21,7 @@ use Rattle.tree_store.specs.FolderKnown.IsStopped.{begun as opened, not_begun}
 use Rattle.tree_store.specs.Holding.{nothing, only_files, unmarked, with_all}
 use Rattle.tree_store.specs.Moment.{Part, leaves}
 use Rattle.tree_store.specs.Moment.Part.{Whole, Untouched, Gone, Begun, Those}
-use Rattle.tree_store.specs.Moment.Write.{Put}
+use Rattle.tree_store.specs.Moment.Write.{Put, Unmark}
 use Rattle.tree_store.specs.Slot.{Slot, emptied_slot, slot_with}
 use Rattle.tree_store.specs.Slot.Slot.{Here, Out}
 use Rattle.tree_store.proofs.FilesLemmas.{put_all_in_order}
@@ -108,6 +108,49 @@ put_in_part files k file old mid new (Begun n) lt is order m e = (
 pub put_last_partly : (files : List File) (k : ℕ) (file : File) (old : Option Holding) (mid new : FolderKnown) → k < length files → get_or files k file ≡ file → AreInOrder files → mid.held ≡ just (take k files) old → IsStopped (Put file) mid new → HoldsBegun files old new.held
 put_last_partly files k file old mid new lt is order m (opened part e) = put_in_part files k file old mid.held new.held part lt is order m (ap (λ (f : FolderKnown). f.held) e)
 put_last_partly files k file old mid new lt is order m (not_begun e) = none_more files k old new.held (ap (λ (f : FolderKnown). f.held) e ∙ m)
+
+-- ---- where the mark was taken away first
+
+pub put_unmarked : (files : List File) (told : Option Holding) → option_map (with_all files) (option_map (leaves Unmark Whole) told) ≡ option_map (λ held. with_all files (unmarked held)) told
+put_unmarked files None = refl
+put_unmarked files (Some held) = refl
+
+unmark_nothing : (part : Part) → leaves Unmark part nothing ≡ nothing
+unmark_nothing Whole = refl
+unmark_nothing Untouched = refl
+unmark_nothing Gone = refl
+unmark_nothing (Begun n) = refl
+unmark_nothing (Those stays) = refl
+
+-- where nothing was held, nothing is
+unmarked_empty : (part : Part) (told : Option Holding) → told ≡ option_map (λ held. nothing) told → option_map (leaves Unmark part) told ≡ just [] told
+unmarked_empty part None empty = refl
+unmarked_empty part (Some held) empty =
+    let none : held ≡ nothing = cc in
+    ap (λ (h : Holding). Some (leaves Unmark part h)) none ∙ ap (λ (h : Holding). Some h) (unmark_nothing part)
+
+empty_just : (told : Option Holding) → told ≡ option_map (λ held. nothing) told → told ≡ just [] told
+empty_just None empty = refl
+empty_just (Some held) empty = empty
+
+-- an error came before any file
+pub unmark_begins : (files : List File) (old new : FolderKnown) → IsStopped Unmark old new → BeginsHeld files old.held new.held
+unmark_begins files old new (opened part e) order empty = (0, None, ap (λ (f : FolderKnown). f.held) e ∙ unmarked_empty part old.held empty)
+unmark_begins files old new (not_begun e) order empty = (0, None, ap (λ (f : FolderKnown). f.held) e ∙ empty_just old.held empty)
+
+same_just : (xs : List File) (told : Option Holding) → just xs (option_map (leaves Unmark Whole) told) ≡ just xs told
+same_just xs None = refl
+same_just xs (Some held) = refl
+
+still_empty : (told : Option Holding) → told ≡ option_map (λ held. nothing) told → option_map (leaves Unmark Whole) told ≡ option_map (λ held. nothing) (option_map (leaves Unmark Whole) told)
+still_empty None empty = refl
+still_empty (Some held) empty = let none : held ≡ nothing = cc in ap (λ (h : Holding). Some (leaves Unmark Whole h)) none
+
+-- .. or behind the mark
+pub anew_begins : (files : List File) (old mid new : Option Holding) → mid ≡ option_map (leaves Unmark Whole) old → BeginsHeld files mid new → BeginsHeld files old new
+anew_begins files old mid new is begins order empty =
+    let gone = subst (λ (t : Option Holding). BeginsHeld files t new) is begins order (still_empty old empty) in
+    (gone.0, gone.1, gone.2 ∙ same_just (begun gone.0 gone.1 files) old)
 
 here_same : (a b : Option Holding) → Here a ≡ Here b → a ≡ b
 here_same a b e = cc

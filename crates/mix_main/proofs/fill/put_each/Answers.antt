@@ -1,5 +1,6 @@
-use Rattle.std.proofs.Common.{rules, arith, ◌≡◌, ℕ, List, ◌∷◌, None, drop, drop-cons, suc, option_map, sym, ap, subst, ◌∙◌}
+use Rattle.std.proofs.Common.{rules, arith, ◌≡◌, ℕ, List, ◌∷◌, ◌+◌, None, drop, option_map, sym, ap, subst, ◌∙◌}
 use Rattle.std.proofs.lemmas.Grind.{common_steps}
+use Rattle.std.proofs.lemmas.List.{drop_more}
 use Rattle.mx_base.specs.declared.file.File.{File}
 use Rattle.tree_store.specs.FolderKnown.{FolderKnown, IsStopped}
 use Rattle.tree_store.specs.Holding.{with_all}
@@ -27,11 +28,11 @@ loop-file-preserved g c =
     let files : List File = c.args.files.now in
     let k : ℕ = c.loop-file.file-index in
     let own : put ≡ c.file-item.result = ap (λ (b : List ℕ). record { path = c.file-item.result.path; bytes = b }) c.as_slice.ensures in
-    let next : put ∷ drop (suc k) files ≡ drop k files = ap (λ (f : File). f ∷ drop (suc k) files) (own ∙ c.file-item.is) ∙ sym (drop-cons files k c.file-item.result c.loop-file-test.true) in
+    let next : put ∷ drop (k + 1) files ≡ drop k files = ap (λ (f : File). f ∷ drop (k + 1) files) (own ∙ c.file-item.is) ∙ sym (drop_more files k c.file-item.result c.loop-file-test.true) in
     let ended = c.in_ok-put.ensures.ended in
     let held = ap (λ (f : FolderKnown). f.held) ended in
     record {
-      rest = ap (option_map (with_all (drop (suc k) files))) held ∙ put_more put (drop (suc k) files) mid.held
+      rest = ap (option_map (with_all (drop (k + 1) files))) held ∙ put_more put (drop (k + 1) files) mid.held
           ∙ ap (λ (fs : List File). option_map (with_all fs) mid.held) next ∙ c.loop-file.invariant.rest;
       begun = λ order empty. put_next files k c.file-item.result (g.F.Folder.known c.args.folder.now).held mid.held new.held c.loop-file-test.true (sym c.file-item.is) order (c.loop-file.invariant.begun order empty)
           (held ∙ ap (λ (f : File). option_map (leaves (Put f) Whole) mid.held) own);
