@@ -60,7 +60,7 @@ module _ (compile : Content → Outcome) (known : List Given) (given : Given) (a
       let same : text ≡ other = same_bytes text other stands in
       let whole : other ≡ bytes = sym same ∙ is read (subst (λ (b : Bytes). Spells b read) (sym same) says) in
       let one : read ≡ mark = one_mark bytes read mark (subst (λ (b : Bytes). Spells b read) whole says) spells in
-      (given, among, record { built = built; mark = subst (λ (m : MarkView). IsMarkOf given (outcome_of compile given) m) (sym one) own; files = refl })
+      (given, among, record { built = built; own = subst (λ (m : MarkView). IsMarkOf given (outcome_of compile given) m) (sym one) own; files = refl })
 
   at : (part : Part) → IsHonest compile known (leaves (Mark bytes) part (only_files files))
   at Whole = text_honest bytes (λ other says. refl)

@@ -22,10 +22,10 @@ use Rattle.honest_tree.proofs.HonestLemmas.{same_bytes}
 
 -- an outcome's rows and digest follow from its files
 module _ (status : ℕ) (text : List ℕ) (files : List File) where
-  listed_as : (rows : List FileRow) → rows_of files ≡ rows → Outcome
+  abbrev listed_as : (rows : List FileRow) → rows_of files ≡ rows → Outcome
   listed_as rows is = record { status = status; text = text; files = files; rows = rows; digest = listing_digest rows; listed = sym is; digested = refl }
 
-  made_of : (rows : List FileRow) (listed : rows ≡ rows_of files) (digest : List ℕ) → listing_digest rows ≡ digest → Outcome
+  abbrev made_of : (rows : List FileRow) (listed : rows ≡ rows_of files) (digest : List ℕ) → listing_digest rows ≡ digest → Outcome
   made_of rows listed digest is = record { status = status; text = text; files = files; rows = rows; digest = digest; listed = listed; digested = sym is }
 
   by_files : (rows : List FileRow) (is : rows_of files ≡ rows) → outcome_with status text files ≡ listed_as rows is
@@ -78,7 +78,7 @@ kept_outcome compile known held kept given honest is apart each match = at (hone
   where
     at : (made : Given) × Contains known made × IsMadeFrom compile made held kept.mark → kept.outcome ≡ outcome_of compile given
     at (made, among, from) =
-        let says = mark_says made (outcome_of compile made) kept.mark from.mark in
+        let says = mark_says made (outcome_of compile made) kept.mark from.own in
         let same : description given ≡ description made = sym (says_description kept.mark given ((described kept.mark given.job given.needs each).0 match)) ∙ says.0 in
         let one : content given ≡ content made = apart given made (0, omega arith, refl) (contains_more given known made among) same in
         let o = outcome_of compile made in

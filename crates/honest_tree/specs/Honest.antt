@@ -23,7 +23,7 @@ IsMarkOf given outcome mark = (mark ≡ older_mark given outcome) ⊎ (mark ≡ 
 -- what is held was made from this input: it was built, the mark is its own, and the files are its outcome's
 pub record IsMadeFrom (compile : Content → Outcome) (given : Given) (held : Holding) (mark : MarkView) : Type 0 where
   pub built : (outcome_of compile given).status ≡ 0
-  pub mark : IsMarkOf given (outcome_of compile given) mark
+  pub own : IsMarkOf given (outcome_of compile given) mark
   pub files : held.files ≡ (outcome_of compile given).files
 
 -- where the mark reads, what is held was made from one of these inputs

@@ -1,5 +1,5 @@
 // A maker that hands out given partitions.
-ghost use Rattle.std.specs.Prelude.{◌≡◌};
+ghost use Rattle.std.specs.Prelude.{◌≡◌, ◌≤◌, IfOk, OnErr, OnOk, drop, take, vec_len};
 ghost use Rattle.std.specs.List.{All};
 ghost use Rattle.partition_face.specs.Counts.{fresh};
 ghost use Rattle.partition_face.specs.Makers.{new_maker};
@@ -8,7 +8,7 @@ use crate::counts::Counts;
 use crate::maker::{Maker, MakerFault};
 use crate::partition::Partition;
 use mx_base::Count;
-use std::alloc::Global;
+use std::alloc::{AllocError, Global};
 use std::mem;
 
 /// Hands out the first of its partitions, in their order, as many as it is asked for, and then the next of them.
@@ -51,8 +51,7 @@ impl<P: Partition + Drop> Maker for ListMaker<P> {
         self.asked = self.asked.saturating_add(n as u64);
         let wanted = n as usize;
         let given = self.waiting.len().min(wanted);
-        let rest = self.waiting.split_off(given)?;
-        let started = mem::replace(&mut self.waiting, rest);
+        let started = take_first(&mut self.waiting, given)?;
         if given < wanted {
             self.faults.raise();
         }
@@ -68,4 +67,15 @@ impl<P: Partition + Drop> Maker for ListMaker<P> {
             self.stopped = self.stopped.plus(counts);
         }
     }
+}
+
+// Takes the first so many out.
+fn take_first<P>(waiting: &mut Vec<P>, n: usize) -> Result<Vec<P>, AllocError>
+    requires { n ≤ vec_len waiting.old }
+    ensures taken { IfOk result (λ taken. taken.items ≡ take n waiting.old.items) }
+    ensures left { OnOk result (waiting.new.items ≡ drop n waiting.old.items) }
+    ensures err { OnErr result (waiting.new.items ≡ waiting.old.items) }
+{
+    let rest = waiting.split_off(n)?;
+    Ok(mem::replace(waiting, rest))
 }

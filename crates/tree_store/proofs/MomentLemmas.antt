@@ -121,7 +121,15 @@ pub put_more : (file : File) (files : List File) (told : Option Holding) → opt
 put_more file files None = refl
 put_more file files (Some held) = refl
 
--- .. no mark stands still
+-- after the mark was taken away none stands
+pub unmarked_after : (old new : FolderKnown) → new ≡ written Unmark Whole new.faults old → IsUnmarked new
+unmarked_after old new is = subst (λ (o : Option Holding). IfSome o (λ held. held.mark ≡ None)) (sym (ap (λ (f : FolderKnown). f.held) is)) (at old.held)
+  where
+    at : (told : Option Holding) → IfSome (option_map (leaves Unmark Whole) told) (λ held. held.mark ≡ None)
+    at None = tt
+    at (Some held) = refl
+
+-- a file that is put leaves no mark where none stood
 pub put_keeps_unmarked : (file : File) (old new : FolderKnown) → new ≡ written (Put file) Whole new.faults old → IsUnmarked old → IsUnmarked new
 put_keeps_unmarked file old new is bare =
     subst (λ (o : Option Holding). IfSome o (λ held. held.mark ≡ None)) (sym (ap (λ (f : FolderKnown). f.held) is)) (at old.held bare)

@@ -8,7 +8,8 @@ use Rattle.tree_store.specs.Moment.{leaves}
 use Rattle.tree_store.specs.Moment.Part.{Whole}
 use Rattle.tree_store.specs.Moment.Write.{Put}
 use Rattle.tree_store.proofs.MomentLemmas.{put_keeps_unmarked, put_more}
-use Rattle.mix_main.proofs.StandLemmas.{on_err, put_next, put_last_partly}
+use Rattle.mix_main.proofs.PutLemmas.{put_next, put_last_partly}
+use Rattle.mix_main.proofs.StandLemmas.{on_err}
 use Rattle.mix_main.proofs.fill.put_each.Goals as goal
 
 pub returns-in_err-put-clause-begun : goal.returns-in_err-put-clause-begun
