@@ -43,9 +43,9 @@ filled_bare files (Some held) new order bare is =
     ∙ ap (λ (mark : Option (List ℕ)). Some (record { files = files; mark = mark })) bare.1
 
 -- a fault of the folder is one of the tree exactly where it is the outside's
-pub tree_fails : {X : Type 0} (fault : StoreFault) → tree_failed (Err (of_folder fault)) ≡ fails {X = X} blame_of (Err fault)
-tree_fails store.Failed = refl
-tree_fails store.OutOfMemory = refl
+pub tree_fails : (X : Type 0) (fault : StoreFault) → tree_failed (Err (of_folder fault)) ≡ fails {X = X} blame_of (Err fault)
+tree_fails X store.Failed = refl
+tree_fails X store.OutOfMemory = refl
 
 pub no_death : (fault : StoreFault) → has_died (Err (of_folder fault)) ≡ false
 no_death store.Failed = refl

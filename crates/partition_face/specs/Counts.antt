@@ -1,5 +1,5 @@
 -- What partitions and their makers count.
-use Rattle.std.specs.Prelude.{◌≡◌, ℕ, ◌+◌, ◌-◌, ◌^◌, ◌<◌, min, List, map, sum}
+use Rattle.std.specs.Prelude.{◌≡◌, ℕ, ◌+◌, ◌-◌, ◌^◌, ◌<◌, min, List, [], ◌∷◌}
 use Rattle.partition_face.specs.declared.counts.Counts.{Counts}
 
 -- nothing counted
@@ -19,8 +19,11 @@ raised_by more count = min (count + more) (2 ^ 64 - 1)
 abbrev pub both : Counts → Counts → Counts
 both counts more = record { runs = raised_by more.runs counts.runs; deaths = raised_by more.deaths counts.deaths }
 
+-- all runs of these, and all deaths
 abbrev pub runs_of : List Counts → ℕ
-runs_of all = sum (map (λ counts. counts.runs) all)
+runs_of [] = 0
+runs_of (counts ∷ more) = counts.runs + runs_of more
 
 abbrev pub deaths_of : List Counts → ℕ
-deaths_of all = sum (map (λ counts. counts.deaths) all)
+deaths_of [] = 0
+deaths_of (counts ∷ more) = counts.deaths + deaths_of more

@@ -17,6 +17,10 @@ pub record MakerKnown : Type 0 where
   -- how often it failed
   pub faults : ℕ
 
+-- by what was stopped, asked for and counted as a fault
+abbrev pub maker_of : Counts → ℕ → ℕ → MakerKnown
+maker_of stopped asked faults = record { runs = stopped.runs; deaths = stopped.deaths; asked = asked; faults = faults }
+
 -- nothing counted
 abbrev pub new_maker : MakerKnown
 new_maker = record { runs = 0; deaths = 0; asked = 0; faults = 0 }

@@ -1,8 +1,8 @@
 // A maker that hands out given partitions.
-ghost use Rattle.std.specs.Prelude.{◌≡◌, ◌≤◌, IfOk, OnErr, OnOk, drop, take, vec_len};
+ghost use Rattle.std.specs.Prelude.{◌≡◌, ◌≤◌, IfOk, OnErr, OnOk, drop, map, take, vec_len};
 ghost use Rattle.std.specs.List.{All};
 ghost use Rattle.partition_face.specs.Counts.{fresh};
-ghost use Rattle.partition_face.specs.Makers.{new_maker};
+ghost use Rattle.partition_face.specs.Makers.{Stops, maker_of, new_maker};
 
 use crate::counts::Counts;
 use crate::maker::{Maker, MakerFault};
@@ -40,12 +40,9 @@ impl<P: Partition + Drop> ListMaker<P> {
 impl<P: Partition + Drop> Maker for ListMaker<P> {
     type P = P;
 
-    ghost known = { λ maker. record {
-      runs = maker.stopped.runs;
-      deaths = maker.stopped.deaths;
-      asked = maker.asked;
-      faults = maker.faults;
-    } };
+    ghost use Rattle.partition_face.specs.Makers.{maker_of};
+
+    ghost known = { λ maker. maker_of maker.stopped maker.asked maker.faults };
 
     fn start(&mut self, _alloc: Global, n: u32) -> Result<Vec<P>, MakerFault> {
         self.asked = self.asked.saturating_add(n as u64);
@@ -61,7 +58,11 @@ impl<P: Partition + Drop> Maker for ListMaker<P> {
         Ok(started)
     }
 
-    fn stop(&mut self, partitions: Vec<P>) {
+    fn stop(&mut self, partitions: Vec<P>)
+        ensures { Stops (map P.counted partitions.items)
+            (maker_of self.old.stopped self.old.asked self.old.faults)
+            (maker_of self.new.stopped self.new.asked self.new.faults) }
+    {
         for partition in partitions {
             let counts = partition.counts();
             self.stopped = self.stopped.plus(counts);

@@ -23,7 +23,7 @@ pub struct HostFolder<R> {
     pub(crate) faults: Count,
 }
 
-impl<R: fs::Files + AllocGlobal + Clone + Drop + Send> Folder for HostFolder<R> {
+impl<R: fs::Files + AllocGlobal + Clone + Drop> Folder for HostFolder<R> {
     ghost use Rattle.std.specs.Prelude.{None};
 
     ghost known = { λ folder. record {

@@ -15,7 +15,7 @@ use std::alloc::Global;
 /// After an error each call that writes may have stopped anywhere on its way, and so may a program that ends in
 /// the middle of it: `unmark` leaves the mark or none, `clear` any of the files, each whole, `put` and `mark` what
 /// was there, nothing, or a prefix of the new bytes.
-pub trait Folder: Send {
+pub trait Folder {
     /// The build that it is of, what it holds and what was written into it, where it tells that, and how often
     /// it failed. The count never falls.
     ghost known: { Self → FolderKnown };

@@ -17,7 +17,7 @@ pub struct MemFolder<P> {
     pub(crate) plan: P,
 }
 
-impl<P: Faults + Send> Folder for MemFolder<P> {
+impl<P: Faults> Folder for MemFolder<P> {
     ghost known = { λ folder. record {
       key = folder.key;
       held = Some folder.holding;
