@@ -58,6 +58,7 @@ impl<P: Partition + Drop> Maker for ListMaker<P> {
         Ok(started)
     }
 
+    #[tactic(auto, using(crate::proofs::CountLemmas::runs_more, crate::proofs::CountLemmas::deaths_more))]
     fn stop(&mut self, partitions: Vec<P>)
         ensures { Stops (map P.counted partitions.items)
             (maker_of self.old.stopped self.old.asked self.old.faults)
