@@ -142,7 +142,7 @@ impl<R: Files + AllocGlobal + Clone + Drop + Send> Store for HostStore<R> {
     }
 }
 
-fn listed<R: Files + AllocGlobal + Clone + Drop + Send>(
+fn listed<R: Files + AllocGlobal + Clone + Drop>(
     rt: &R,
     alloc: Global,
     root: Path<'_>,
