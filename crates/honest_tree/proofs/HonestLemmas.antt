@@ -52,7 +52,7 @@ whole_text bytes n mark other spells begun =
 
 -- files of an outcome with a text that is its mark's, or none
 module _ (compile : Content → Outcome) (known : List Given) (given : Given) (among : Contains known given) (built : (outcome_of compile given).status ≡ 0) (bytes : Bytes) (mark : MarkView) (spells : Spells bytes mark) (own : IsMarkOf given (outcome_of compile given) mark) where
-  files : List File
+  abbrev files : List File
   files = (outcome_of compile given).files
 
   text_honest : (text : Bytes) → ((other : MarkView) → Spells text other → text ≡ bytes) → IsHonest compile known (marked text (only_files files))

@@ -1,6 +1,6 @@
 -- What is kept of honest folders.
 use Rattle.std.proofs.Common.{◌≡◌, ◌⊎◌, inl, inr, ℕ, suc, true, List, [], ◌∷◌, length, map, Option, Some, Contains, refl, sym, ◌∙◌, ap, subst, arith}
-use Rattle.std.proofs.Math.Path.{path_j}
+use Rattle.std.proofs.Math.Path.{path_j'}
 use Rattle.mx_base.specs.declared.file.File.{File}
 use Rattle.mx_base.specs.declared.row.FileRow.{FileRow}
 use Rattle.mx_base.specs.Listing.{listing_digest, rows_of}
@@ -22,22 +22,19 @@ use Rattle.honest_tree.proofs.HonestLemmas.{same_bytes}
 
 -- an outcome's rows and digest follow from its files
 module _ (status : ℕ) (text : List ℕ) (files : List File) where
-  abbrev listed_as : (rows : List FileRow) → rows_of files ≡ rows → Outcome
-  listed_as rows is = record { status = status; text = text; files = files; rows = rows; digest = listing_digest rows; listed = sym is; digested = refl }
+  abbrev made_of : (rows : List FileRow) → rows ≡ rows_of files → (digest : List ℕ) → digest ≡ listing_digest rows → Outcome
+  made_of rows listed digest digested = record { status = status; text = text; files = files; rows = rows; digest = digest; listed = listed; digested = digested }
 
-  abbrev made_of : (rows : List FileRow) (listed : rows ≡ rows_of files) (digest : List ℕ) → listing_digest rows ≡ digest → Outcome
-  made_of rows listed digest is = record { status = status; text = text; files = files; rows = rows; digest = digest; listed = listed; digested = sym is }
+  by_files : (rows : List FileRow) (listed : rows ≡ rows_of files) → outcome_with status text files ≡ made_of rows listed (listing_digest rows) refl
+  by_files rows listed = path_j' (λ (r : List FileRow) e. outcome_with status text files ≡ made_of r e (listing_digest r) refl) refl listed
 
-  by_files : (rows : List FileRow) (is : rows_of files ≡ rows) → outcome_with status text files ≡ listed_as rows is
-  by_files rows is = path_j (λ (r : List FileRow) e. outcome_with status text files ≡ listed_as r e) refl is
-
-  by_rows : (rows : List FileRow) (listed : rows ≡ rows_of files) (digest : List ℕ) (is : listing_digest rows ≡ digest) → made_of rows listed (listing_digest rows) refl ≡ made_of rows listed digest is
-  by_rows rows listed digest is = path_j (λ (d : List ℕ) e. made_of rows listed (listing_digest rows) refl ≡ made_of rows listed d e) refl is
+  by_rows : (rows : List FileRow) (listed : rows ≡ rows_of files) (digest : List ℕ) (digested : digest ≡ listing_digest rows) → made_of rows listed (listing_digest rows) refl ≡ made_of rows listed digest digested
+  by_rows rows listed digest digested = path_j' (λ (d : List ℕ) e. made_of rows listed (listing_digest rows) refl ≡ made_of rows listed d e) refl digested
 
 pub outcome_again : (outcome : Outcome) → outcome_with outcome.status outcome.text outcome.files ≡ outcome
 outcome_again outcome =
-    by_files outcome.status outcome.text outcome.files outcome.rows (sym outcome.listed)
-    ∙ by_rows outcome.status outcome.text outcome.files outcome.rows outcome.listed outcome.digest (sym outcome.digested)
+    by_files outcome.status outcome.text outcome.files outcome.rows outcome.listed
+    ∙ by_rows outcome.status outcome.text outcome.files outcome.rows outcome.listed outcome.digest outcome.digested
 
 pub one_kept : (held : Holding) (one other : Kept) → IsKept held one → IsKept held other → one ≡ other
 one_kept held one other a b =
