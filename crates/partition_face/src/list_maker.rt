@@ -1,7 +1,7 @@
 // A maker that hands out given partitions.
 ghost use Rattle.std.specs.Prelude.{◌≡◌, ◌≤◌, IfOk, OnErr, OnOk, drop, map, take, vec_len};
 ghost use Rattle.std.specs.List.{All};
-ghost use Rattle.partition_face.specs.Counts.{fresh};
+ghost use Rattle.partition_face.specs.Counts.{fresh, raised_by};
 ghost use Rattle.partition_face.specs.Makers.{Stops, maker_of, new_maker};
 
 use crate::counts::Counts;
@@ -68,8 +68,15 @@ impl<P: Partition + Drop> Maker for ListMaker<P> {
             let counts = partition.counts();
             self.stopped = self.stopped.plus(counts);
         }
+        stands(self.stopped.runs);
+        stands(self.stopped.deaths);
     }
 }
+
+// No count is past its last value.
+fn stands(count: u64)
+    ensures { raised_by 0 count ≡ count }
+{}
 
 // Takes the first so many out.
 fn take_first<P>(waiting: &mut Vec<P>, n: usize) -> Result<Vec<P>, AllocError>
