@@ -83,7 +83,7 @@ fn scribble<F: Folder>(alloc: Global, folder: &mut F) -> Result<(), StoreFault>
         (fails blame_of result) }
 {
     let path = RelPath::root(alloc).child(alloc, "scribble")?;
-    folder.mark(alloc, b"")?; folder.put(alloc, &path, b"scribble")?;
+    folder.put(alloc, &path, b"scribble")?;
     Ok(())
 }
 
@@ -111,7 +111,7 @@ fn echo_into<F: Folder>(
         files,
         ..
     } = outcome;
-    put_files(alloc, files.as_slice(), folder)?; folder.mark(alloc, b"")?;
+    put_files(alloc, files.as_slice(), folder)?;
     Ok(Verdict { status, text })
 }
 
