@@ -82,7 +82,7 @@ all_fit_more jobs job fit last =
 
 -- ---- the job of a post
 
-pub post_job : (files : List File) (scene : Scenery) (at : ℕ) (post : Post) → IsPost scene at post → All (IsFound files) scene.found → IsJobAt files scene.schedule at (job_with files scene.schedule.settings post.row.now post.found.now.dir (version_by post.found.now.project) (places_in scene.schedule.order post.reached.items) (apps_of scene.schedule.rows scene.schedule.places post.reached.items))
+pub post_job : (files : List File) (scene : Scenery) (at : ℕ) (post : Post) → IsPost scene at post → All (IsFound files) scene.found → IsJobAt files scene.schedule at (job_with files scene.schedule post.row.now post.found.now.dir (version_by post.found.now.project) (places_in scene.schedule.order post.reached.items) (apps_of scene.schedule.rows scene.schedule.places post.reached.items))
 post_job files scene at post is meant = record {
   row = post.row.now;
   reached = post.reached.items;

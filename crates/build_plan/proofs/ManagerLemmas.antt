@@ -128,13 +128,13 @@ manager_among_sources dir files =
     ap₂ (λ (a b : Bool). manager_if a b (has_file (sources_of dir files) [] (codes "rebar.config")) (has_file (sources_of dir files) [] (codes "Makefile"))) (has_among dir (codes "project.exs") files refl) (has_among dir (codes "mix.exs") files refl)
     ∙ ap₂ (λ (c d : Bool). manager_if (has_file files dir (codes "project.exs")) (has_file files dir (codes "mix.exs")) c d) (has_among dir (codes "rebar.config") files refl) (has_among dir (codes "Makefile") files refl)
 
-abbrev with_manager : Settings → Row → List ℕ → List ℕ → List File → List ℕ → List (List ℕ) → Manager → Job
-with_manager settings row dir version sources needs need_apps manager = record {
+abbrev with_manager : Schedule → Row → List ℕ → List ℕ → List File → List ℕ → List (List ℕ) → Manager → Job
+with_manager schedule row dir version sources needs need_apps manager = record {
   app = row.app;
   version = version;
   origin = FromPath;
-  options = options_text version row.decl manager (command settings manager row.decl.compile);
-  how = command settings manager row.decl.compile;
+  options = options_text version row.decl manager (command schedule.settings manager row.decl.compile) schedule.target;
+  how = command schedule.settings manager row.decl.compile;
   system_env = row.decl.system_env;
   dir = dir;
   sources = sources;
@@ -145,9 +145,9 @@ with_manager settings row dir version sources needs need_apps manager = record {
 }
 
 -- the job that is made of the sources of a dependency
-pub job_from_sources : (files : List File) (schedule : Schedule) (post : Post) (sources : List File) → sources ≡ sources_of post.found.now.dir files → job_from schedule post sources ≡ job_with files schedule.settings post.row.now post.found.now.dir (version_by post.found.now.project) (places_in schedule.order post.reached.items) (apps_of schedule.rows schedule.places post.reached.items)
+pub job_from_sources : (files : List File) (schedule : Schedule) (post : Post) (sources : List File) → sources ≡ sources_of post.found.now.dir files → job_from schedule post sources ≡ job_with files schedule post.row.now post.found.now.dir (version_by post.found.now.project) (places_in schedule.order post.reached.items) (apps_of schedule.rows schedule.places post.reached.items)
 job_from_sources files schedule post sources are =
     let row = post.row.now in
     let found = post.found.now in
     ap (job_from schedule post) are
-    ∙ ap (with_manager schedule.settings row found.dir (version_by found.project) (sources_of found.dir files) (places_in schedule.order post.reached.items) (apps_of schedule.rows schedule.places post.reached.items)) (ap (manager_or row.decl.manager) (manager_among_sources found.dir files))
+    ∙ ap (with_manager schedule row found.dir (version_by found.project) (sources_of found.dir files) (places_in schedule.order post.reached.items) (apps_of schedule.rows schedule.places post.reached.items)) (ap (manager_or row.decl.manager) (manager_among_sources found.dir files))

@@ -29,24 +29,24 @@ use Rattle.build_plan.specs.Stages.MakesJobs.{passes_size, makes}
 use Rattle.build_plan.specs.Stages.Schedules.{circles, orders}
 use Rattle.build_plan.proofs.Steps.{HasOne}
 
-module _ (settings : Settings) (rows : List Row) (env : List ℕ) where
-  no_order : (places others order nodes : List ℕ) → AreReached rows env places → AreReached rows env others → IsOrderOf (graph_of rows places) order → IsCycleOf (graph_of rows others) nodes → ⊥
+module _ (settings : Settings) (rows : List Row) (env target : List ℕ) where
+  no_order : (places others order nodes : List ℕ) → AreReached rows env target places → AreReached rows env target others → IsOrderOf (graph_of rows target places) order → IsCycleOf (graph_of rows target others) nodes → ⊥
   no_order places others order nodes are also ordered around =
-      order_or_cycle (graph_of rows places) order nodes ordered (subst (λ (ps : List ℕ). IsCycleOf (graph_of rows ps) nodes) (one_reach rows env others places also are) around)
+      order_or_cycle (graph_of rows target places) order nodes ordered (subst (λ (ps : List ℕ). IsCycleOf (graph_of rows target ps) nodes) (one_reach rows env target others places also are) around)
 
-  schedule_same : {a b : Result Schedule PlanError} → Schedules settings rows env a → Schedules settings rows env b → a ≡ b
+  schedule_same : {a b : Result Schedule PlanError} → Schedules settings rows env target a → Schedules settings rows env target b → a ≡ b
   schedule_same (circles places nodes are around) (circles others more also back) =
-      let same : places ≡ others = one_reach rows env places others are also in
+      let same : places ≡ others = one_reach rows env target places others are also in
       ap₂ (λ (ps ns : List ℕ). Err (refused.Cycle (apps_of rows ps ns))) same
-      (one_cycle (graph_of rows places) nodes more around (subst (λ (ps : List ℕ). IsCycleOf (graph_of rows ps) more) (sym same) back))
+      (one_cycle (graph_of rows target places) nodes more around (subst (λ (ps : List ℕ). IsCycleOf (graph_of rows target ps) more) (sym same) back))
   schedule_same (circles places nodes are around) (orders others order also ordered) = absurd (no_order others places order nodes also are ordered around)
   schedule_same (orders places order are ordered) (circles others nodes also around) = absurd (no_order places others order nodes are also ordered around)
   schedule_same (orders places order are ordered) (orders others more also same_ordered) =
-      let same : places ≡ others = one_reach rows env places others are also in
-      ap₂ (λ (ps ns : List ℕ). Ok (record { settings = settings; rows = rows; places = ps; order = ns })) same
-      (one_order (graph_of rows places) order more ordered (subst (λ (ps : List ℕ). IsOrderOf (graph_of rows ps) more) (sym same) same_ordered))
+      let same : places ≡ others = one_reach rows env target places others are also in
+      ap₂ (λ (ps ns : List ℕ). Ok (record { settings = settings; target = target; rows = rows; places = ps; order = ns })) same
+      (one_order (graph_of rows target places) order more ordered (subst (λ (ps : List ℕ). IsOrderOf (graph_of rows target ps) more) (sym same) same_ordered))
 
-  pub schedule_one : HasOne (Schedules settings rows env)
+  pub schedule_one : HasOne (Schedules settings rows env target)
   schedule_one a b p q = schedule_same p q
 
 -- what a place reaches is one list
@@ -68,10 +68,10 @@ module _ (one : OneProject) (files : List File) (schedule : Schedule) where
       let place = one_at schedule.places a.node b.node a.place b.place node a.wins b.wins in
       let row = one_at schedule.rows a.place b.place is.row also.row place a.stands b.stands in
       let found = one_found one files is.row.decl.source is.dir also.dir is.found also.found is.source (ap (λ (r : Row). r.decl.source) row ∙ also.source) is.loaded also.loaded in
-      let reached = one_closure (graph_of schedule.rows schedule.places) schedule.order a.node b.node is.reached also.reached node a.closure b.closure in
+      let reached = one_closure (graph_of schedule.rows schedule.target schedule.places) schedule.order a.node b.node is.reached also.reached node a.closure b.closure in
       is.is
-      ∙ ap₂ (λ (r : Row) (d : List ℕ). job_with files schedule.settings r d (version_by is.found) (places_in schedule.order is.reached) (apps_of schedule.rows schedule.places is.reached)) row found.0
-      ∙ ap₂ (λ (f : Option Project) (ns : List ℕ). job_with files schedule.settings also.row also.dir (version_by f) (places_in schedule.order ns) (apps_of schedule.rows schedule.places ns)) found.1 reached
+      ∙ ap₂ (λ (r : Row) (d : List ℕ). job_with files schedule r d (version_by is.found) (places_in schedule.order is.reached) (apps_of schedule.rows schedule.places is.reached)) row found.0
+      ∙ ap₂ (λ (f : Option Project) (ns : List ℕ). job_with files schedule also.row also.dir (version_by f) (places_in schedule.order ns) (apps_of schedule.rows schedule.places ns)) found.1 reached
       ∙ sym also.is
 
   agree : (jobs others : List Job) → AreFirstJobs files schedule jobs → AreFirstJobs files schedule others → Agree jobs others

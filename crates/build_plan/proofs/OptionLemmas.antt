@@ -1,10 +1,14 @@
 -- Terms put at the end of a list.
-use Rattle.std.proofs.Common.{◌≡◌, List, [], ◌∷◌, ◌++◌, refl, ◌∙◌, ap, ap₂}
+use Rattle.std.proofs.Common.{◌≡◌, List, [], ◌∷◌, ◌++◌, refl, sym, ◌∙◌, ap, ap₂, append-nil}
 use Rattle.term_values.specs.declared.term.Term.{Term}
 
 together : (p : List Term) (a b c d : Term) → (((p ++ a ∷ []) ++ b ∷ []) ++ c ∷ []) ++ d ∷ [] ≡ p ++ a ∷ b ∷ c ∷ d ∷ []
 together [] a b c d = refl
 together (x ∷ p) a b c d = ap (λ (l : List Term). x ∷ l) (together p a b c d)
+
+-- no terms
+pub none_added : (parts more : List Term) → more ≡ [] → parts ≡ parts ++ more
+none_added parts more none = sym (ap (λ (l : List Term). parts ++ l) none ∙ append-nil parts)
 
 abbrev with : List Term → Term → List Term
 with l x = l ++ x ∷ []

@@ -55,14 +55,14 @@ job_at (j ∷ jobs) (suc k) within = job_at jobs k (omega arith)
 
 module _ (schedule : Schedule) (is_ordered : IsOrdered schedule) where
   apart : AllPairs (λ a b. a ≢ b) schedule.order
-  apart = order_apart (graph_of schedule.rows schedule.places) schedule.order is_ordered.order
+  apart = order_apart (graph_of schedule.rows schedule.target schedule.places) schedule.order is_ordered.order
 
   -- what is reached from a place of the order stands before it
-  pub before_it : (k node r x : ℕ) → slice_get schedule.order k ≡ Some node → slice_get schedule.order r ≡ Some x → Reaches (graph_of schedule.rows schedule.places) node x → r < k
+  pub before_it : (k node r x : ℕ) → slice_get schedule.order k ≡ Some node → slice_get schedule.order r ≡ Some x → Reaches (graph_of schedule.rows schedule.target schedule.places) node x → r < k
   before_it k node r x at stands reached =
       let within : k < length schedule.order = slice_get_within schedule.order k node at in
       let same : get_or schedule.order k 0 ≡ node = get_or_from_slice_get schedule.order k node 0 at in
-      let w = reached_before (graph_of schedule.rows schedule.places) schedule.order is_ordered.order.listing k within x (rw same reached) in
+      let w = reached_before (graph_of schedule.rows schedule.target schedule.places) schedule.order is_ordered.order.listing k within x (rw same reached) in
       let there : slice_get schedule.order w.at ≡ Some x = slice_get-get_or schedule.order w.at 0 (omega (arith, w.before)) ∙ ap (λ (n : ℕ). Some n) w.is in
       omega (arith, w.before, stands_once schedule.order apart w.at r x there stands)
 
@@ -76,7 +76,7 @@ module _ (schedule : Schedule) (is_ordered : IsOrdered schedule) where
     node : ℕ
     at : slice_get schedule.order k ≡ Some node
     is_reached : ℕ → Bool
-    tells : (x : ℕ) → IsTrue (is_reached x) ↔ Reaches (graph_of schedule.rows schedule.places) node x
+    tells : (x : ℕ) → IsTrue (is_reached x) ↔ Reaches (graph_of schedule.rows schedule.target schedule.places) node x
     needs : job.needs ≡ ranks is_reached 0 schedule.order
     need_apps : job.need_apps ≡ apps_of schedule.rows schedule.places (filter is_reached schedule.order)
 
@@ -96,7 +96,7 @@ module _ (schedule : Schedule) (is_ordered : IsOrdered schedule) where
   record Needed (node r : ℕ) : Type 0 where
     x : ℕ
     stands : slice_get schedule.order r ≡ Some x
-    reached : Reaches (graph_of schedule.rows schedule.places) node x
+    reached : Reaches (graph_of schedule.rows schedule.target schedule.places) node x
 
   needed : (k : ℕ) (job : Job) (w : Ranking k job) (r : ℕ) → Contains job.needs r → Needed w.node r
   needed k job w r has =
@@ -187,8 +187,8 @@ module _ (schedule : Schedule) (is_ordered : IsOrdered schedule) where
         let f = needed k job w need has in
         let g = needed need other v r (Contains-get_or other.needs i d within) in
         let same : f.x ≡ v.node = let a = f.stands in let b = v.at in cc in
-        let first : Reaches (graph_of schedule.rows schedule.places) w.node v.node = subst (Reaches (graph_of schedule.rows schedule.places) w.node) same f.reached in
-        let reached = reach_through (graph_of schedule.rows schedule.places) w.node v.node g.x first g.reached in
+        let first : Reaches (graph_of schedule.rows schedule.target schedule.places) w.node v.node = subst (Reaches (graph_of schedule.rows schedule.target schedule.places) w.node) same f.reached in
+        let reached = reach_through (graph_of schedule.rows schedule.target schedule.places) w.node v.node g.x first g.reached in
         let here : 0 + r ≡ r = omega arith in
         subst (λ (l : List ℕ). Contains l r) (sym w.needs) (subst (Contains (ranks w.is_reached 0 schedule.order)) here (ranks_has w.is_reached 0 schedule.order r g.x g.stands ((w.tells g.x).1 reached)))
 

@@ -24,7 +24,8 @@ use Rattle.build_plan.proofs.PlannedLemmas.{position_of_node}
 use Rattle.build_plan.proofs.SceneLemmas.{long_graph}
 use Rattle.build_plan.proofs.SearchLemmas.{zip_get}
 
-module _ {listed : Listed} {all : List Found} {places : List ℕ} {ordered : OrderedGraph} (scene : IsScene listed all places ordered) where
+module _ {listed : Listed} {all : List Found} {target places : List ℕ} {ordered : OrderedGraph}
+    (scene : IsScene listed all target places ordered) where
   pub node_in_graph : (at : ℕ) → at < length ordered.order → get_or ordered.order at 0 < length ordered.graph
   node_in_graph at within = (order_has_places ordered.graph ordered.order scene.is_order (get_or ordered.order at 0)).0 (Contains-get_or ordered.order at 0 within)
 
@@ -52,7 +53,7 @@ module _ {listed : Listed} {all : List Found} {places : List ℕ} {ordered : Ord
       let inside = node_in_graph stands.0 first.0 in
       omega (arith, same, inside)
 
-  pub post_is : (settings : Settings) (at : ℕ) (post : Post) → at < length ordered.order → post.row.now ≡ get_or listed.rows (get_or places (get_or ordered.order at 0) 0) post.row.now → IsFoundAt listed.rows (get_or places (get_or ordered.order at 0) 0) post.found.now → Contains all post.found.now → IsClosureOf ordered.graph ordered.order (get_or ordered.order at 0) post.reached.items → ((other : ℕ) → Contains post.reached.items other ↔ Reaches ordered.graph (get_or ordered.order at 0) other) → IsPost (record { schedule = record { settings = settings; rows = listed.rows; places = places; order = ordered.order }; found = all }) at post
+  pub post_is : (settings : Settings) (at : ℕ) (post : Post) → at < length ordered.order → post.row.now ≡ get_or listed.rows (get_or places (get_or ordered.order at 0) 0) post.row.now → IsFoundAt listed.rows (get_or places (get_or ordered.order at 0) 0) post.found.now → Contains all post.found.now → IsClosureOf ordered.graph ordered.order (get_or ordered.order at 0) post.reached.items → ((other : ℕ) → Contains post.reached.items other ↔ Reaches ordered.graph (get_or ordered.order at 0) other) → IsPost (record { schedule = record { settings = settings; target = target; rows = listed.rows; places = places; order = ordered.order }; found = all }) at post
   post_is settings at post within is found_at among closure tells =
       let row = post.row.now in
       let reached = post.reached.items in
@@ -77,7 +78,7 @@ module _ {listed : Listed} {all : List Found} {places : List ℕ} {ordered : Ord
       }
 
   -- the same of a scene, whose node at the place is known
-  pub post_of : (view : Scenery) (settings : Settings) (at node : ℕ) (post : Post) → ◌≡◌ {A = Scenery} (record { schedule = record { settings = settings; rows = listed.rows; places = places; order = ordered.order }; found = all }) view → at < length ordered.order → node ≡ get_or ordered.order at 0 → post.row.now ≡ get_or listed.rows (get_or places node 0) post.row.now → IsFoundAt listed.rows (get_or places node 0) post.found.now → Contains all post.found.now → IsClosureOf ordered.graph ordered.order node post.reached.items → ((other : ℕ) → Contains post.reached.items other ↔ Reaches ordered.graph node other) → IsPost view at post
+  pub post_of : (view : Scenery) (settings : Settings) (at node : ℕ) (post : Post) → ◌≡◌ {A = Scenery} (record { schedule = record { settings = settings; target = target; rows = listed.rows; places = places; order = ordered.order }; found = all }) view → at < length ordered.order → node ≡ get_or ordered.order at 0 → post.row.now ≡ get_or listed.rows (get_or places node 0) post.row.now → IsFoundAt listed.rows (get_or places node 0) post.found.now → Contains all post.found.now → IsClosureOf ordered.graph ordered.order node post.reached.items → ((other : ℕ) → Contains post.reached.items other ↔ Reaches ordered.graph node other) → IsPost view at post
   post_of view settings at node post is within same row found among closure tells =
       subst (λ (v : Scenery). IsPost v at post) is
       (post_is settings at post within

@@ -32,12 +32,12 @@ use Rattle.build_plan.proofs.SomeRoot.{read_of}
 use Rattle.build_plan.proofs.Steps.{HasSome}
 use Rattle.build_plan.proofs.WinnerLemmas.{IsAnswered, all_answered}
 
-pub some_schedule : (settings : Settings) (rows : List Row) (env : List ℕ) → HasSome (Schedules settings rows env)
-some_schedule settings rows env =
-    let reached = some_reach rows env in
-    elim (order_or_cycle_list (graph_of rows reached.0) (graph_within rows reached.0)) [
+pub some_schedule : (settings : Settings) (rows : List Row) (env target : List ℕ) → HasSome (Schedules settings rows env target)
+some_schedule settings rows env target =
+    let reached = some_reach rows env target in
+    elim (order_or_cycle_list (graph_of rows target reached.0) (graph_within rows target reached.0)) [
       | inl ordered ↦
-          (Ok (record { settings = settings; rows = rows; places = reached.0; order = ordered.0 }), orders reached.0 ordered.0 reached.1 ordered.1)
+          (Ok (record { settings = settings; target = target; rows = rows; places = reached.0; order = ordered.0 }), orders reached.0 ordered.0 reached.1 ordered.1)
       | inr around ↦ (Err (refused.Cycle (apps_of rows reached.0 around.0)), circles reached.0 around.0 reached.1 around.1)
     ]
 
@@ -59,13 +59,13 @@ some_closure graph order node within inside =
 -- ---- the job at a place of the order
 
 module _ (files : List File) (root : List Decl) (listed : Listed) (are : AreRows (AreChildren files) root listed.rows listed.winners) where
-  module _ (settings : Settings) (env places order : List ℕ)
-      (reached : AreReached listed.rows env places) (ordered : IsOrderOf (graph_of listed.rows places) order) where
+  module _ (settings : Settings) (env target places order : List ℕ)
+      (reached : AreReached listed.rows env target places) (ordered : IsOrderOf (graph_of listed.rows target places) order) where
     abbrev graph : List (List ℕ)
-    graph = graph_of listed.rows places
+    graph = graph_of listed.rows target places
 
     abbrev schedule : Schedule
-    schedule = record { settings = settings; rows = listed.rows; places = places; order = order }
+    schedule = record { settings = settings; target = target; rows = listed.rows; places = places; order = order }
 
     in_graph : (k : ℕ) → k < length order → get_or order k 0 < length graph
     in_graph k less = (order_has_places graph order ordered (get_or order k 0)).0 (Contains-get_or order k 0 less)
@@ -73,7 +73,7 @@ module _ (files : List File) (root : List Decl) (listed : Listed) (are : AreRows
     in_places : (k : ℕ) → k < length order → get_or order k 0 < length places
     in_places k less =
         let inside = in_graph k less in
-        let long : length graph ≡ length places = length-map places (direct_needs listed.rows places) in
+        let long : length graph ≡ length places = length-map places (direct_needs listed.rows target places) in
         omega (arith, inside, long)
 
     -- the children of each winner that is reached are known
@@ -89,7 +89,7 @@ module _ (files : List File) (root : List Decl) (listed : Listed) (are : AreRows
         let node = get_or order k 0 in
         let known = answered node (in_places k less) in
         let read = read_of known.answer in
-        let closure = some_closure graph order node (graph_within listed.rows places) (in_graph k less) in
+        let closure = some_closure graph order node (graph_within listed.rows target places) (in_graph k less) in
         let at : StandsAt schedule k known.row closure.0 = record {
           node = node;
           place = get_or places node 0;
@@ -98,7 +98,7 @@ module _ (files : List File) (root : List Decl) (listed : Listed) (are : AreRows
           stands = known.stands;
           closure = closure.1;
         } in (
-          job_with files settings known.row read.dir (version_by read.found) (places_in order closure.0) (apps_of listed.rows places closure.0),
+          job_with files schedule known.row read.dir (version_by read.found) (places_in order closure.0) (apps_of listed.rows places closure.0),
           record {
             row = known.row;
             reached = closure.0;
@@ -145,7 +145,8 @@ module _ (files : List File) (schedule : Schedule) (each : (k : ℕ) → k < len
       (λ k job at. absurd (none-some job at))
 
 pub some_jobs : (files : List File) (root : List Decl) (listed : Listed) → AreRows (AreChildren files) root listed.rows listed.winners
-    → (settings : Settings) (env : List ℕ) (schedule : Schedule) → Schedules settings listed.rows env (Ok schedule) → HasSome (MakesJobs files schedule)
-some_jobs files root listed are settings env _ (orders places order reached ordered) =
-    make_jobs files (record { settings = settings; rows = listed.rows; places = places; order = order })
-    (some_job files root listed are settings env places order reached ordered)
+    → (settings : Settings) (env target : List ℕ) (schedule : Schedule) → Schedules settings listed.rows env target (Ok schedule)
+    → HasSome (MakesJobs files schedule)
+some_jobs files root listed are settings env target _ (orders places order reached ordered) =
+    make_jobs files (record { settings = settings; target = target; rows = listed.rows; places = places; order = order })
+    (some_job files root listed are settings env target places order reached ordered)

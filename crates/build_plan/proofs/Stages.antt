@@ -1,7 +1,8 @@
 -- A plan is met in stages.
-use Rattle.std.proofs.Common.{◌≡◌, ℕ, List, [], Option, Some, None, Result, Ok, Err, refl}
+use Rattle.std.proofs.Common.{◌≡◌, ℕ, List, [], Option, Some, None, Result, Ok, Err, refl, sym, subst}
 use Rattle.mx_base.specs.declared.file.File.{File}
 use Rattle.compile_model.specs.declared.job.Job.{Job}
+use Rattle.dep_options.specs.declared.decl.Decl.{Decl}
 use Rattle.dep_rows.specs.declared.row.Row.{Row}
 use Rattle.dep_rows.specs.Listed.{Listed}
 use Rattle.project_file.specs.declared.error.ProjectError.{ProjectError}
@@ -12,8 +13,9 @@ use Rattle.project_file.specs.Files.{IsLoaded, AreSettings, manifest_at}
 use Rattle.build_plan.specs.declared.error.PlanError.{PlanError}
 use Rattle.build_plan.specs.declared.error.PlanError.TheVariants as refused
 use Rattle.build_plan.specs.Jobs.{Schedule}
-use Rattle.build_plan.specs.Plan.{Converge, IsPlan, IsRoot, IsSchedule}
-use Rattle.build_plan.specs.Plan.IsPlan.{settings, no_project, project, dependency, too_many, diverged, cycle, too_large, planned}
+use Rattle.build_plan.specs.Plan.{Converge, IsPlan, IsPlanOf, IsSchedule}
+use Rattle.build_plan.specs.Plan.IsPlan.{settings as root_settings, no_project, project, of_root}
+use Rattle.build_plan.specs.Plan.IsPlanOf.{settings, dependency, too_many, diverged, cycle, too_large, planned}
 use Rattle.build_plan.specs.Stages.{ListsRows, LivesTogether, MakesJobs, Schedules, Then}
 use Rattle.build_plan.specs.Stages.ListsRows.{meets, passes, lists}
 use Rattle.build_plan.specs.Stages.LiveWith.{diverges, lives}
@@ -31,41 +33,71 @@ root_answer (Ok None) = Err refused.NoProject
 root_answer (Ok (Some root)) = Ok root
 root_answer (Err fault) = Err (refused.Project (manifest_at []) fault)
 
-abbrev pub FromRows : List File → Settings → List ℕ → Listed → Result (List Job) PlanError → Type 0
-FromRows files set env listed = Then (LivesTogether files listed) (λ live. Then (Schedules set listed.rows env) (MakesJobs files))
+abbrev pub FromRows : List File → Settings → List ℕ → List ℕ → Listed → Result (List Job) PlanError → Type 0
+FromRows files set env target listed = Then (LivesTogether files listed) (λ live. Then (Schedules set listed.rows env target) (MakesJobs files))
 
-abbrev pub FromRoot : List File → List ℕ → Settings → Project → Result (List Job) PlanError → Type 0
-FromRoot files env set root = Then (ListsRows files root.decls) (FromRows files set env)
+abbrev pub FromDecls : List File → List ℕ → List ℕ → List Decl → Settings → Result (List Job) PlanError → Type 0
+FromDecls files env target root set = Then (ListsRows files root) (FromRows files set env target)
 
-abbrev pub FromSettings : List File → List ℕ → Settings → Result (List Job) PlanError → Type 0
-FromSettings files env set = Then (Becomes (IsLoaded files []) root_answer) (FromRoot files env set)
+abbrev pub FromSettings : List File → List ℕ → List ℕ → Settings → Result (List Job) PlanError → Type 0
+FromSettings files env target set = Then (Becomes (IsLoaded files []) root_answer) (λ (root : Project). FromDecls files env target root.decls set)
 
-abbrev pub FromFiles : List File → List ℕ → Result (List Job) PlanError → Type 0
-FromFiles files env = Then (Becomes (AreSettings files) settings_answer) (FromSettings files env)
+-- over given root declarations
+abbrev pub FromRoot : List File → List Decl → List ℕ → List ℕ → Result (List Job) PlanError → Type 0
+FromRoot files root env target = Then (Becomes (AreSettings files) settings_answer) (FromDecls files env target root)
 
-from_root : (files : List File) (env : List ℕ) (set : Settings) (root : Project) {answer : Result (List Job) PlanError} → IsRoot files set root → FromRoot files env set root answer → FromFiles files env answer
-from_root files env set root is next = goes_on set (Ok set, is.set, refl) (goes_on root (Ok (Some root), is.loaded, refl) next)
+abbrev pub FromFiles : List File → List ℕ → List ℕ → Result (List Job) PlanError → Type 0
+FromFiles files env target = Then (Becomes (AreSettings files) settings_answer) (FromSettings files env target)
 
-from_rows : (files : List File) (env : List ℕ) (set : Settings) (root : Project) (rows : List Row) {answer : Result (List Job) PlanError} → IsRoot files set root → Converge files root.decls rows → Then (Schedules set rows env) (MakesJobs files) answer → FromFiles files env answer
-from_rows files env set root rows is converge next =
-    let listed : Listed = record { rows = rows; winners = converge.winners } in
-    from_root files env set root is
-    (goes_on listed (lists listed converge.listed.rows converge.listed.few)
-    (goes_on listed (record { versions = converge.versions; known = converge.listed.known; together = lives converge.together }) next))
+module _ (files : List File) (root : List Decl) (env target : List ℕ) where
+  from_decls : (set : Settings) {answer : Result (List Job) PlanError} → AreSettings files (Ok set) → FromDecls files env target root set answer
+      → FromRoot files root env target answer
+  from_decls set is next = goes_on set (Ok set, is, refl) next
 
-from_schedule : (files : List File) (env : List ℕ) (root : Project) (schedule : Schedule) {answer : Result (List Job) PlanError} → IsSchedule files env root schedule → MakesJobs files schedule answer → FromFiles files env answer
-from_schedule files env root schedule is made =
-    from_rows files env schedule.settings root schedule.rows is.is_root is.converge (goes_on schedule (orders schedule.places schedule.order is.reached is.ordered) made)
+  from_rows : (set : Settings) (rows : List Row) {answer : Result (List Job) PlanError} → AreSettings files (Ok set) → Converge files root rows
+      → Then (Schedules set rows env target) (MakesJobs files) answer → FromRoot files root env target answer
+  from_rows set rows is converge next =
+      let listed : Listed = record { rows = rows; winners = converge.winners } in
+      from_decls set is
+      (goes_on listed (lists listed converge.listed.rows converge.listed.few)
+      (goes_on listed (record { versions = converge.versions; known = converge.listed.known; together = lives converge.together }) next))
 
-pub staged : {files : List File} {env : List ℕ} {answer : Result (List Job) PlanError} → IsPlan files env answer → FromFiles files env answer
-staged (settings {error = error} said) = stops (Err error, said, refl)
+  schedule_of : (schedule : Schedule) → IsSchedule files root env target schedule → Schedules schedule.settings schedule.rows env target (Ok schedule)
+  schedule_of schedule is =
+      subst (λ (t : List ℕ). Schedules schedule.settings schedule.rows env target (Ok (record schedule { target = t }))) (sym is.aimed)
+      (orders schedule.places schedule.order is.reached is.ordered)
+
+  from_schedule : (schedule : Schedule) {answer : Result (List Job) PlanError} → IsSchedule files root env target schedule
+      → MakesJobs files schedule answer → FromRoot files root env target answer
+  from_schedule schedule is made = from_rows schedule.settings schedule.rows is.set is.converge (goes_on schedule (schedule_of schedule is) made)
+
+pub staged_of : {files : List File} {root : List Decl} {env target : List ℕ} {answer : Result (List Job) PlanError}
+    → IsPlanOf files root env target answer → FromRoot files root env target answer
+staged_of (settings {error = error} said) = stops (Err error, said, refl)
+staged_of {files = files} {root = root} {env = env} {target = target} (dependency set is met) =
+    from_decls files root env target set is (stops (meets met))
+staged_of {files = files} {root = root} {env = env} {target = target} (too_many set is many) =
+    from_decls files root env target set is (stops (passes many))
+staged_of {files = files} {root = root} {env = env} {target = target} (diverged set listed versions divergences is are apart some said) =
+    from_decls files root env target set is
+    (goes_on listed (lists listed are.rows are.few)
+    (stops (record { versions = versions; known = are.known; together = diverges divergences apart some said })))
+staged_of {files = files} {root = root} {env = env} {target = target} (cycle set rows places nodes is converge reached around) =
+    from_rows files root env target set rows is converge (stops (circles places nodes reached around))
+staged_of {files = files} {root = root} {env = env} {target = target} (too_large schedule jobs job is first fit large) =
+    from_schedule files root env target schedule is (passes_size jobs job first fit large)
+staged_of {files = files} {root = root} {env = env} {target = target} (planned schedule is first whole fit) =
+    from_schedule files root env target schedule is (makes first whole fit)
+
+-- what is met over the root's declarations is met over the files
+of_files : {files : List File} {env target : List ℕ} {answer : Result (List Job) PlanError} (root : Project) → IsLoaded files [] (Ok (Some root))
+    → FromRoot files root.decls env target answer → FromFiles files env target answer
+of_files root loaded (stops why) = stops why
+of_files root loaded (goes_on set is next) = goes_on set is (goes_on root (Ok (Some root), loaded, refl) next)
+
+pub staged : {files : List File} {env target : List ℕ} {answer : Result (List Job) PlanError} → IsPlan files env target answer
+    → FromFiles files env target answer
+staged (root_settings {error = error} said) = stops (Err error, said, refl)
 staged (no_project set said none) = goes_on set (Ok set, said, refl) (stops (Ok None, none, refl))
 staged (project set {fault = fault} said why) = goes_on set (Ok set, said, refl) (stops (Err fault, why, refl))
-staged {files = files} {env = env} (dependency set root is met) = from_root files env set root is (stops (meets met))
-staged {files = files} {env = env} (too_many set root is many) = from_root files env set root is (stops (passes many))
-staged {files = files} {env = env} (diverged set root listed versions divergences is are apart some said) =
-    from_root files env set root is (goes_on listed (lists listed are.rows are.few) (stops (record { versions = versions; known = are.known; together = diverges divergences apart some said })))
-staged {files = files} {env = env} (cycle set root rows places nodes is converge reached around) =
-    from_rows files env set root rows is converge (stops (circles places nodes reached around))
-staged {files = files} {env = env} (too_large root schedule jobs job is first fit large) = from_schedule files env root schedule is (passes_size jobs job first fit large)
-staged {files = files} {env = env} (planned root schedule is first whole fit) = from_schedule files env root schedule is (makes first whole fit)
+staged (of_root root loaded plan) = of_files root loaded (staged_of plan)

@@ -10,7 +10,7 @@ use Rattle.converger.specs.declared.divergence.Divergence.{Divergence}
 use Rattle.converger.specs.declared.divergence.Rule.{Rule}
 use Rattle.converger.specs.Converged.{NoneDiverges}
 use Rattle.converger.specs.Divergence.{AreDivergences, Diverges, IsUnder, IsWithoutVersion}
-use Rattle.converger.specs.Divergence.Diverges.{source, compiled, version, environment}
+use Rattle.converger.specs.Divergence.Diverges.{source, compiled, version, build}
 use Rattle.build_plan.specs.Stages.{LiveWith}
 use Rattle.build_plan.specs.Stages.LiveWith.{lives}
 
@@ -28,7 +28,7 @@ diverges_within : (rows : List Row) (winners : List ℕ) (versions : List (Optio
 diverges_within rows winners versions _ place other (source winner row under _ _ _) = under_within rows place other winner row under
 diverges_within rows winners versions _ place other (compiled winner row under _ _ _) = under_within rows place other winner row under
 diverges_within rows winners versions _ place other (version winner row _ _ under _ _ _ _) = under_within rows place other winner row under
-diverges_within rows winners versions _ place other (environment _ winner row _ _ under _ _ _ _ _ _) = under_within rows place other winner row under
+diverges_within rows winners versions _ place other (build _ winner row _ _ _ under _ _ _ _ _ _ _) = under_within rows place other winner row under
 
 pub within_rows : (rows copies : List Row) (winners : List ℕ) (versions : List (Option Parts)) (list : List Divergence) → copies ≡ rows → AreDivergences rows winners versions list → All (λ d. (d.winner < length copies) × (d.other < length copies)) list
 within_rows rows copies winners versions list same are =

@@ -31,14 +31,23 @@ manager_for files decl dir = manager_or decl.manager (manager_by_files files dir
 abbrev pub how_for : List File → Settings → Decl → List ℕ → How
 how_for files settings decl dir = command settings (manager_for files decl dir) decl.compile
 
+-- what jobs are made of: the settings, the target, all rows, the winners that are reached, and the order of their graph
+pub record Schedule : Type 0 where
+  pub settings : Settings
+  pub target : List ℕ
+  pub rows : List Row
+  pub places : List ℕ
+  pub order : List ℕ
+
 -- the job of a winner with this folder and version, and with these needs
-abbrev pub job_with : List File → Settings → Row → List ℕ → List ℕ → List ℕ → List (List ℕ) → Job
-job_with files settings row dir version needs need_apps = record {
+abbrev pub job_with : List File → Schedule → Row → List ℕ → List ℕ → List ℕ → List (List ℕ) → Job
+job_with files schedule row dir version needs need_apps = record {
   app = row.app;
   version = version;
   origin = FromPath;
-  options = options_text version row.decl (manager_for files row.decl dir) (how_for files settings row.decl dir);
-  how = how_for files settings row.decl dir;
+  options = options_text version row.decl (manager_for files row.decl dir)
+      (how_for files schedule.settings row.decl dir) schedule.target;
+  how = how_for files schedule.settings row.decl dir;
   system_env = row.decl.system_env;
   dir = dir;
   sources = sources_of dir files;
@@ -47,13 +56,6 @@ job_with files settings row dir version needs need_apps = record {
   need_apps = need_apps;
   listed = refl;
 }
-
--- what jobs are made of: the settings, all rows, the winners that are reached, and the order of their graph
-pub record Schedule : Type 0 where
-  pub settings : Settings
-  pub rows : List Row
-  pub places : List ℕ
-  pub order : List ℕ
 
 -- where these places of the graph stand in its order
 abbrev pub places_in : List ℕ → List ℕ → List ℕ
@@ -66,7 +68,7 @@ pub record StandsAt (schedule : Schedule) (k : ℕ) (row : Row) (reached : List 
   pub at : slice_get schedule.order k ≡ Some node
   pub wins : slice_get schedule.places node ≡ Some place
   pub stands : slice_get schedule.rows place ≡ Some row
-  pub closure : IsClosureOf (graph_of schedule.rows schedule.places) schedule.order node reached
+  pub closure : IsClosureOf (graph_of schedule.rows schedule.target schedule.places) schedule.order node reached
 
 -- the job at a place of the order: that of the winner there, whose needs are all that it reaches
 pub record IsJobAt (files : List File) (schedule : Schedule) (k : ℕ) (job : Job) : Type 0 where
@@ -77,7 +79,7 @@ pub record IsJobAt (files : List File) (schedule : Schedule) (k : ℕ) (job : Jo
   pub at : StandsAt schedule k row reached
   pub source : row.decl.source ≡ Path dir
   pub loaded : IsLoaded files dir (Ok found)
-  pub is : job ≡ job_with files schedule.settings row dir (version_by found) (places_in schedule.order reached) (apps_of schedule.rows schedule.places reached)
+  pub is : job ≡ job_with files schedule row dir (version_by found) (places_in schedule.order reached) (apps_of schedule.rows schedule.places reached)
 
 -- the jobs of the first places of the order
 pub record AreFirstJobs (files : List File) (schedule : Schedule) (jobs : List Job) : Type 0 where

@@ -1,8 +1,9 @@
 -- The options text of a job: all that its declaration says of how it is compiled, as a printed term.
-use Rattle.std.specs.Prelude.{ℕ, Bool, true, false, List, [], ◌∷◌, map, codes}
+use Rattle.std.specs.Prelude.{ℕ, Bool, true, false, List, [], ◌∷◌, ◌++◌, map, codes, bytes_eq, if◌then◌else◌}
 use Rattle.term_values.specs.declared.term.Term.{Term}
 use Rattle.term_values.specs.declared.term.Term.TheVariants.{Atom, Str, List as Elements, Tuple}
 use Rattle.term_print.specs.Printed.{printed}
+use Rattle.mx_base.specs.BuildName.{host}
 use Rattle.mx_base.specs.declared.variable.Variable.{Variable}
 use Rattle.compile_model.specs.declared.how.How.{How}
 use Rattle.compile_model.specs.declared.how.How.TheVariants.{Nothing, Unit as ByUnit, Program}
@@ -56,17 +57,13 @@ compiler_terms decl how =
     ∷ keyword (codes "system_env") (Elements (map variable_term decl.system_env))
     ∷ []
 
-abbrev pub options_term : List ℕ → Decl → Manager → How → Term
-options_term version decl manager how = Elements (
-    keyword (codes "app") (Atom decl.app)
-    ∷ keyword (codes "version") (Str version)
-    ∷ keyword (codes "env") (Atom decl.env)
-    ∷ keyword (codes "manager") (Atom (manager_name manager))
-    ∷ keyword (codes "compile") (compile_term decl.compile)
-    ∷ keyword (codes "compiler") (compiler_term how)
-    ∷ keyword (codes "app_file") (truth decl.app_file)
-    ∷ keyword (codes "system_env") (Elements (map variable_term decl.system_env))
-    ∷ [])
+-- for what target, unless it is for the machine at hand
+abbrev pub target_terms : List ℕ → List Term
+target_terms target = if bytes_eq target host then [] else keyword (codes "target") (Atom target) ∷ []
 
-abbrev pub options_text : List ℕ → Decl → Manager → How → List ℕ
-options_text version decl manager how = printed (options_term version decl manager how)
+abbrev pub options_term : List ℕ → Decl → Manager → How → List ℕ → Term
+options_term version decl manager how target =
+    Elements (names_terms version decl manager ++ compiler_terms decl how ++ target_terms target)
+
+abbrev pub options_text : List ℕ → Decl → Manager → How → List ℕ → List ℕ
+options_text version decl manager how target = printed (options_term version decl manager how target)

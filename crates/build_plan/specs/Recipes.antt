@@ -10,7 +10,7 @@ use Rattle.project_file.specs.Files.{manager_by_files}
 use Rattle.build_plan.specs.declared.post.Post.{Post}
 use Rattle.build_plan.specs.declared.recipe.Recipe.{Recipe}
 use Rattle.build_plan.specs.Dependencies.{version_by}
-use Rattle.build_plan.specs.Jobs.{manager_or}
+use Rattle.build_plan.specs.Jobs.{Schedule, manager_or}
 use Rattle.build_plan.specs.Options.{options_text}
 
 -- by which manager and how a dependency with these sources is compiled
@@ -21,8 +21,9 @@ abbrev pub how_among : Settings → Decl → List File → How
 how_among settings decl sources = command settings (manager_among decl sources) decl.compile
 
 -- it says how a winner with these sources is compiled
-pub record IsRecipe (settings : Settings) (post : Post) (sources : List File) (recipe : Recipe) : Type 0 where
+pub record IsRecipe (schedule : Schedule) (post : Post) (sources : List File) (recipe : Recipe) : Type 0 where
   pub version : recipe.version ≡ version_by post.found.now.project
-  pub how : recipe.how ≡ how_among settings post.row.now.decl sources
-  pub options : recipe.options ≡ options_text (version_by post.found.now.project) post.row.now.decl (manager_among post.row.now.decl sources) (how_among settings post.row.now.decl sources)
+  pub how : recipe.how ≡ how_among schedule.settings post.row.now.decl sources
+  pub options : recipe.options ≡ options_text (version_by post.found.now.project) post.row.now.decl (manager_among post.row.now.decl sources)
+      (how_among schedule.settings post.row.now.decl sources) schedule.target
   pub system_env : recipe.system_env ≡ post.row.now.decl.system_env

@@ -32,7 +32,7 @@ use Rattle.build_plan.specs.Sources.{bytes_in}
 pub record IsOrdered (schedule : Schedule) : Type 0 where
   pub in_order : AllPairs (λ earlier later. earlier < later) schedule.places
   pub only : All (λ place. (row : Row) × IsWinner schedule.rows place row) schedule.places
-  pub order : IsOrderOf (graph_of schedule.rows schedule.places) schedule.order
+  pub order : IsOrderOf (graph_of schedule.rows schedule.target schedule.places) schedule.order
 
 -- a schedule, and what was found in the folders of all winners
 pub record Scenery : Type 0 where
@@ -40,12 +40,12 @@ pub record Scenery : Type 0 where
   pub found : List Found
 
 -- rows, what was found of their winners, those of them that are reached, and their graph in its order
-pub record IsScene (listed : Listed) (found : List Found) (places : List ℕ) (ordered : OrderedGraph) : Type 0 where
+pub record IsScene (listed : Listed) (found : List Found) (target places : List ℕ) (ordered : OrderedGraph) : Type 0 where
   pub winning : AreWinners listed.rows listed.winners
   pub founds : AllZip (IsFoundAt listed.rows) listed.winners found
   pub in_order : AllPairs (λ earlier later. earlier < later) places
   pub only : All (λ place. (row : Row) × IsWinner listed.rows place row) places
-  pub is_graph : ordered.graph ≡ graph_of listed.rows places
+  pub is_graph : ordered.graph ≡ graph_of listed.rows target places
   pub is_order : IsOrderOf ordered.graph ordered.order
 
 -- the node stands in the order, before a place
@@ -93,7 +93,8 @@ job_from schedule post sources = record {
   app = post.row.now.app;
   version = version_by post.found.now.project;
   origin = FromPath;
-  options = options_text (version_by post.found.now.project) post.row.now.decl (manager_among post.row.now.decl sources) (how_among schedule.settings post.row.now.decl sources);
+  options = options_text (version_by post.found.now.project) post.row.now.decl (manager_among post.row.now.decl sources)
+      (how_among schedule.settings post.row.now.decl sources) schedule.target;
   how = how_among schedule.settings post.row.now.decl sources;
   system_env = post.row.now.decl.system_env;
   dir = post.found.now.dir;

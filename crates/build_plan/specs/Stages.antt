@@ -55,14 +55,17 @@ pub record LivesTogether (files : List File) (listed : Listed) (answer : Result 
   pub together : LiveWith listed versions answer
 
 -- the order of the graph of these winners
-abbrev pub OrdersGraph : List Row → List ℕ → Result (List ℕ) PlanError → Type 0
-OrdersGraph rows places (Ok order) = IsOrderOf (graph_of rows places) order
-OrdersGraph rows places (Err error) = (nodes : List ℕ) × IsCycleOf (graph_of rows places) nodes × (error ≡ refused.Cycle (apps_of rows places nodes))
+abbrev pub OrdersGraph : List Row → List ℕ → List ℕ → Result (List ℕ) PlanError → Type 0
+OrdersGraph rows target places (Ok order) = IsOrderOf (graph_of rows target places) order
+OrdersGraph rows target places (Err error) = (nodes : List ℕ) × IsCycleOf (graph_of rows target places) nodes × (error ≡ refused.Cycle (apps_of rows places nodes))
 
--- the winners that an environment reaches, and their order
-pub data Schedules (settings : Settings) (rows : List Row) (env : List ℕ) : Result Schedule PlanError → Type 0 where
-  circles : (places nodes : List ℕ) → AreReached rows env places → IsCycleOf (graph_of rows places) nodes → Schedules settings rows env (Err (refused.Cycle (apps_of rows places nodes)))
-  orders : (places order : List ℕ) → AreReached rows env places → IsOrderOf (graph_of rows places) order → Schedules settings rows env (Ok (record { settings = settings; rows = rows; places = places; order = order }))
+-- the winners that an environment reaches for a target, and their order
+pub data Schedules (settings : Settings) (rows : List Row) (env target : List ℕ) : Result Schedule PlanError → Type 0 where
+  circles : (places nodes : List ℕ) → AreReached rows env target places → IsCycleOf (graph_of rows target places) nodes
+      → Schedules settings rows env target (Err (refused.Cycle (apps_of rows places nodes)))
+  orders : (places order : List ℕ) → AreReached rows env target places → IsOrderOf (graph_of rows target places) order
+      → Schedules settings rows env target
+      (Ok (record { settings = settings; target = target; rows = rows; places = places; order = order }))
 
 -- the jobs in an order, or the first one past a limit
 pub data MakesJobs (files : List File) (schedule : Schedule) : Result (List Job) PlanError → Type 0 where

@@ -126,7 +126,7 @@ fn described(
     requires few { at < most_jobs }
     ensures { IfOk result (λ job. job ≡ job_from scene.now.schedule post.now sources) }
 {
-    let recipe = recipe_of(alloc, scene.settings(), post, sources.as_slice())?;
+    let recipe = recipe_of(alloc, scene, post, sources.as_slice())?;
     let needs = scene.needs_of(alloc, &post.reached)?;
     of_parts(alloc, post, recipe, needs, sources)
 }

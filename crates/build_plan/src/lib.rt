@@ -1,4 +1,4 @@
-//! The plan of a project: its files, an environment, and the jobs in the order in which they are compiled.
+//! The plan of a project: its files, an environment, a target, and the jobs in the order in which they are compiled.
 //!
 //! It brings together the rows of `dep_rows`, the rules of `converger`, the order of `dep_order` and the manifests of
 //! `project_file`. A layer above may rely on this: `plan` answers the one plan that the files have, or the refusal
@@ -26,5 +26,5 @@ mod sources;
 mod versions;
 
 pub use error::{DivergedLine, DivergedLines, PlanError};
-pub use laws::{one_plan, some_plan};
-pub use planning::plan;
+pub use laws::{one_plan, one_plan_of, some_plan, some_plan_of};
+pub use planning::{plan, plan_of};

@@ -1,28 +1,36 @@
-// What the apps that are reached need directly.
+// What the apps that are reached need directly, for a target.
 ghost use Rattle.std.specs.Prelude.{◌≡◌, ◌==◌, ◌<◌, ◌++◌, [], ◌∷◌, ℕ, length, replicate, IfOk, OnOk, IfNone, IfSome, IsFalse, slice_index, if◌then◌else◌, nat_eq, false};
 ghost use Rattle.std.specs.List.{All, AllPairs};
 ghost use Rattle.mx_base.specs.Blame.{AnswersBy, fails, is_outside};
 ghost use Rattle.mx_base.specs.Blame.Blame.{Input};
 ghost use Rattle.dep_order.specs.Graph.{needs_of};
+ghost use Rattle.converger.specs.Reach.{admits};
 ghost use Rattle.build_plan.specs.Blame.{blame_of};
 ghost use Rattle.build_plan.specs.Needs.{apps_of, graph_of, is_child_at, node_of, needs_from};
 ghost use Rattle.build_plan.specs.Stages.{OrdersGraph};
 
 use crate::error::PlanError;
+use converger::admits;
 use dep_order::{Graph, OrderError, Ordered, Places, order};
 use dep_rows::{Row, Rows};
-use mx_base::Names;
+use mx_base::{AppName, Names};
 use std::alloc::{AllocError, Global};
 
 /// The graph of these winners in its order.
-pub(crate) fn ordered_of(alloc: Global, rows: &Rows, places: &[u32]) -> Result<Ordered, PlanError>
+pub(crate) fn ordered_of(
+    alloc: Global,
+    rows: &Rows,
+    target: &AppName,
+    places: &[u32],
+) -> Result<Ordered, PlanError>
     requires { AllPairs (λ earlier later. earlier < later) places.now }
-    ensures graph { IfOk result (λ ordered. ordered.graph ≡ graph_of rows.now.rows places.now) }
+    ensures graph { IfOk result (λ ordered.
+        ordered.graph ≡ graph_of rows.now.rows target.now places.now) }
     ensures answer { AnswersBy (λ ordered. ordered.order) blame_of result
-        (OrdersGraph rows.now.rows places.now) }
+        (OrdersGraph rows.now.rows target.now places.now) }
     ensures alone { IsFalse (fails blame_of result) }
 {
-    let graph = graph_of(alloc, rows, places)?;
+    let graph = graph_of(alloc, rows, target, places)?;
     match order(alloc, &graph) {
         Ok(order) => Ok(Ordered::of(alloc, graph, order)?),
         Err(OrderError::Cycle(nodes)) => Err(cycle(alloc, rows.rows(), places, nodes.as_slice())),
@@ -43,13 +51,18 @@ fn cycle(alloc: Global, rows: &[Row], places: &[u32], nodes: &[usize]) -> PlanEr
 }
 
 /// For each of these winners which of them it needs directly.
-fn graph_of(alloc: Global, rows: &Rows, places: &[u32]) -> Result<Graph, AllocError>
+fn graph_of(
+    alloc: Global,
+    rows: &Rows,
+    target: &AppName,
+    places: &[u32],
+) -> Result<Graph, AllocError>
     requires { AllPairs (λ earlier later. earlier < later) places.now }
-    ensures { IfOk result (λ graph. graph ≡ graph_of rows.now.rows places.now) }
+    ensures { IfOk result (λ graph. graph ≡ graph_of rows.now.rows target.now places.now) }
 {
     let mut needs = without_needs(alloc, places.len())?;
     for row in rows.rows() {
-        add_row(&mut needs, rows, places, row)?;
+        add_row(&mut needs, rows, target, places, row)?;
     }
     Ok(Graph::of(needs))
 }
@@ -69,6 +82,7 @@ fn without_needs(alloc: Global, count: usize) -> Result<Vec<Places>, AllocError>
 fn add_row(
     needs: &mut Vec<Places>,
     rows: &Rows,
+    target: &AppName,
     places: &[u32],
     row: &Row,
 ) -> Result<(), AllocError>
@@ -77,9 +91,10 @@ fn add_row(
     ensures long { length needs.new.items ≡ length needs.old.items }
     ensures each { OnOk result ((node : ℕ) → node < length places.now →
         needs_of needs.new.items node ≡ needs_of needs.old.items node
-        ++ needs_from rows.now.rows places.now (row.now ∷ []) (slice_index places.now node)) }
+        ++ needs_from rows.now.rows target.now places.now (row.now ∷ [])
+        (slice_index places.now node)) }
 {
-    match need_of(rows, places, row) {
+    match need_of(rows, target, places, row) {
         Some((node, need)) => add_need(needs, node, need),
         None => Ok(()),
     }
@@ -96,19 +111,30 @@ fn add_need(needs: &mut Vec<Places>, node: usize, need: usize) -> Result<(), All
 }
 
 /// Which winner declares a row, and which one it needs by that.
-#[tactic(auto, using(crate::proofs::NeedLemmas::no_child, crate::proofs::NeedLemmas::no_node, crate::proofs::NeedLemmas::one_need))]
-fn need_of(rows: &Rows, places: &[u32], row: &Row) -> Option<(usize, usize)>
+#[tactic(auto, using(crate::proofs::NeedLemmas::not_meant, crate::proofs::NeedLemmas::no_child, crate::proofs::NeedLemmas::no_node, crate::proofs::NeedLemmas::one_need))]
+fn need_of(rows: &Rows, target: &AppName, places: &[u32], row: &Row) -> Option<(usize, usize)>
     requires { AllPairs (λ earlier later. earlier < later) places.now }
     ensures none { IfNone result ((node : ℕ) → node < length places.now →
-        needs_from rows.now.rows places.now (row.now ∷ []) (slice_index places.now node) ≡ []) }
+        needs_from rows.now.rows target.now places.now (row.now ∷ [])
+        (slice_index places.now node) ≡ []) }
     ensures within { IfSome result (λ need. need.0 < length places.now) }
     ensures some { IfSome result (λ need. (node : ℕ) → node < length places.now →
-        needs_from rows.now.rows places.now (row.now ∷ []) (slice_index places.now node)
-        ≡ (if node == need.0 then need.1 ∷ [] else [])) }
+        needs_from rows.now.rows target.now places.now (row.now ∷ [])
+        (slice_index places.now node) ≡ (if node == need.0 then need.1 ∷ [] else [])) }
 {
+    if !is_meant(row, target) {
+        return None;
+    }
     let node = declarer(places, row)?;
     let need = node_of(rows, places, row)?;
     Some((node, need))
+}
+
+/// Whether a row is for the target.
+fn is_meant(row: &Row, target: &AppName) -> bool
+    ensures { result ≡ admits row.now.decl.targets target.now }
+{
+    admits(&row.decl.targets, target.as_str())
 }
 
 /// Which of these winners declares a row.

@@ -1,26 +1,29 @@
 // The options text of a job.
 ghost use Rattle.std.specs.Prelude.{◌≡◌, [], ◌∷◌, ◌++◌, map, IfOk, OnOk};
 ghost use Rattle.term_values.specs.declared.term.Term.TheVariants as term;
-ghost use Rattle.build_plan.specs.Options.{names_terms, compiler_terms, keyword, truth, manager_name, compile_term, compiler_term, variable_term, options_term, options_text};
+ghost use Rattle.build_plan.specs.Options.{names_terms, compiler_terms, keyword, truth, manager_name, compile_term, compiler_term, variable_term, target_terms, options_term, options_text};
 
 use compile_model::How;
 use dep_options::{CompileBy, Decl, Manager};
 use elixir_terms::print;
-use mx_base::{Bytes, Text, Variable, Variables};
+use mx_base::{AppName, Bytes, HOST, Text, Variable, Variables};
 use std::alloc::{AllocError, Global};
 use term_values::{Term, Terms};
 
-/// All that a declaration says of how it is compiled, with the version, the manager and the compiler of its app.
+/// All that a declaration says of how it is compiled, with the version, the manager and the compiler of its app, and the
+/// target unless that is `host`.
 pub(crate) fn options_text(
     alloc: Global,
     version: &Text,
     decl: &Decl,
     manager: Manager,
     how: &How,
+    target: &AppName,
 ) -> Result<Bytes, AllocError>
-    ensures { IfOk result (λ text. text ≡ options_text version.now decl.now manager how.now) }
+    ensures { IfOk result (λ text.
+        text ≡ options_text version.now decl.now manager how.now target.now) }
 {
-    let term = options_term(alloc, version, decl, manager, how)?;
+    let term = options_term(alloc, version, decl, manager, how, target)?;
     print(alloc, &term)
 }
 
@@ -30,12 +33,15 @@ fn options_term(
     decl: &Decl,
     manager: Manager,
     how: &How,
+    target: &AppName,
 ) -> Result<Term, AllocError>
-    ensures { IfOk result (λ made. made ≡ options_term version.now decl.now manager how.now) }
+    ensures { IfOk result (λ made.
+        made ≡ options_term version.now decl.now manager how.now target.now) }
 {
     let mut parts = Terms::new(alloc);
     add_names(alloc, &mut parts, version, decl, manager)?;
     add_compiler(alloc, &mut parts, decl, how)?;
+    add_target(alloc, &mut parts, target)?;
     Ok(Term::List(parts))
 }
 
@@ -66,6 +72,17 @@ fn add_compiler(alloc: Global, parts: &mut Terms, decl: &Decl, how: &How) -> Res
     let variables = variables_term(alloc, &decl.system_env)?;
     add(alloc, parts, "system_env", variables)?;
     Ok(())
+}
+
+/// Adds for what target it is compiled, unless that is `host`.
+#[tactic(auto, using(crate::proofs::OptionLemmas::none_added))]
+fn add_target(alloc: Global, parts: &mut Terms, target: &AppName) -> Result<(), AllocError>
+    ensures { OnOk result (parts.new ≡ parts.old ++ target_terms target.now) }
+{
+    if target.as_str() == HOST {
+        return Ok(());
+    }
+    add(alloc, parts, "target", atom(alloc, target.as_str())?)
 }
 
 /// Adds a value under a name.

@@ -1,15 +1,17 @@
 // The plan of a project.
-ghost use Rattle.std.specs.Prelude.{◌≡◌, List, length, IfOk, IsFalse};
+ghost use Rattle.std.specs.Prelude.{◌≡◌, List, length, IfOk, IsFalse, Ok};
 ghost use Rattle.std.specs.List.{All};
 ghost use Rattle.mx_base.specs.Blame.{AnswersBy, fails};
+ghost use Rattle.mx_base.specs.BuildName.{HasBuildName, build_name};
 ghost use Rattle.mx_base.specs.declared.file.File.{File};
 ghost use Rattle.compile_model.specs.Planned.{ArePlanned};
 ghost use Rattle.tree_store.specs.Known.{Told, OnlyReads};
 ghost use Rattle.converger.specs.Divergence.{parts_in};
+ghost use Rattle.project_file.specs.Files.{AreSettings};
 ghost use Rattle.build_plan.specs.Blame.{blame_of};
 ghost use Rattle.build_plan.specs.Found.{AreFoundFor, IsFound};
 ghost use Rattle.build_plan.specs.Jobs.{AllFit};
-ghost use Rattle.build_plan.specs.Plan.{IsPlan, IsRoot};
+ghost use Rattle.build_plan.specs.Plan.{IsPlan, IsPlanOf};
 ghost use Rattle.build_plan.specs.Stages.{LiveWith, LivesTogether, MakesJobs, Schedules, Then};
 
 use crate::dependencies::dependencies;
@@ -22,55 +24,124 @@ use crate::scene::Scene;
 use crate::versions::versions;
 use compile_model::{Job, Jobs, Plan};
 use converger::{ConvergeError, Converged, converge, divergences};
+use dep_options::Decl;
 use dep_rows::Rows;
-use mx_base::AppName;
-use project_file::{Project, Settings};
+use mx_base::{AppName, build_name};
+use project_file::Settings;
 use semver::Version;
-use std::alloc::Global;
+use std::alloc::{AllocError, Global};
 use tree_store::Store;
 
-/// Reads what a project and its dependencies declare, and plans a job for each app that the environment reaches.
+/// Reads what a project and its dependencies declare, and plans a job for each app that the environment reaches for the
+/// target. The plan is named as their build.
 ///
 /// # Errors
 ///
 /// What is met first: `Settings`, `NoProject` or `Project` of the root, then row by row `PathMissing`, `Project` of a
 /// dependency's manifest, `NotLocked` or `TooManyRows`, then `Diverged`, `Cycle`, and in the order of the plan
 /// `TooLarge`. `Read` comes where the store failed, `OutOfMemory` where there was not enough memory.
-pub fn plan<S: Store>(alloc: Global, store: &mut S, env: &AppName) -> Result<Plan, PlanError>
-    ensures env { IfOk result (λ plan. plan.env ≡ env.now) }
+pub fn plan<S: Store>(
+    alloc: Global,
+    store: &mut S,
+    env: &AppName,
+    target: &AppName,
+) -> Result<Plan, PlanError>
+    requires { HasBuildName env.now target.now }
+    ensures name { IfOk result (λ plan. plan.env ≡ build_name env.now target.now) }
     ensures planned { IfOk result (λ plan. ArePlanned plan.jobs) }
     ensures fit { IfOk result (λ plan. AllFit plan.jobs) }
     ensures answer { AnswersBy (λ plan. plan.jobs) blame_of result
-        (Told (S.known store.old) (λ files. IsPlan files env.now)) }
+        (Told (S.known store.old) (λ files. IsPlan files env.now target.now)) }
     // Nothing is written.
     ensures reads { OnlyReads (S.known store.old) (S.known store.new) (fails blame_of result) }
 {
     let settings = settings(alloc, store)?;
     let root = root(alloc, store)?;
-    let jobs = jobs_of_root(alloc, store, &settings, &root, env)?;
+    planned(alloc, store, &settings, root.decls.as_slice(), env, target)
+}
+
+/// The same over these declarations in place of the root's: what they and those of the dependencies come to.
+///
+/// # Errors
+///
+/// Those of `plan` without `NoProject` and the root's `Project`.
+pub fn plan_of<S: Store>(
+    alloc: Global,
+    store: &mut S,
+    root: &[Decl],
+    env: &AppName,
+    target: &AppName,
+) -> Result<Plan, PlanError>
+    requires { HasBuildName env.now target.now }
+    ensures name { IfOk result (λ plan. plan.env ≡ build_name env.now target.now) }
+    ensures planned { IfOk result (λ plan. ArePlanned plan.jobs) }
+    ensures fit { IfOk result (λ plan. AllFit plan.jobs) }
+    ensures answer { AnswersBy (λ plan. plan.jobs) blame_of result
+        (Told (S.known store.old) (λ files. IsPlanOf files root.now env.now target.now)) }
+    // Nothing is written.
+    ensures reads { OnlyReads (S.known store.old) (S.known store.new) (fails blame_of result) }
+{
+    let settings = settings(alloc, store)?;
+    planned(alloc, store, &settings, root, env, target)
+}
+
+/// The plan with these settings.
+fn planned<S: Store>(
+    alloc: Global,
+    store: &mut S,
+    settings: &Settings,
+    root: &[Decl],
+    env: &AppName,
+    target: &AppName,
+) -> Result<Plan, PlanError>
+    requires { HasBuildName env.now target.now }
+    ensures name { IfOk result (λ plan. plan.env ≡ build_name env.now target.now) }
+    ensures answer { AnswersBy (λ plan. plan.jobs) blame_of result (Told (S.known store.old)
+        (λ files answer. AreSettings files (Ok settings.now)
+        → IsPlanOf files root.now env.now target.now answer)) }
+    ensures planned { IfOk result (λ plan. ArePlanned plan.jobs) }
+    ensures fit { IfOk result (λ plan. AllFit plan.jobs) }
+    ensures reads { OnlyReads (S.known store.old) (S.known store.new) (fails blame_of result) }
+{
+    let name = name_of(alloc, env, target)?;
+    let jobs = jobs_of(alloc, store, settings, root, env, target)?;
     Ok(Plan {
-        env: env.clone()?,
+        env: name,
         jobs: Jobs::from_vec(jobs),
     })
 }
 
-/// The jobs of a project with these settings and this manifest.
-fn jobs_of_root<S: Store>(
+/// The name of the build, which is short enough.
+fn name_of(alloc: Global, env: &AppName, target: &AppName) -> Result<AppName, AllocError>
+    requires { HasBuildName env.now target.now }
+    ensures { IfOk result (λ name. name ≡ build_name env.now target.now) }
+{
+    match build_name(alloc, env, target) {
+        Ok(name) => Ok(name),
+        // The name isn't too long, so memory ran out.
+        Err(_) => Err(AllocError),
+    }
+}
+
+/// The jobs of a project with these settings and these declarations.
+fn jobs_of<S: Store>(
     alloc: Global,
     store: &mut S,
     settings: &Settings,
-    root: &Project,
+    root: &[Decl],
     env: &AppName,
+    target: &AppName,
 ) -> Result<Vec<Job>, PlanError>
     ensures answer { AnswersBy (λ jobs. jobs.items) blame_of result (Told (S.known store.old)
-        (λ files answer. IsRoot files settings.now root.now → IsPlan files env.now answer)) }
+        (λ files answer. AreSettings files (Ok settings.now)
+        → IsPlanOf files root.now env.now target.now answer)) }
     ensures planned { IfOk result (λ jobs. ArePlanned jobs.items) }
     ensures fit { IfOk result (λ jobs. AllFit jobs.items) }
     ensures reads { OnlyReads (S.known store.old) (S.known store.new) (fails blame_of result) }
 {
-    let all = dependencies(alloc, store, root.decls.as_slice())?;
+    let all = dependencies(alloc, store, root)?;
     let converged = converged(alloc, all.rows, &all.found)?;
-    jobs_for(alloc, store, settings, &converged, &all.found, env)
+    jobs_for(alloc, store, settings, &converged, &all.found, env, target)
 }
 
 /// The rows, where they live together.
@@ -106,7 +177,7 @@ fn judge(alloc: Global, rows: &Rows, versions: &[Option<Version>]) -> Result<(),
     Err(PlanError::Diverged(lines))
 }
 
-/// The jobs of the winners that the environment reaches.
+/// The jobs of the winners that the environment reaches for the target.
 fn jobs_for<S: Store>(
     alloc: Global,
     store: &mut S,
@@ -114,15 +185,17 @@ fn jobs_for<S: Store>(
     converged: &Converged,
     found: &[Found],
     env: &AppName,
+    target: &AppName,
 ) -> Result<Vec<Job>, PlanError>
     requires found { AreFoundFor converged.now.rows found.now }
     requires meant { Told (S.known store.old) (λ files. All (IsFound files)) found.now }
     ensures answer { AnswersBy (λ jobs. jobs.items) blame_of result (Told (S.known store.old)
-        (λ files. Then (Schedules settings.now converged.now.rows.rows env.now) (MakesJobs files))) }
+        (λ files. Then (Schedules settings.now converged.now.rows.rows env.now target.now)
+        (MakesJobs files))) }
     ensures planned { IfOk result (λ jobs. ArePlanned jobs.items) }
     ensures fit { IfOk result (λ jobs. AllFit jobs.items) }
     ensures reads { OnlyReads (S.known store.old) (S.known store.new) (fails blame_of result) }
 {
-    let scene = Scene::of(alloc, settings, converged, found, env)?;
+    let scene = Scene::of(alloc, settings, converged, found, env, target)?;
     jobs(alloc, store, &scene)
 }

@@ -4,11 +4,12 @@ ghost use Rattle.build_plan.specs.Recipes.{IsRecipe, how_among, manager_among};
 
 use crate::options::options_text;
 use crate::post::Post;
+use crate::scene::Scene;
 use compile_model::How;
 use compiler_drive::command;
 use dep_options::{Decl, Manager};
 use mx_base::{Bytes, File, Text, Variables};
-use project_file::{Settings, manager_by_files};
+use project_file::manager_by_files;
 use std::alloc::{AllocError, Global};
 
 /// What a job says of how its dependency is compiled.
@@ -23,17 +24,17 @@ pub(crate) struct Recipe {
 /// How a winner with these sources is compiled.
 pub(crate) fn recipe_of(
     alloc: Global,
-    settings: &Settings,
+    scene: &Scene<'_>,
     post: &Post<'_>,
     sources: &[File],
 ) -> Result<Recipe, AllocError>
-    ensures { IfOk result (IsRecipe settings.now post.now sources.now) }
+    ensures { IfOk result (IsRecipe scene.now.schedule post.now sources.now) }
 {
     let decl = &post.row.decl;
     let manager = manager_of(decl, sources);
-    let how = command(alloc, settings, manager, &decl.compile)?;
+    let how = command(alloc, scene.settings(), manager, &decl.compile)?;
     let version = Text::from_slice(alloc, post.found.version())?;
-    let options = options_text(alloc, &version, decl, manager, &how)?;
+    let options = options_text(alloc, &version, decl, manager, &how, scene.target())?;
     Ok(Recipe {
         version,
         how,

@@ -28,6 +28,7 @@ use std::marker::Model;
 #[derive(Drop)]
 pub(crate) struct Scene<'a> {
     settings: &'a Settings,
+    target: &'a AppName,
     rows: &'a Rows,
     /// What was found in the folders of the winners.
     found: &'a [Found],
@@ -49,33 +50,35 @@ impl<'a> Model for Scene<'a> {
     ghost Value = { Scenery };
 
     ghost view = { λ scene. record {
-      schedule = record { settings = scene.settings.now; rows = scene.rows.now.rows; places = scene.places.items; order = scene.ordered.order };
+      schedule = record { settings = scene.settings.now; target = scene.target.now; rows = scene.rows.now.rows; places = scene.places.items; order = scene.ordered.order };
       found = scene.found.now;
     } };
 
-    ghost invariant = { λ scene. IsScene scene.rows.now scene.found.now scene.places.items scene.ordered };
+    ghost invariant = { λ scene. IsScene scene.rows.now scene.found.now scene.target.now scene.places.items scene.ordered };
 }
 
 impl<'a> Scene<'a> {
-    /// The winners that the environment reaches, in their order.
+    /// The winners that the environment reaches for the target, in their order.
     pub(crate) fn of(
         alloc: Global,
         settings: &'a Settings,
         converged: &'a Converged,
         found: &'a [Found],
         env: &AppName,
+        target: &'a AppName,
     ) -> Result<Scene<'a>, PlanError>
         requires { AreFoundFor converged.now.rows found.now }
         ensures answer { AnswersBy (λ scene. scene.schedule) blame_of result
-            (Schedules settings.now converged.now.rows.rows env.now) }
+            (Schedules settings.now converged.now.rows.rows env.now target.now) }
         ensures found { IfOk result (λ scene. scene.found ≡ found.now) }
         ensures alone { IsFalse (fails blame_of result) }
     {
         let rows = converged.rows();
-        let places = for_env(alloc, converged, env)?;
-        let ordered = ordered_of(alloc, rows, &places)?;
+        let places = for_env(alloc, converged, env, target)?;
+        let ordered = ordered_of(alloc, rows, target, &places)?;
         Ok(Scene {
             settings,
+            target,
             rows,
             found,
             places,
@@ -87,6 +90,12 @@ impl<'a> Scene<'a> {
         ensures { result.now ≡ self.now.schedule.settings }
     {
         self.settings
+    }
+
+    pub(crate) fn target(&self) -> &'a AppName
+        ensures { result.now ≡ self.now.schedule.target }
+    {
+        self.target
     }
 
     /// How many places the order has.

@@ -26,13 +26,13 @@ use graphs::{closure_case, order_case};
 use manifests::{decls_case, manifest_case, project_case};
 use marks::{listing_case, mark_case};
 use messages::{message_case, write_case};
-use projects::{plan_case, run_case};
-use rows::{converge_case, reach_case, rows_case};
+use projects::{plan_case, plan_for_case, run_case};
+use rows::{converge_case, reach_case, reach_for_case, rows_case};
 use std::alloc::{AllocError, Global};
 use std::io;
 use std::io::{BufRead, BufReader, BufWriter, Write};
 use terms::{
-    join_case, match_case, name_case, print_case, requirement_case, term_case, version_case,
+    build_case, join_case, match_case, name_case, print_case, requirement_case, term_case, version_case,
 };
 use units::unit_case;
 
@@ -69,6 +69,7 @@ fn answer(alloc: Global, out: &mut String, line: &str) -> Result<(), Fault> {
         "term" => term_case(alloc, out, texts),
         "print" => print_case(alloc, out, texts),
         "name" => name_case(alloc, out, texts),
+        "build" => build_case(alloc, out, texts),
         "join" => join_case(alloc, out, texts),
         "version" => version_case(alloc, out, texts),
         "requirement" => requirement_case(alloc, out, texts),
@@ -87,7 +88,9 @@ fn answer(alloc: Global, out: &mut String, line: &str) -> Result<(), Fault> {
         "rows" => rows_case(alloc, out, texts),
         "converge" => converge_case(alloc, out, texts),
         "reach" => reach_case(alloc, out, texts),
+        "reach_for" => reach_for_case(alloc, out, texts),
         "plan" => plan_case(alloc, out, texts),
+        "plan_for" => plan_for_case(alloc, out, texts),
         "listing" => listing_case(alloc, out, texts),
         "mark" => mark_case(alloc, out, texts),
         "run" => run_case(alloc, out, texts),

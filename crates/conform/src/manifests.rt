@@ -55,6 +55,10 @@ fn push_decl(alloc: Global, out: &mut String, decl: &Decl) -> Result<(), Fault> 
         say(out, " only")?;
         push_names(out, names.as_slice())?;
     }
+    if let Some(names) = &decl.targets {
+        say(out, " targets")?;
+        push_names(out, names.as_slice())?;
+    }
     if decl.env.as_str() != "prod" {
         say(out, " env ")?;
         say(out, decl.env.as_str())?;

@@ -1,4 +1,5 @@
 // Cases of whole projects: their plan, and what running the command does.
+ghost use Rattle.mx_base.specs.BuildName.{HasBuildName};
 ghost use Rattle.tree_store.specs.Slot.{AllHere};
 
 use crate::compilers::refused_settings;
@@ -12,7 +13,7 @@ use crate::terms::app_name;
 use build_plan::{DivergedLine, PlanError, plan};
 use compile_model::{Compiler, Plan};
 use mix_main::run;
-use mx_base::{AppName, FaultPlan, File, Files, MemSink};
+use mx_base::{AppName, FaultPlan, File, Files, HOST, MemSink, NameError, build_name};
 use std::alloc::Global;
 use tree_store::{Folder, Store, StoreFault};
 
@@ -23,8 +24,51 @@ pub(crate) fn plan_case(alloc: Global, out: &mut String, texts: &[Vec<u8>]) -> R
         return Err(Fault::Form);
     };
     let env = app_name(alloc, env.as_slice())?;
+    let target = app_name(alloc, HOST.as_bytes())?;
     let mut store = store_of(alloc, calls.as_slice(), b"", files)?;
-    match plan(alloc, &mut store, &env) {
+    push_plan(alloc, out, &mut store, &env, &target)
+}
+
+/// The same for a target, which stands behind the environment.
+pub(crate) fn plan_for_case(
+    alloc: Global,
+    out: &mut String,
+    texts: &[Vec<u8>],
+) -> Result<(), Fault> {
+    let [calls, env, target, files @ ..] = texts else {
+        return Err(Fault::Form);
+    };
+    let env = app_name(alloc, env.as_slice())?;
+    let target = app_name(alloc, target.as_slice())?;
+    let mut store = store_of(alloc, calls.as_slice(), b"", files)?;
+    push_plan(alloc, out, &mut store, &env, &target)
+}
+
+/// The plan, where the environment and the target have a build name.
+fn push_plan<S: Store>(
+    alloc: Global,
+    out: &mut String,
+    store: &mut S,
+    env: &AppName,
+    target: &AppName,
+) -> Result<(), Fault> {
+    match build_name(alloc, env, target) {
+        Ok(_) => push_planned(alloc, out, store, env, target),
+        Err(NameError::OutOfMemory) => Err(Fault::Memory),
+        Err(_) => Err(Fault::Form),
+    }
+}
+
+fn push_planned<S: Store>(
+    alloc: Global,
+    out: &mut String,
+    store: &mut S,
+    env: &AppName,
+    target: &AppName,
+) -> Result<(), Fault>
+    requires { HasBuildName env.now target.now }
+{
+    match plan(alloc, store, env, target) {
         Ok(plan) => push_jobs(alloc, out, &plan),
         Err(error) => refused_plan(alloc, out, &error),
     }

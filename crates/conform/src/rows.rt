@@ -8,7 +8,7 @@ use converger::{ConvergeError, Converged, Divergence, Rule, Versions, converge, 
 use dep_options::{Decl, decls};
 use dep_rows::{ListAnswer, ListAnswers, ListChildren, ListFault, Rows, RowsError, rows};
 use elixir_terms::read;
-use mx_base::{AppName, FaultPlan, ListOf};
+use mx_base::{AppName, FaultPlan, HOST, ListOf};
 use semver::Version;
 use std::alloc::Global;
 
@@ -174,19 +174,47 @@ pub(crate) fn rule_name(rule: Rule) -> &'static str {
 }
 
 /// An environment, the root's declarations, and for some apps the app and its declarations: the winners' places that the
-/// environment reaches, where each winner has the version 1.0.0.
+/// environment reaches for the target `host`, where each winner has the version 1.0.0.
 pub(crate) fn reach_case(alloc: Global, out: &mut String, texts: &[Vec<u8>]) -> Result<(), Fault> {
-    let [env, root, apps @ ..] = texts else {
+    let [env, apps @ ..] = texts else {
         return Err(Fault::Form);
     };
     let env = app_name(alloc, env.as_slice())?;
+    let target = app_name(alloc, HOST.as_bytes())?;
+    push_reach(alloc, out, &env, &target, apps)
+}
+
+/// The same for a target, which stands behind the environment.
+pub(crate) fn reach_for_case(
+    alloc: Global,
+    out: &mut String,
+    texts: &[Vec<u8>],
+) -> Result<(), Fault> {
+    let [env, target, apps @ ..] = texts else {
+        return Err(Fault::Form);
+    };
+    let env = app_name(alloc, env.as_slice())?;
+    let target = app_name(alloc, target.as_slice())?;
+    push_reach(alloc, out, &env, &target, apps)
+}
+
+fn push_reach(
+    alloc: Global,
+    out: &mut String,
+    env: &AppName,
+    target: &AppName,
+    texts: &[Vec<u8>],
+) -> Result<(), Fault> {
+    let [root, apps @ ..] = texts else {
+        return Err(Fault::Form);
+    };
     let rows = told_rows(alloc, root.as_slice(), apps)?;
     let versions = same_versions(alloc, rows.winners().len())?;
     if versions.as_slice().len() != rows.winners().len() {
         return Err(Fault::Form);
     }
     match converge(alloc, rows, versions) {
-        Ok(converged) => push_reached(alloc, out, &converged, &env),
+        Ok(converged) => push_reached(alloc, out, &converged, env, target),
         Err(_) => Err(Fault::Form),
     }
 }
@@ -204,9 +232,10 @@ fn push_reached(
     out: &mut String,
     converged: &Converged,
     env: &AppName,
+    target: &AppName,
 ) -> Result<(), Fault> {
     say(out, "ok")?;
-    for place in for_env(alloc, converged, env)? {
+    for place in for_env(alloc, converged, env, target)? {
         write!(out, " {place}")?;
     }
     Ok(())

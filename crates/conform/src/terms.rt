@@ -3,7 +3,7 @@
 use crate::fields::{Fault, word};
 use crate::shown::{push_after, refused, say};
 use elixir_terms::{Feature, Term, TermCause, TermError, print, read};
-use mx_base::{AppName, NameError, PathError, RelPath};
+use mx_base::{AppName, NameError, PathError, RelPath, build_name};
 use semver::Version;
 use std::alloc::Global;
 use std::cmp::Ordering;
@@ -82,6 +82,20 @@ pub(crate) fn name_case(alloc: Global, out: &mut String, texts: &[Vec<u8>]) -> R
         Err(NameError::TooLong) => say(out, "refused - TooLong"),
         Err(NameError::BadByte { at }) => refused(out, at, "BadByte"),
         Err(NameError::OutOfMemory) => Err(Fault::Memory),
+    }
+}
+
+/// An environment and a target: the name of their build.
+pub(crate) fn build_case(alloc: Global, out: &mut String, texts: &[Vec<u8>]) -> Result<(), Fault> {
+    let [env, target] = texts else {
+        return Err(Fault::Form);
+    };
+    let env = app_name(alloc, env.as_slice())?;
+    let target = app_name(alloc, target.as_slice())?;
+    match build_name(alloc, &env, &target) {
+        Ok(name) => push_after(alloc, out, "ok ", name.as_str().as_bytes()),
+        Err(NameError::OutOfMemory) => Err(Fault::Memory),
+        Err(_) => say(out, "refused - TooLong"),
     }
 }
 

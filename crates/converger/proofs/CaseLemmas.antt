@@ -14,9 +14,9 @@ use Rattle.dep_rows.specs.Listed.{Listed}
 use Rattle.dep_rows.specs.Rows.{winner_of}
 use Rattle.converger.specs.declared.divergence.Rule.{Rule}
 use Rattle.converger.specs.declared.divergence.Rule.TheVariants.{V1, V2, V3, V4}
-use Rattle.converger.specs.Divergence.{Diverges, source, compiled, version, environment, HasVersion, IsUnder, is_path, parts_in}
+use Rattle.converger.specs.Divergence.{Diverges, source, compiled, version, build, HasVersion, IsUnder, is_path, parts_in}
 use Rattle.converger.specs.Cases.{IsScene, IsUnderAt, Meets}
-use Rattle.converger.specs.Strays.{is_marked, IsStraySomewhere}
+use Rattle.converger.specs.Strays.{is_marked, IsStray, IsStraySomewhere}
 use Rattle.converger.proofs.WebLemmas.{one_value}
 
 -- a version whose parts are known
@@ -60,7 +60,7 @@ module _ (rows : List Row) (winners : List ℕ) (versions : List (Option Parts))
   stands_under _ place other (source winner row under apart kept differs) = record { winner = winner; row = row; under = under }
   stands_under _ place other (compiled winner row under apart kept differs) = record { winner = winner; row = row; under = under }
   stands_under _ place other (version winner row v requirement under kept has asks fails) = record { winner = winner; row = row; under = under }
-  stands_under _ place other (environment by winner row parent env under root barred required declared stands reached) =
+  stands_under _ place other (build by winner row parent env target under root barred required meant declared stands reached) =
       record { winner = winner; row = row; under = under }
 
   pub diverges_at_winner : (rule : Rule) (place other : ℕ) (row : Row) → slice_get rows other ≡ Some row → Diverges rows winners versions rule place other
@@ -131,12 +131,12 @@ module _ (rows : List Row) (winners : List ℕ) (versions : List (Option Parts))
         ((case.version (parts_of m.version)).0 (ap (option_map parts_of) m.has)) m.asks m.fails
     meets_diverges V4 m =
         let at = case.is_stray.0 m in
-        let s = at.1 in
+        let s = at.1.1 in
         let here : s.row ≡ row = one_value (sym s.under.stands ∙ case.under.stands) in
         let same_place : s.place ≡ place = one_value (sym (is_winner rows row.app s.place s.winner s.under.wins (s.under.app ∙ ap (λ (r : Row). r.app) here))
         ∙ is_winner rows row.app place winner case.under.wins case.under.app) in
         subst (λ (p : ℕ). Diverges rows winners versions V4 p other) same_place
-        (environment s.by s.winner s.row s.parent at.0 s.under s.root s.barred s.required s.declared s.stands s.reached)
+        (build s.by s.winner s.row s.parent at.1.0 at.0 s.under s.root s.barred s.required s.meant s.declared s.stands s.reached)
 
     pub diverges_meets : (rule : Rule) → Diverges rows winners versions rule place other → Meets rule winner row case.same case.found case.stray
     diverges_meets V1 (source w r under apart kept differs) =
@@ -157,24 +157,23 @@ module _ (rows : List Row) (winners : List ℕ) (versions : List (Option Parts))
           asks = rw is_r at asks;
           fails = ap (λ (parts : Parts). sat requirement parts (is_path winner.decl.source)) behind.2 ∙ rw is_w at fails;
         }
-    diverges_meets V4 (environment by w r parent env under root barred required declared stands reached) =
-        case.is_stray.1 (
-          env,
-          record {
-            place = place;
-            by = by;
-            winner = w;
-            row = r;
-            parent = parent;
-            under = under;
-            root = root;
-            barred = barred;
-            required = required;
-            declared = declared;
-            stands = stands;
-            reached = reached;
-          },
-        )
+    diverges_meets V4 (build by w r parent env target under root barred required meant declared stands reached) =
+        let stray : IsStray rows env target other = record {
+          place = place;
+          by = by;
+          winner = w;
+          row = r;
+          parent = parent;
+          under = under;
+          root = root;
+          barred = barred;
+          required = required;
+          meant = meant;
+          declared = declared;
+          stands = stands;
+          reached = reached;
+        } in
+        case.is_stray.1 (target, (env, stray))
 
     pub case_iff : (rule : Rule) → Meets rule winner row case.same case.found case.stray ↔ Diverges rows winners versions rule place other
     case_iff rule = (meets_diverges rule, diverges_meets rule)

@@ -1,20 +1,17 @@
--- The environments that the root names, and one that it doesn't.
+-- The environments that the root names and the targets that rows name, and one of each that isn't named.
 use Rattle.std.proofs.Common.{◌≡◌, ◌↔◌, ℕ, zero, suc, ◌+◌, ◌<◌, ◌≤◌, Bool, true, false, cond, ◌||◌, ◌⊎◌, inl, inr, List, [], ◌∷◌, ◌++◌, Contains, length, get_or, take, replicate, sym, ◌∙◌, ap, ap₂, subst, refl, arith, IsTrue, Option, Some, None, is_none, bytes_eq}
 use Rattle.std.specs.List.{slice_get, list_any}
+use Rattle.std.specs.Option.{is_some}
 use Rattle.std.specs.Ordering.{is_eq}
 use Rattle.std.specs.BTreeSet.{BTreeSet, contains_by, UpdatesBy}
 use denote.Ref.{Bor}
 use Rattle.std.proofs.lemmas.List.{take_more, take_all, get_or_default, get_or_past, get_or-replicate, length-replicate}
 use Rattle.std.proofs.lemmas.List.Folds.{list_any_more, Any-from_list_any}
-use Rattle.std.proofs.lemmas.Bool.{false≢true, both_ways, and_parts, and_from, cases_eq, cases_lt}
+use Rattle.std.proofs.lemmas.Bool.{both_ways, cases_eq, cases_lt}
 use Rattle.mx_base.specs.Order.{text_cmp}
 use Rattle.mx_base.specs.AppName.{IsAppName}
-use Rattle.dep_order.specs.Reach.{IsReachedFrom, Direct, Further}
 use Rattle.dep_rows.specs.declared.row.Row.{Row}
-use Rattle.converger.specs.Reach.{admits, is_wanted, links_of, starts_of}
-use Rattle.converger.specs.Strays.{is_marked, IsStray, IsStraySomewhere, AreNamed, IsUnnamed, is_named}
-use Rattle.converger.proofs.Links.{brought}
-use Rattle.converger.proofs.Reached.{starts_brought}
+use Rattle.converger.specs.Strays.{is_marked, AreNamed, IsUnnamed, is_named, only_of}
 use Rattle.converger.proofs.WebLemmas.{one_value, same_bytes, not_same_bytes, ties_bytes}
 
 or_cond : (b c : Bool) → cond b true c ≡ (c || b)
@@ -60,143 +57,132 @@ row_cases rows i row within is place r stands =
     push_cases (take i rows) row r place (sym (ap (λ (xs : List Row). slice_get xs place)
     (take_more rows i row within ∙ ap (λ (x : Row). take i rows ++ x ∷ []) (sym is))) ∙ stands)
 
-pub named_more : (rows : List Row) (i : ℕ) (row : Row) → i < length rows → row ≡ get_or rows i row → (old new : List ℕ → Bool) → AreNamed (take i rows) old
-    → ((env : List ℕ) → old env ≡ true → new env ≡ true) → (row.by ≡ None → (env : List ℕ) → is_named row.decl.only env ≡ true → new env ≡ true)
-    → AreNamed (take (i + 1) rows) new
-named_more rows i row within is old new so_far kept own place r env stands root named =
+pub named_more : (names_of : Row → Option (List (List ℕ))) (rows : List Row) (i : ℕ) (row : Row) → i < length rows → row ≡ get_or rows i row
+    → (old new : List ℕ → Bool) → AreNamed names_of (take i rows) old → ((name : List ℕ) → old name ≡ true → new name ≡ true)
+    → ((name : List ℕ) → is_named (names_of row) name ≡ true → new name ≡ true) → AreNamed names_of (take (i + 1) rows) new
+named_more names_of rows i row within is old new so_far kept own place r name stands named =
     elim (row_cases rows i row within is place r stands) [
-      | inl before ↦ kept env (so_far place r env before root named)
-      | inr same ↦ own (rw (← same) at root) env (rw (← same) at named)
+      | inl before ↦ kept name (so_far place r name before named)
+      | inr same ↦ own name (rw (← same) at named)
     ]
 
-pub unnamed_more : (rows : List Row) (i : ℕ) (row : Row) → i < length rows → row ≡ get_or rows i row → (env : List ℕ) → IsUnnamed (take i rows) env
-    → (row.by ≡ None → is_named row.decl.only env ≡ false) → IsUnnamed (take (i + 1) rows) env
-unnamed_more rows i row within is env so_far own place r stands root =
-    elim (row_cases rows i row within is place r stands) [
-      | inl before ↦ so_far place r before root
-      | inr same ↦ rw same at (own (rw (← same) at root))
-    ]
+pub unnamed_more : (names_of : Row → Option (List (List ℕ))) (rows : List Row) (i : ℕ) (row : Row) → i < length rows → row ≡ get_or rows i row
+    → (name : List ℕ) → IsUnnamed names_of (take i rows) name → is_named (names_of row) name ≡ false → IsUnnamed names_of (take (i + 1) rows) name
+unnamed_more names_of rows i row within is name so_far own place r stands =
+    elim (row_cases rows i row within is place r stands) [ inl before ↦ so_far place r before | inr same ↦ rw same at own ]
 
-pub named_all : (rows : List Row) (i : ℕ) → length rows ≤ i → (has : List ℕ → Bool) → AreNamed (take i rows) has → AreNamed rows has
-named_all rows i long has named = rw (take_all i rows long) at named
+pub named_all : (names_of : Row → Option (List (List ℕ))) (rows : List Row) (i : ℕ) → length rows ≤ i → (has : List ℕ → Bool)
+    → AreNamed names_of (take i rows) has → AreNamed names_of rows has
+named_all names_of rows i long has named = rw (take_all i rows long) at named
 
-pub unnamed_all : (rows : List Row) (i : ℕ) → length rows ≤ i → (env : List ℕ) → IsUnnamed (take i rows) env → IsUnnamed rows env
-unnamed_all rows i long env unnamed = rw (take_all i rows long) at unnamed
+pub unnamed_all : (names_of : Row → Option (List (List ℕ))) (rows : List Row) (i : ℕ) → length rows ≤ i → (name : List ℕ)
+    → IsUnnamed names_of (take i rows) name → IsUnnamed names_of rows name
+unnamed_all names_of rows i long name unnamed = rw (take_all i rows long) at unnamed
 
--- ---- all environments
+pub only_named : (row : Row) → is_none row.by ≡ true → (name : List ℕ) → is_named (only_of row) name ≡ is_named row.decl.only name
+only_named row root name = ap (λ (b : Bool). is_named (cond b row.decl.only None) name) root
 
-none_marked : (n place : ℕ) → is_marked (replicate n false) place ≡ false
+pub nothing_named : (row : Row) → is_some row.by ≡ true → (name : List ℕ) → is_named (only_of row) name ≡ false
+nothing_named row outside name = at row.by outside
+  where
+    at : (o : Option ℕ) → is_some o ≡ true → is_named (cond (is_none o) row.decl.only None) name ≡ false
+    at None h = cc
+    at (Some by) h = refl
+
+-- ---- all environments, or all targets
+
+pub none_marked : (n place : ℕ) → is_marked (replicate n false) place ≡ false
 none_marked n place = elim (cases_lt place n) [
   | inl within ↦ get_or-replicate n place false false within
   | inr past ↦ get_or_past (replicate n false) place false (omega (arith, past, length-replicate n false))
 ]
 
-pub IsTried : List Row → List (Bor (List ℕ)) → ℕ → ℕ → Type 0
-IsTried rows names i other = IsStray rows [] other ⊎ ((k : ℕ) × (name : Bor (List ℕ)) × (k < i) × (get_or names k name ≡ name) × IsStray rows name.now other)
+-- a row is marked already, or a stray for the text that is no name, or for one of these names
+abbrev Tried : List Bool → (List ℕ → ℕ → Type 0) → List (Bor (List ℕ)) → ℕ → ℕ → Type 0
+Tried first P names i other =
+    IsTrue (is_marked first other) ⊎ (P [] other ⊎ ((k : ℕ) × (name : Bor (List ℕ)) × (k < i) × (get_or names k name ≡ name) × P name.now other))
 
-pub tried_first : (rows : List Row) (names : List (Bor (List ℕ))) (n : ℕ) (old new : List Bool) → old ≡ replicate n false
-    → ((q : ℕ) → IsTrue (is_marked new q) ↔ (IsTrue (is_marked old q) ⊎ IsStray rows [] q)) → (q : ℕ) → IsTrue (is_marked new q) ↔ IsTried rows names 0 q
-unfolding IsTried
-tried_first rows names n old new none tell q = (there, back)
-  where
-    there : is_marked new q ≡ true → IsStray rows [] q ⊎ ((k : ℕ) × (name : Bor (List ℕ)) × (k < 0) × (get_or names k name ≡ name) × IsStray rows name.now q)
-    there marked = elim ((tell q).0 marked) [
-      | inl was ↦ absurd (both_ways (is_marked old q) (rw none (none_marked n q)) was)
-      | inr s ↦ inl s
-    ]
+pub IsTried : List Bool → (List ℕ → ℕ → Type 0) → List (Bor (List ℕ)) → ℕ → ℕ → Type 0
+IsTried first P names i other = Tried first P names i other
 
-    back : IsStray rows [] q ⊎ ((k : ℕ) × (name : Bor (List ℕ)) × (k < 0) × (get_or names k name ≡ name) × IsStray rows name.now q) → is_marked new q ≡ true
-    back (inl s) = (tell q).1 (inr s)
-    back (inr at) = absurd (omega (arith, at.2))
+module _ (first : List Bool) (P : List ℕ → ℕ → Type 0) (names : List (Bor (List ℕ))) where
+  pub tried_first : (new : List Bool) → ((q : ℕ) → IsTrue (is_marked new q) ↔ (IsTrue (is_marked first q) ⊎ P [] q))
+      → (q : ℕ) → IsTrue (is_marked new q) ↔ IsTried first P names 0 q
+  unfolding IsTried
+  tried_first new tell q = (
+    λ marked. elim ((tell q).0 marked) [ inl was ↦ inl was | inr s ↦ inr (inl s) ],
+    λ h. elim h [
+      | inl was ↦ (tell q).1 (inl was)
+      | inr other ↦ elim other [ inl s ↦ (tell q).1 (inr s) | inr at ↦ absurd (omega (arith, at.2)) ]
+    ],
+  )
 
-pub tried_more : (rows : List Row) (names : List (Bor (List ℕ))) (i : ℕ) (name : Bor (List ℕ)) → name ≡ get_or names i name → i < length names
-    → (old new : List Bool) → ((q : ℕ) → IsTrue (is_marked old q) ↔ IsTried rows names i q)
-    → ((q : ℕ) → IsTrue (is_marked new q) ↔ (IsTrue (is_marked old q) ⊎ IsStray rows name.now q)) → (q : ℕ)
-    → IsTrue (is_marked new q) ↔ IsTried rows names (i + 1) q
-unfolding IsTried
-tried_more rows names i name is within old new so_far tell q = (there, back)
-  where
-    there : is_marked new q ≡ true → IsStray rows [] q ⊎ ((k : ℕ) × (n : Bor (List ℕ)) × (k < i + 1) × (get_or names k n ≡ n) × IsStray rows n.now q)
-    there marked = elim ((tell q).0 marked) [
-      | inl was ↦ elim ((so_far q).0 was) [ inl s ↦ inl s | inr at ↦ inr (at.0, at.1, omega (arith, at.2), at.3, at.4) ]
-      | inr s ↦ inr (i, name, omega arith, sym is, s)
-    ]
-
-    back : IsStray rows [] q ⊎ ((k : ℕ) × (n : Bor (List ℕ)) × (k < i + 1) × (get_or names k n ≡ n) × IsStray rows n.now q) → is_marked new q ≡ true
-    back (inl s) = (tell q).1 (inl ((so_far q).1 (inl s)))
-    back (inr at) = elim (cases_eq at.0 i) [
-      | inl same ↦
-          let here : at.1 ≡ name = sym at.3 ∙ ap (λ (k : ℕ). get_or names k at.1) same ∙ get_or_default names i at.1 name within ∙ sym is in
-          (tell q).1 (inr (subst (λ (n : Bor (List ℕ)). IsStray rows n.now q) here at.4))
-      | inr apart ↦ (tell q).1 (inl ((so_far q).1 (inr (at.0, at.1, omega (arith, at.2), at.3, at.4))))
-    ]
-
--- ---- an environment that the root doesn't name is like any other of these
-
-module _ (rows : List Row) (has : List ℕ → Bool) (named : AreNamed rows has) (env fresh : List ℕ) (none : has env ≡ false)
-    (unnamed : IsUnnamed rows fresh) where
-  also_admits : (only : Option (List (List ℕ))) → admits only env ≡ true → (is_named only env ≡ true → ⊥) → admits only fresh ≡ true
-  also_admits None h not_named = refl
-  also_admits (Some names) h not_named = absurd (not_named h)
-
-  also_starts : (place : ℕ) → Contains (starts_of rows env) place → Contains (starts_of rows fresh) place
-  unfolding starts_of
-  also_starts place among =
-      let b = starts_brought rows env place among in
-      let parts = and_parts _ (admits b.row.decl.only env) b.passes in
-      let root : b.row.by ≡ None = no_value b.row.by parts.0 in
-      brought rows (is_wanted fresh) rows place b.place b.row b.stands
-      (and_from _ _ parts.0 (also_admits b.row.decl.only parts.1 (λ h. both_ways (has env) none (named b.place b.row env b.stands root h))))
-      b.wins
+  pub tried_more : (i : ℕ) (name : Bor (List ℕ)) → name ≡ get_or names i name → i < length names → (old new : List Bool)
+      → ((q : ℕ) → IsTrue (is_marked old q) ↔ IsTried first P names i q)
+      → ((q : ℕ) → IsTrue (is_marked new q) ↔ (IsTrue (is_marked old q) ⊎ P name.now q)) → (q : ℕ)
+      → IsTrue (is_marked new q) ↔ IsTried first P names (i + 1) q
+  unfolding IsTried
+  tried_more i name is within old new so_far tell q = (there, back)
     where
-      no_value : (o : Option ℕ) → is_none o ≡ true → o ≡ None
-      no_value None h = refl
-      no_value (Some x) h = absurd (false≢true h)
+      there : is_marked new q ≡ true → Tried first P names (i + 1) q
+      there marked = elim ((tell q).0 marked) [
+        | inl was ↦ elim ((so_far q).0 was) [
+          | inl before ↦ inl before
+          | inr other ↦ elim other [ inl s ↦ inr (inl s) | inr at ↦ inr (inr (at.0, at.1, omega (arith, at.2), at.3, at.4)) ]
+        ]
+        | inr s ↦ inr (inr (i, name, omega arith, sym is, s))
+      ]
 
-  also_reached : (place : ℕ) → IsReachedFrom (links_of rows) (starts_of rows env) place → IsReachedFrom (links_of rows) (starts_of rows fresh) place
-  also_reached place (Direct _ among) = Direct place (also_starts place among)
-  also_reached place (Further through _ reached among) = Further through place (also_reached through reached) among
+      at_name : ((k : ℕ) × (n : Bor (List ℕ)) × (k < i + 1) × (get_or names k n ≡ n) × P n.now q) → is_marked new q ≡ true
+      at_name at = elim (cases_eq at.0 i) [
+        | inl same ↦
+            let here : at.1 ≡ name = sym at.3 ∙ ap (λ (k : ℕ). get_or names k at.1) same ∙ get_or_default names i at.1 name within ∙ sym is in
+            (tell q).1 (inr (subst (λ (n : Bor (List ℕ)). P n.now q) here at.4))
+        | inr apart ↦ (tell q).1 (inl ((so_far q).1 (inr (inr (at.0, at.1, omega (arith, at.2), at.3, at.4)))))
+      ]
 
-  also_barred : (only : Option (List (List ℕ))) → admits only env ≡ false → is_named only fresh ≡ false → admits only fresh ≡ false
-  also_barred None h not_named = h
-  also_barred (Some names) h not_named = not_named
+      back : Tried first P names (i + 1) q → is_marked new q ≡ true
+      back h = elim h [
+        | inl was ↦ (tell q).1 (inl ((so_far q).1 (inl was)))
+        | inr other ↦ elim other [ inl s ↦ (tell q).1 (inl ((so_far q).1 (inr (inl s)))) | inr at ↦ at_name at ]
+      ]
 
-  pub also_stray : (other : ℕ) → IsStray rows env other → IsStray rows fresh other
-  also_stray other s = record {
-    place = s.place;
-    by = s.by;
-    winner = s.winner;
-    row = s.row;
-    parent = s.parent;
-    under = s.under;
-    root = s.root;
-    barred = also_barred s.winner.decl.only s.barred (unnamed s.place s.winner s.under.wins.stands s.root);
-    required = s.required;
-    declared = s.declared;
-    stands = s.stands;
-    reached = record { winner = s.reached.winner; wins = s.reached.wins; reached = also_reached s.reached.winner s.reached.reached };
-  }
+  -- the text of no name stands for all that aren't named
+  pub tried_all : ((name : List ℕ) (q : ℕ) → list_any (λ (n : Bor (List ℕ)). is_eq (text_cmp name n.now)) names ≡ false → P name q → P [] q)
+      → (i : ℕ) → length names ≤ i → (marks : List Bool) → ((q : ℕ) → IsTrue (is_marked marks q) ↔ IsTried first P names i q) → (q : ℕ)
+      → IsTrue (is_marked marks q) ↔ (IsTrue (is_marked first q) ⊎ ((name : List ℕ) × P name q))
+  unfolding IsTried
+  tried_all other_name i long marks tell q = (there, back)
+    where
+      there : is_marked marks q ≡ true → IsTrue (is_marked first q) ⊎ ((name : List ℕ) × P name q)
+      there marked = elim ((tell q).0 marked) [
+        | inl was ↦ inl was
+        | inr other ↦ elim other [ inl s ↦ inr ([], s) | inr at ↦ inr (at.1.now, at.4) ]
+      ]
 
-  pub also_place : (other : ℕ) (s : IsStray rows env other) → (also_stray other s).place ≡ s.place
-  unfolding also_stray
-  also_place other s = refl
+      tried : (name : List ℕ) → P name q → (b : Bool) → list_any (λ (n : Bor (List ℕ)). is_eq (text_cmp name n.now)) names ≡ b
+          → Tried first P names i q
+      tried name s true has =
+          let any = Any-from_list_any (λ (n : Bor (List ℕ)). is_eq (text_cmp name n.now)) names has in
+          let same : any.1.now ≡ name = same_bytes any.1.now name (sym (ties_bytes name any.1.now) ∙ any.4) in
+          inr (inr (any.0, any.1, omega (arith, any.2), any.3, subst (λ (e : List ℕ). P e q) (sym same) s))
+      tried name s false none = inr (inl (other_name name q none s))
 
-pub tried_all : (rows : List Row) (names : List (Bor (List ℕ))) → AreNamed rows (λ env. list_any (λ name. is_eq (text_cmp env name.now)) names)
-    → IsUnnamed rows [] → (i : ℕ) → length names ≤ i → (marks : List Bool) → ((q : ℕ) → IsTrue (is_marked marks q) ↔ IsTried rows names i q) → (q : ℕ)
-    → IsTrue (is_marked marks q) ↔ IsStraySomewhere rows q
-unfolding IsTried
-tried_all rows names named unnamed i long marks tell q = (there, back)
-  where
-    there : is_marked marks q ≡ true → (env : List ℕ) × IsStray rows env q
-    there marked = elim ((tell q).0 marked) [ inl s ↦ ([], s) | inr at ↦ (at.1.now, at.4) ]
+      back : IsTrue (is_marked first q) ⊎ ((name : List ℕ) × P name q) → is_marked marks q ≡ true
+      back h = elim h [
+        | inl was ↦ (tell q).1 (inl was)
+        | inr at ↦ (tell q).1 (tried at.0 at.1 (list_any (λ (n : Bor (List ℕ)). is_eq (text_cmp at.0 n.now)) names) refl)
+      ]
 
-    tried : (env : List ℕ) → IsStray rows env q → (b : Bool) → list_any (λ (name : Bor (List ℕ)). is_eq (text_cmp env name.now)) names ≡ b
-        → IsStray rows [] q ⊎ ((k : ℕ) × (name : Bor (List ℕ)) × (k < i) × (get_or names k name ≡ name) × IsStray rows name.now q)
-    tried env s true has =
-        let any = Any-from_list_any (λ (name : Bor (List ℕ)). is_eq (text_cmp env name.now)) names has in
-        let same : any.1.now ≡ env = same_bytes any.1.now env (sym (ties_bytes env any.1.now) ∙ any.4) in
-        inr (any.0, any.1, omega (arith, any.2), any.3, subst (λ (e : List ℕ). IsStray rows e q) (sym same) s)
-    tried env s false none = inl (also_stray rows _ named env [] none unnamed q s)
+not_first : (n q : ℕ) (P : Type 0) → IsTrue (is_marked (replicate n false) q) ⊎ P → P
+not_first n q P (inl was) = absurd (both_ways (is_marked (replicate n false) q) (none_marked n q) was)
+not_first n q P (inr p) = p
 
-    back : (env : List ℕ) × IsStray rows env q → is_marked marks q ≡ true
-    back at = (tell q).1 (tried at.0 at.1 (list_any (λ (name : Bor (List ℕ)). is_eq (text_cmp at.0 name.now)) names) refl)
+-- the same where nothing was marked
+pub all_tried : (n : ℕ) (P : List ℕ → ℕ → Type 0) (names : List (Bor (List ℕ)))
+    → ((name : List ℕ) (q : ℕ) → list_any (λ (m : Bor (List ℕ)). is_eq (text_cmp name m.now)) names ≡ false → P name q → P [] q)
+    → (i : ℕ) → length names ≤ i → (marks : List Bool) → ((q : ℕ) → IsTrue (is_marked marks q) ↔ IsTried (replicate n false) P names i q) → (q : ℕ)
+    → IsTrue (is_marked marks q) ↔ ((name : List ℕ) × P name q)
+all_tried n P names other_name i long marks tell q =
+    let t = tried_all (replicate n false) P names other_name i long marks tell q in
+    (λ marked. not_first n q ((name : List ℕ) × P name q) (t.0 marked), λ s. t.1 (inr s))

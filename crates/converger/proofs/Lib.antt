@@ -7,7 +7,9 @@ pub mod CaseLemmas
 pub mod Turns
 pub mod StrayLemmas
 pub mod EnvLemmas
+pub mod UnnamedLemmas
 pub mod OneAnswer
 pub mod Decided
+pub mod Another
 pub mod SomeStray
 pub mod Exists

@@ -9,16 +9,18 @@ use Rattle.converger.specs.Divergence.{AreDivergences, Diverges, rank}
 use Rattle.converger.specs.Reach.{AreReached, IsReached}
 use Rattle.converger.proofs.OneLemmas.{one_list}
 
-also_reached : (rows : List Row) (env : List ℕ) (places other : List ℕ) → AreReached rows env places → AreReached rows env other → (place : ℕ)
+also_reached : (rows : List Row) (env target : List ℕ) (places other : List ℕ) → AreReached rows env target places → AreReached rows env target other
+    → (place : ℕ)
     → Contains places place → Contains other place
-also_reached rows env places other are others place has =
-    let wins = All-contains (λ (p : ℕ). (row : Row) × IsWinner rows p row × IsReached rows env row.app) places place are.only has in
+also_reached rows env target places other are others place has =
+    let wins = All-contains (λ (p : ℕ). (row : Row) × IsWinner rows p row × IsReached rows env target row.app) places place are.only has in
     others.all place wins.0 wins.1 wins.2
 
-pub one_reach : (rows : List Row) (env : List ℕ) (places other : List ℕ) → AreReached rows env places → AreReached rows env other → places ≡ other
-one_reach rows env places other are others =
+pub one_reach : (rows : List Row) (env target : List ℕ) (places other : List ℕ) → AreReached rows env target places → AreReached rows env target other
+    → places ≡ other
+one_reach rows env target places other are others =
     one_list (λ (x y : ℕ). x < y) (λ x y before after. omega (arith, before, after)) places other are.in_order others.in_order
-    (also_reached rows env places other are others) (also_reached rows env other places others are)
+    (also_reached rows env target places other are others) (also_reached rows env target other places others are)
 
 -- a divergence comes before another one
 IsBefore : Divergence → Divergence → Type 0

@@ -13,7 +13,7 @@ use Rattle.dep_rows.specs.Rows.{IsWinner}
 use Rattle.converger.specs.declared.divergence.Divergence.{Divergence}
 use Rattle.converger.specs.declared.divergence.Rule.{Rule}
 use Rattle.converger.specs.declared.divergence.Rule.TheVariants.{V1, V2, V3, V4}
-use Rattle.converger.specs.Reach.{admits, IsReached}
+use Rattle.converger.specs.Reach.{admits, is_for, IsReached}
 
 -- a row is ignored where the winner of its app stands in the root with `override` and the row stands outside it
 abbrev pub is_ignored : Row → Row → Bool
@@ -51,10 +51,10 @@ pub data Diverges (rows : List Row) (winners : List ℕ) (versions : List (Optio
   version : {place other : ℕ} (winner row : Row) (version : Parts) (requirement : Alternatives) → IsUnder rows place winner other row → IsFalse (is_ignored winner row)
       → HasVersion winners versions place (Some version) → row.decl.requirement ≡ Some requirement
       → IsFalse (sat requirement version (is_path winner.decl.source)) → Diverges rows winners versions V3 place other
-  -- it is reached in an environment that the winner, in the root, isn't for
-  environment : {place other : ℕ} (by : ℕ) (winner row parent : Row) (env : List ℕ) → IsUnder rows place winner other row
-      → winner.by ≡ None → IsFalse (admits winner.decl.only env) → IsTrue row.required → row.by ≡ Some by → slice_get rows by ≡ Some parent
-      → IsReached rows env parent.app → Diverges rows winners versions V4 place other
+  -- it is reached in an environment or for a target that the winner, in the root, isn't for
+  build : {place other : ℕ} (by : ℕ) (winner row parent : Row) (env target : List ℕ) → IsUnder rows place winner other row
+      → winner.by ≡ None → IsFalse (is_for env target winner.decl) → IsTrue row.required → IsTrue (admits row.decl.targets target)
+      → row.by ≡ Some by → slice_get rows by ≡ Some parent → IsReached rows env target parent.app → Diverges rows winners versions V4 place other
 
 -- the order of the rules
 abbrev pub rank : Rule → ℕ

@@ -92,8 +92,7 @@ pub fn divergences(
     ensures { IfOk result
         (AreDivergences rows.now.rows rows.now.winners (parts_in versions.now)) }
 {
-    let web = web_of(alloc, rows)?;
-    let strays = strays(alloc, &web)?;
+    let strays = strays(alloc, rows)?;
     let scene = Scene {
         rows,
         versions,
@@ -143,11 +142,17 @@ fn first_none(versions: &[Option<Version>]) -> Option<usize>
     None
 }
 
-/// The places of all winners that are reached in the environment, in order.
-pub fn for_env(alloc: Global, converged: &Converged, env: &AppName) -> Result<Vec<u32>, AllocError>
-    ensures { IfOk result (λ places. AreReached converged.now.rows.rows env.now places.items) }
+/// The places of all winners that are reached in the environment for the target, in order.
+pub fn for_env(
+    alloc: Global,
+    converged: &Converged,
+    env: &AppName,
+    target: &AppName,
+) -> Result<Vec<u32>, AllocError>
+    ensures { IfOk result (λ places.
+        AreReached converged.now.rows.rows env.now target.now places.items) }
 {
-    let web = web_of(alloc, &converged.rows)?;
+    let web = web_of(alloc, &converged.rows, target.as_str())?;
     let places = reach(alloc, &web, env.as_str())?;
     narrowed(alloc, &places)
 }

@@ -13,7 +13,7 @@ pub enum Rule {
     V2,
     /// The winner's version isn't one that the other asks for.
     V3,
-    /// The other is reached in an environment that the winner, in the root, isn't for.
+    /// The other is reached in an environment or for a target that the winner, in the root, isn't for.
     V4,
 }
 

@@ -6,10 +6,10 @@ ghost use Rattle.converger.specs.Divergence.{AreDivergences};
 ghost use Rattle.converger.specs.Reach.{AreReached};
 ghost use Rattle.converger.specs.declared.divergence.Divergence.{Divergence};
 
-/// An environment reaches one list of winners.
+/// An environment reaches one list of winners for a target.
 pub fn one_reach()
-    ensures { (rows : List Row) (env : List ℕ) (places other : List ℕ) →
-        AreReached rows env places → AreReached rows env other → places ≡ other }
+    ensures { (rows : List Row) (env target : List ℕ) (places other : List ℕ) →
+        AreReached rows env target places → AreReached rows env target other → places ≡ other }
 {}
 
 /// There is one list of all divergences.
@@ -19,9 +19,10 @@ pub fn one_divergence_list()
         AreDivergences rows winners versions other → list ≡ other }
 {}
 
-/// Each environment has a list of the winners that it reaches.
+/// Each environment has a list of the winners that it reaches for a target.
 pub fn some_reach()
-    ensures { (rows : List Row) (env : List ℕ) → (places : List ℕ) × AreReached rows env places }
+    ensures { (rows : List Row) (env target : List ℕ) →
+        (places : List ℕ) × AreReached rows env target places }
 {}
 
 /// Rows and versions have a list of all divergences.

@@ -12,7 +12,7 @@ use Rattle.dep_options.specs.declared.decl.CompileBy.TheVariants as by
 use Rattle.dep_options.specs.declared.error.OptionCause.{OptionCause}
 use Rattle.dep_options.specs.declared.error.OptionCause.TheVariants.{Shape, BadRequirement, NoSource}
 use Rattle.dep_options.specs.declared.error.OptionError.{OptionError}
-use Rattle.dep_options.specs.Options.{first_of, first_fault, said, given, is_dep_folder, is_dep_source, open_folder, truth_of, environments_of, compile_of, folder_of, package_of, manager_of, variables_of}
+use Rattle.dep_options.specs.Options.{first_of, first_fault, said, given, is_dep_folder, is_dep_source, open_folder, truth_of, names_of, compile_of, folder_of, package_of, manager_of, variables_of}
 use Rattle.term_values.specs.Views.{string_of, list_of, tuple_of, keywords_of, Named}
 use Rattle.dep_options.specs.Views.{app_of}
 
@@ -94,7 +94,8 @@ decl_of base app requirement options = record {
   app = app;
   requirement = requirement;
   source = source_of base app options;
-  only = said (codes "only") environments_of options;
+  only = said (codes "only") names_of options;
+  targets = said (codes "targets") names_of options;
   env = given (codes "env") app_of (codes "prod") options;
   optional = given (codes "optional") truth_of false options;
   override_ = given (codes "override") truth_of false options;

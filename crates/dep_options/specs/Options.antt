@@ -12,7 +12,7 @@ use Rattle.dep_options.specs.declared.decl.DepSource.TheVariants.{Hex, Path}
 use Rattle.dep_options.specs.declared.decl.Manager.{Manager}
 use Rattle.dep_options.specs.declared.decl.Manager.TheVariants as manager
 use Rattle.dep_options.specs.declared.kind.Kind.{Kind}
-use Rattle.dep_options.specs.declared.kind.Kind.TheVariants.{Environments, Environment, Truth, Compiling, Folder, Package, Registry, Managing, VariableList, Unsupported}
+use Rattle.dep_options.specs.declared.kind.Kind.TheVariants.{NameList, Environment, Truth, Compiling, Folder, Package, Registry, Managing, VariableList, Unsupported}
 use Rattle.mx_base.specs.declared.variable.Variable.{Variable}
 use Rattle.dep_options.specs.declared.error.OptionCause.{OptionCause}
 use Rattle.dep_options.specs.declared.error.OptionCause.TheVariants.{UnknownOption, UnsupportedSource, BadValue}
@@ -22,7 +22,7 @@ use Rattle.dep_options.specs.Views.{if_app, app_of}
 -- the options by name
 abbrev pub options : List (List ℕ × Kind)
 options =
-    (codes "only", Environments) ∷ (codes "env", Environment)
+    (codes "only", NameList) ∷ (codes "targets", NameList) ∷ (codes "env", Environment)
     ∷ (codes "optional", Truth) ∷ (codes "override", Truth) ∷ (codes "runtime", Truth) ∷ (codes "app", Truth)
     ∷ (codes "compile", Compiling) ∷ (codes "path", Folder) ∷ (codes "hex", Package) ∷ (codes "repo", Registry)
     ∷ (codes "manager", Managing) ∷ (codes "system_env", VariableList)
@@ -51,9 +51,9 @@ abbrev alone_or : Option (List ℕ) → Option (List (List ℕ)) → Option (Lis
 alone_or (Some name) names = Some (name ∷ [])
 alone_or None names = names
 
--- an environment by itself, or a list of them
-abbrev pub environments_of : Term → Option (List (List ℕ))
-environments_of t = alone_or (app_of t) (option_and_then (all_of app_of) (list_of t))
+-- a name by itself, or a list of names
+abbrev pub names_of : Term → Option (List (List ℕ))
+names_of t = alone_or (app_of t) (option_and_then (all_of app_of) (list_of t))
 
 -- a command: a text with a byte other than a space
 abbrev command_in : List ℕ → Option CompileBy
@@ -135,7 +135,7 @@ variables_of t = or_else (option_and_then (all_of tuple_variable_of) (list_of t)
 
 -- whether an option of the kind may have the value
 abbrev pub fits : List ℕ → Kind → Term → Bool
-fits base Environments t = is_some (environments_of t)
+fits base NameList t = is_some (names_of t)
 fits base Environment t = is_some (app_of t)
 fits base Truth t = is_some (truth_of t)
 fits base Compiling t = is_some (compile_of t)

@@ -9,7 +9,7 @@ ghost use Rattle.dep_options.specs.Options.{fits, is_unsupported, fault_of, firs
 use crate::error::OptionCause;
 use crate::kind::{Kind, kind_of};
 use crate::values::{
-    app_of, compile_of, environments_of, folder_of, manager_of, package_of, truth_of, variables_of,
+    app_of, compile_of, folder_of, manager_of, names_of, package_of, truth_of, variables_of,
 };
 use crate::word::is_word;
 use mx_base::{RelPath, Text, copy_text};
@@ -78,7 +78,7 @@ fn fits(alloc: Global, base: &RelPath, kind: Kind, value: &Term) -> Result<bool,
     ensures { IfOk result (λ is. is ≡ fits base.now kind value.now) }
 {
     Ok(match kind {
-        Kind::Environments => environments_of(alloc, value)?.is_some(),
+        Kind::NameList => names_of(alloc, value)?.is_some(),
         Kind::Environment => app_of(alloc, value)?.is_some(),
         Kind::Truth => truth_of(value).is_some(),
         Kind::Compiling => compile_of(alloc, value)?.is_some(),

@@ -14,6 +14,8 @@ pub struct Decl {
     pub source: DepSource,
     /// The environments that it is for: all of them where there is no list.
     pub only: Option<Names>,
+    /// The targets that it is for: all of them where there is no list.
+    pub targets: Option<Names>,
     /// The environment that it is compiled in.
     pub env: AppName,
     pub optional: bool,
@@ -40,6 +42,7 @@ impl Clone for Decl {
             requirement: self.requirement.clone()?,
             source: self.source.clone()?,
             only: self.only.clone()?,
+            targets: self.targets.clone()?,
             env: self.env.clone()?,
             optional: self.optional,
             override_: self.override_,

@@ -5,7 +5,8 @@ ghost use Rattle.dep_options.specs.Decls.{source_of, decl_of};
 
 use crate::decl::{Decl, DepSource};
 use crate::given::{
-    Options, compiling, environment, environments, folder, manager, package, truth, variables,
+    Options, compiling, environment, environments, folder, manager, package, targets, truth,
+    variables,
 };
 use mx_base::{AppName, RelPath};
 use std::alloc::{AllocError, Global};
@@ -24,6 +25,7 @@ pub(crate) fn declared(
     Ok(Decl {
         source: source(alloc, base, &app, options)?,
         only: environments(alloc, options)?,
+        targets: targets(alloc, options)?,
         env: environment(alloc, options)?,
         compile: compiling(alloc, options)?,
         system_env: variables(alloc, options)?,

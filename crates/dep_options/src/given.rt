@@ -3,12 +3,12 @@ ghost use Rattle.std.specs.Prelude.{◌≡◌, [], codes, IfOk};
 ghost use Rattle.std.specs.Option.{option_copied};
 ghost use Rattle.term_values.specs.Views.{named};
 ghost use Rattle.dep_options.specs.declared.decl.CompileBy.TheVariants as by;
-ghost use Rattle.dep_options.specs.Options.{first_of, said, given, truth_of, environments_of, compile_of, folder_of, package_of, manager_of, variables_of};
+ghost use Rattle.dep_options.specs.Options.{first_of, said, given, truth_of, names_of, compile_of, folder_of, package_of, manager_of, variables_of};
 ghost use Rattle.dep_options.specs.Views.{app_of};
 
 use crate::decl::{CompileBy, Manager};
 use crate::values::{
-    app_of, compile_of, environments_of, folder_of, manager_of, package_of, truth_of, variables_of,
+    app_of, compile_of, folder_of, manager_of, names_of, package_of, truth_of, variables_of,
 };
 use mx_base::{AppName, ListOf, Names, RelPath, Text, Variables};
 use std::alloc::{AllocError, Global};
@@ -42,11 +42,20 @@ pub(crate) fn truth(options: Options, name: &[u8], default: bool) -> bool
 
 /// The environments of `only`.
 pub(crate) fn environments(alloc: Global, options: Options) -> Result<Option<Names>, AllocError>
-    ensures { IfOk result (λ names. names ≡ said (codes "only") environments_of
-        (named options.now)) }
+    ensures { IfOk result (λ names. names ≡ said (codes "only") names_of (named options.now)) }
 {
     match first(options, b"only") {
-        Some(value) => environments_of(alloc, value),
+        Some(value) => names_of(alloc, value),
+        None => Ok(None),
+    }
+}
+
+/// The targets of `targets`.
+pub(crate) fn targets(alloc: Global, options: Options) -> Result<Option<Names>, AllocError>
+    ensures { IfOk result (λ names. names ≡ said (codes "targets") names_of (named options.now)) }
+{
+    match first(options, b"targets") {
+        Some(value) => names_of(alloc, value),
         None => Ok(None),
     }
 }

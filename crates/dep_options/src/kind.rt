@@ -5,8 +5,8 @@ ghost use Rattle.dep_options.specs.Options.{first_of, kind_of};
 /// What an option takes.
 #[derive(Clone, Copy, Drop)]
 pub(crate) enum Kind {
-    /// One environment or a list of them.
-    Environments,
+    /// One name or a list of names, of environments or of targets.
+    NameList,
     Environment,
     Truth,
     /// How the dependency is compiled.
@@ -23,8 +23,9 @@ pub(crate) enum Kind {
     Unsupported,
 }
 
-const OPTIONS: [(&str, Kind); 16] = [
-    ("only", Kind::Environments),
+const OPTIONS: [(&str, Kind); 17] = [
+    ("only", Kind::NameList),
+    ("targets", Kind::NameList),
     ("env", Kind::Environment),
     ("optional", Kind::Truth),
     ("override", Kind::Truth),

@@ -4,7 +4,7 @@ ghost use Rattle.std.specs.List.{list_any};
 ghost use Rattle.mx_base.specs.AppName.{is_app_name};
 ghost use Rattle.term_values.specs.Views.{all_of};
 ghost use Rattle.dep_options.specs.Views.{app_of};
-ghost use Rattle.dep_options.specs.Options.{truth_of, environments_of, compile_of, folder_of, package_of, manager_of, variable_of, tuple_variable_of, variables_of};
+ghost use Rattle.dep_options.specs.Options.{truth_of, names_of, compile_of, folder_of, package_of, manager_of, variable_of, tuple_variable_of, variables_of};
 
 use crate::decl::{CompileBy, Manager};
 use crate::kept_apart::is_dep_folder;
@@ -48,9 +48,9 @@ pub(crate) fn package_of(alloc: Global, term: &Term) -> Result<Option<AppName>, 
     }
 }
 
-// An environment by itself, or a list of them.
-pub(crate) fn environments_of(alloc: Global, term: &Term) -> Result<Option<Names>, AllocError>
-    ensures { IfOk result (λ found. found ≡ environments_of term.now) }
+// A name by itself, or a list of names.
+pub(crate) fn names_of(alloc: Global, term: &Term) -> Result<Option<Names>, AllocError>
+    ensures { IfOk result (λ found. found ≡ names_of term.now) }
 {
     if let Some(name) = app_of(alloc, term)? {
         let mut names = ListOf::new(alloc);

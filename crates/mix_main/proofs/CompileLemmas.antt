@@ -46,13 +46,13 @@ not_outside Outside differs = absurd (differs refl)
 not_outside Memory differs = refl
 
 -- there is no plan
-pub refuse_ends : (compile : Content → Outcome) (env : List ℕ) (error : PlanError) (old new : Known) (deaths : ℕ) (status : Status) (text : List ℕ) → (blame_of error ≡ Input → Told old (λ files. IsPlan files env) (Err error)) → OnlyReads old new (is_outside (blame_of error)) → TellsError error status text → Compiles compile env (site_of old deaths) (site_of new deaths) status text
-refuse_ends compile env error old new deaths status text first reads (told is ended line) =
+pub refuse_ends : (compile : Content → Outcome) (env target : List ℕ) (error : PlanError) (old new : Known) (deaths : ℕ) (status : Status) (text : List ℕ) → (blame_of error ≡ Input → Told old (λ files. IsPlan files env target) (Err error)) → OnlyReads old new (is_outside (blame_of error)) → TellsError error status text → Compiles compile env target (site_of old deaths) (site_of new deaths) status text
+refuse_ends compile env target error old new deaths status text first reads (told is ended line) =
     refused error (record { refusal = is; first = first is; line = line; ended = ended; same = ap (λ (s : Known). site_of s deaths) (only_read old new _ reads (ap is_outside is)) })
-refuse_ends compile env error old new deaths status text first reads (read is ended line) =
+refuse_ends compile env target error old new deaths status text first reads (read is ended line) =
     let failed : OnlyReads old new true = subst (λ (e : PlanError). OnlyReads old new (is_outside (blame_of e))) is reads in
     unread (failed.cause.rose refl) (ap (λ (s : Known). s.slot) failed.same) ended line
-refuse_ends compile env error old new deaths status text first reads (untold quiet ended line) =
+refuse_ends compile env target error old new deaths status text first reads (untold quiet ended line) =
     unplanned (ap (λ (s : Known). site_of s deaths) (only_read old new _ reads (not_outside (blame_of error) quiet))) ended line
 
 module _ (compile : Content → Outcome) (law : (content : Content) → AreInOrder (compile content).files) (env : List ℕ) (jobs jobs' : List Job) (fates fates' : List Fate) (planned : ArePlanned jobs) (js : jobs' ≡ jobs) (fs : fates' ≡ fates) (is : fates ≡ seq compile jobs) where

@@ -2,6 +2,7 @@
 use Rattle.std.specs.Prelude.{◌≡◌, ℕ, List, if◌then◌else◌, Ok, Err}
 use Rattle.std.specs.List.{list_any}
 use Rattle.mx_base.specs.Blame.Blame.{Input}
+use Rattle.mx_base.specs.BuildName.{build_name}
 use Rattle.mx_base.specs.Causes.{Rose}
 use Rattle.compile_model.specs.declared.job.Job.{Job}
 use Rattle.compile_model.specs.declared.outcome.Fate.{Fate}
@@ -55,30 +56,32 @@ pub data Stands (compile : Content → Outcome) (env : List ℕ) (jobs : List Jo
   begun : FillsPartly env jobs (seq compile jobs) old new → Stands compile env jobs old new
 
 -- what was done with the jobs of a plan, however it ended
-pub record Works (compile : Content → Outcome) (env : List ℕ) (jobs : List Job) (old new : Site) (status : Status) (text : List ℕ) : Type 0 where
+pub record Works (compile : Content → Outcome) (env target : List ℕ) (jobs : List Job) (old new : Site) (status : Status) (text : List ℕ) : Type 0 where
   pub planned : ArePlanned jobs
-  pub first : Told old.store (λ files. IsPlan files env) (Ok jobs)
-  pub ends : Builds compile env jobs old new status text
-  pub stands : Stands compile env jobs old.store.slot new.store.slot
-  pub elsewhere : StaysElsewhere env old.store.slot new.store.slot
+  pub first : Told old.store (λ files. IsPlan files env target) (Ok jobs)
+  pub ends : Builds compile (build_name env target) jobs old new status text
+  pub stands : Stands compile (build_name env target) jobs old.store.slot new.store.slot
+  pub elsewhere : StaysElsewhere (build_name env target) old.store.slot new.store.slot
 
 -- the files are refused: the first refusal, with its status and its line, and nothing changed
-pub record Refused (env : List ℕ) (error : PlanError) (old new : Site) (status : Status) (text : List ℕ) : Type 0 where
+pub record Refused (env target : List ℕ) (error : PlanError) (old new : Site) (status : Status) (text : List ℕ) : Type 0 where
   pub refusal : blame_of error ≡ Input
-  pub first : Told old.store (λ files. IsPlan files env) (Err error)
+  pub first : Told old.store (λ files. IsPlan files env target) (Err error)
   pub line : text ≡ refusal_line error
   pub ended : status ≡ status_of error
   pub same : new ≡ old
 
 -- the ways in which it ends: before anything changed, or from the plan of the files on
-pub data Compiles (compile : Content → Outcome) (env : List ℕ) (old new : Site) (status : Status) (text : List ℕ) : Type 0 where
-  refused : (error : PlanError) → Refused env error old new status text → Compiles compile env old new status text
-  unread : Rose old.store.faults new.store.faults → new.store.slot ≡ old.store.slot → status ≡ ReadFault → text ≡ read_fault_line → Compiles compile env old new status text
-  unplanned : new ≡ old → status ≡ OutOfMemory → text ≡ memory_line → Compiles compile env old new status text
-  planned : (jobs : List Job) → Works compile env jobs old new status text → Compiles compile env old new status text
+pub data Compiles (compile : Content → Outcome) (env target : List ℕ) (old new : Site) (status : Status) (text : List ℕ) : Type 0 where
+  refused : (error : PlanError) → Refused env target error old new status text → Compiles compile env target old new status text
+  unread : Rose old.store.faults new.store.faults → new.store.slot ≡ old.store.slot → status ≡ ReadFault → text ≡ read_fault_line
+      → Compiles compile env target old new status text
+  unplanned : new ≡ old → status ≡ OutOfMemory → text ≡ memory_line → Compiles compile env target old new status text
+  planned : (jobs : List Job) → Works compile env target jobs old new status text → Compiles compile env target old new status text
 
--- what may stand in the environment after any status: some of the files that were there, each whole; or of each app of
+-- what may stand in the build after any status: some of the files that were there, each whole; or of each app of
 -- the plan the first output files, and of the next one nothing or a prefix
-pub data MayStand (compile : Content → Outcome) (env : List ℕ) (old new : Known) : Type 0 where
-  part : EachLeavesPart old.slot new.slot → MayStand compile env old new
-  begun : (jobs : List Job) → Told old (λ files. IsPlan files env) (Ok jobs) → FillsPartly env jobs (seq compile jobs) old.slot new.slot → MayStand compile env old new
+pub data MayStand (compile : Content → Outcome) (env target : List ℕ) (old new : Known) : Type 0 where
+  part : EachLeavesPart old.slot new.slot → MayStand compile env target old new
+  begun : (jobs : List Job) → Told old (λ files. IsPlan files env target) (Ok jobs)
+      → FillsPartly (build_name env target) jobs (seq compile jobs) old.slot new.slot → MayStand compile env target old new

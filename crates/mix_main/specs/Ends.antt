@@ -1,5 +1,6 @@
 -- How a call of the program ends.
 use Rattle.std.specs.Prelude.{◌≡◌, ℕ, List, take, Ok, Err}
+use Rattle.mx_base.specs.BuildName.{HasBuildName, host}
 use Rattle.mx_base.specs.Causes.{Rose}
 use Rattle.mx_base.specs.Sink.{Sunk, with_bytes}
 use Rattle.compile_model.specs.declared.outcome.Outcome.{Outcome}
@@ -20,10 +21,15 @@ pub data Misread (at : ℕ) (old new : Site) (status : Status) (text : List ℕ)
   bad_words : new ≡ old → status ≡ BadWords → text ≡ bad_words_line at → Misread at old new status text
   no_memory : new ≡ old → status ≡ OutOfMemory → text ≡ memory_line → Misread at old new status text
 
+-- what is compiled has a build name
+abbrev pub IsNamed : Command → Type 0
+IsNamed command.Help = Unit {0}
+IsNamed (command.Compile env) = HasBuildName env host
+
 -- what a command comes to where it works: a status, and a text to be written
 abbrev pub Does : (Content → Outcome) → Command → Site → Site → Status → List ℕ → Type 0
 Does compile command.Help old new status text = Helps old new status text
-Does compile (command.Compile env) old new status text = Compiles compile env old new status text
+Does compile (command.Compile env) old new status text = Compiles compile env host old new status text
 
 -- the same of words: they are refused, or they are a command, or there is no memory to read them
 pub data Comes (compile : Content → Outcome) (words : List (List ℕ)) (old new : Site) (status : Status) (text : List ℕ) : Type 0 where

@@ -1,5 +1,6 @@
 -- What follows from how a call ends.
 use Rattle.std.specs.Prelude.{◌≡◌, ℕ, List, Some, Ok, Err}
+use Rattle.mx_base.specs.BuildName.{host}
 use Rattle.mx_base.specs.Causes.{Rose}
 use Rattle.mx_base.specs.Sink.{with_bytes}
 use Rattle.mx_base.specs.declared.file.File.{File}
@@ -44,17 +45,17 @@ pub data EndsRefused (error : PlanError) (old new : World) (result : Status) : T
 -- where the files have a plan and nothing fails outside, `deps.compile` builds it, unless memory runs out
 abbrev pub PlansAreBuilt : Type 0
 PlansAreBuilt = (compile : Content → Outcome) (words : List (List ℕ)) (files : List File) (jobs : List Job) (old new : World) (result : Status) →
-    Ends compile words old new result → Compiling words files old → IsPlan files dev (Ok jobs) → NoneRose old new → EndsBuilt compile jobs old new result
+    Ends compile words old new result → Compiling words files old → IsPlan files dev host (Ok jobs) → NoneRose old new → EndsBuilt compile jobs old new result
 
 -- where the files are refused and nothing fails outside, `deps.compile` says so, unless memory runs out
 abbrev pub RefusedFilesAreRefused : Type 0
 RefusedFilesAreRefused = (compile : Content → Outcome) (words : List (List ℕ)) (files : List File) (error : PlanError) (old new : World) (result : Status) →
-    Ends compile words old new result → Compiling words files old → IsPlan files dev (Err error) → NoneRose old new → EndsRefused error old new result
+    Ends compile words old new result → Compiling words files old → IsPlan files dev host (Err error) → NoneRose old new → EndsRefused error old new result
 
 -- files that are refused leave the tree, whatever the status
 abbrev pub RefusedFilesLeaveTheTree : Type 0
 RefusedFilesLeaveTheTree = (compile : Content → Outcome) (words : List (List ℕ)) (files : List File) (error : PlanError) (old new : World) (result : Status) →
-    Ends compile words old new result → Compiling words files old → IsPlan files dev (Err error) → new.site.store.slot ≡ old.site.store.slot
+    Ends compile words old new result → Compiling words files old → IsPlan files dev host (Err error) → new.site.store.slot ≡ old.site.store.slot
 
 -- words that are no command change nothing, whatever the status
 abbrev pub BadWordsChangeNothing : Type 0

@@ -1,9 +1,10 @@
 // The top call.
 ghost use Rattle.std.specs.Prelude.{◌≡◌, map, string_bytes};
+ghost use Rattle.mx_base.specs.BuildName.{HasBuildName, build_name, host};
 ghost use Rattle.tree_store.specs.Slot.{AllHere};
 ghost use Rattle.mix_main.specs.Answer.{status_in, text_in};
 ghost use Rattle.mix_main.specs.Compile.{Compiles, MayStand};
-ghost use Rattle.mix_main.specs.Ends.{Comes, Does, Ends, EndsBy, Misread, Says};
+ghost use Rattle.mix_main.specs.Ends.{Comes, Does, Ends, EndsBy, IsNamed, Misread, Says};
 ghost use Rattle.mix_main.specs.Tree.{StaysElsewhere};
 ghost use Rattle.mix_main.specs.Words.{dev};
 ghost use Rattle.mix_main.specs.World.{Keeps, Site, site_of, world_of};
@@ -14,11 +15,11 @@ use crate::compile::compile;
 use crate::help::help;
 use crate::status::Status;
 use compile_model::Compiler;
-use mx_base::{AppName, Sink, push_decimal};
+use mx_base::{AppName, HOST, Sink, push_decimal};
 use std::alloc::Global;
 use tree_store::Store;
 
-/// Does what the words of the command line say, in the environment `dev`, and writes what there is to say of it.
+/// Does what the words of the command line say, in the environment `dev` for the target `host`, and writes what there is to say of it.
 ///
 /// The answer is the status of the program. What it tells of the tree, of the sink and of what failed is the relation
 /// `Ends`, a way to end for each of its constructors. After any status the builds of `dev` hold some of the files that
@@ -35,7 +36,7 @@ pub fn run<S: Store, C: Compiler, K: Sink>(
     ensures ends { Ends C.compile_of (map (λ word. string_bytes word) words.now)
         (world_of (S.known store.old) (C.deaths compiler.old) (K.known out.old))
         (world_of (S.known store.new) (C.deaths compiler.new) (K.known out.new)) result }
-    ensures stands { MayStand C.compile_of dev (S.known store.old) (S.known store.new) }
+    ensures stands { MayStand C.compile_of dev host (S.known store.old) (S.known store.new) }
     ensures elsewhere { StaysElsewhere dev (S.known store.old).slot (S.known store.new).slot }
     ensures keeps { Keeps (S.known store.old) (S.known store.new) }
 {
@@ -43,23 +44,27 @@ pub fn run<S: Store, C: Compiler, K: Sink>(
     say(out, &answer)
 }
 
-/// Compiles the dependencies of a project one after another from an empty environment, and writes the report.
+/// Compiles the dependencies of a project for a target one after another from an empty environment, and writes the report.
 pub fn plain_compile<S: Store, C: Compiler, K: Sink>(
     alloc: Global,
     env: &AppName,
+    target: &AppName,
     store: &mut S,
     compiler: &mut C,
     out: &mut K,
 ) -> Status
-    requires { AllHere (S.known store.old).slot }
-    ensures ends { EndsBy (Compiles C.compile_of env.now)
+    requires here { AllHere (S.known store.old).slot }
+    requires named { HasBuildName env.now target.now }
+    ensures ends { EndsBy (Compiles C.compile_of env.now target.now)
         (world_of (S.known store.old) (C.deaths compiler.old) (K.known out.old))
         (world_of (S.known store.new) (C.deaths compiler.new) (K.known out.new)) result }
-    ensures stands { MayStand C.compile_of env.now (S.known store.old) (S.known store.new) }
-    ensures elsewhere { StaysElsewhere env.now (S.known store.old).slot (S.known store.new).slot }
+    ensures stands { MayStand C.compile_of env.now target.now (S.known store.old)
+        (S.known store.new) }
+    ensures elsewhere { StaysElsewhere (build_name env.now target.now) (S.known store.old).slot
+        (S.known store.new).slot }
     ensures keeps { Keeps (S.known store.old) (S.known store.new) }
 {
-    let built = compile(alloc, env, store, compiler);
+    let built = compile(alloc, env, target, store, compiler);
     say(out, &built)
 }
 
@@ -90,7 +95,8 @@ fn answer_to<S: Store, C: Compiler>(
     store: &mut S,
     compiler: &mut C,
 ) -> Result<Answer, Stop>
-    requires { AllHere (S.known store.old).slot }
+    requires here { AllHere (S.known store.old).slot }
+    requires named { IsNamed command.now }
     ensures does { Does C.compile_of command.now
         (site_of (S.known store.old) (C.deaths compiler.old))
         (site_of (S.known store.new) (C.deaths compiler.new)) (status_in result) (text_in result) }
@@ -98,7 +104,28 @@ fn answer_to<S: Store, C: Compiler>(
 {
     match command {
         Command::Help => help(alloc),
-        Command::Compile { env } => compile(alloc, env, store, compiler),
+        Command::Compile { env } => compile_here(alloc, env, store, compiler),
+    }
+}
+
+// What compiling for the machine at hand comes to.
+fn compile_here<S: Store, C: Compiler>(
+    alloc: Global,
+    env: &AppName,
+    store: &mut S,
+    compiler: &mut C,
+) -> Result<Answer, Stop>
+    requires here { AllHere (S.known store.old).slot }
+    requires named { HasBuildName env.now host }
+    ensures ends { Compiles C.compile_of env.now host
+        (site_of (S.known store.old) (C.deaths compiler.old))
+        (site_of (S.known store.new) (C.deaths compiler.new)) (status_in result) (text_in result) }
+    ensures keeps { Keeps (S.known store.old) (S.known store.new) }
+{
+    match AppName::of(alloc, HOST.as_bytes()) {
+        Ok(target) => compile(alloc, env, &target, store, compiler),
+        // `host` is a name, so memory ran out.
+        Err(_) => Err(Stop::Memory),
     }
 }
 

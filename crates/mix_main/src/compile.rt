@@ -1,5 +1,6 @@
 // The command `deps.compile`.
 ghost use Rattle.std.specs.Prelude.{◌≡◌, length, IfOk, OnOk};
+ghost use Rattle.mx_base.specs.BuildName.{HasBuildName};
 ghost use Rattle.compile_model.specs.Planned.{ArePlanned};
 ghost use Rattle.tree_store.specs.declared.key.BuildKey.{BuildKey};
 ghost use Rattle.tree_store.specs.Slot.{AllHere};
@@ -22,21 +23,23 @@ use mx_base::AppName;
 use std::alloc::Global;
 use tree_store::Store;
 
-/// Builds the plan of the project from an empty environment.
+/// Builds the plan of the project for a target from an empty environment.
 pub(crate) fn compile<S: Store, C: Compiler>(
     alloc: Global,
     env: &AppName,
+    target: &AppName,
     store: &mut S,
     compiler: &mut C,
 ) -> Result<Answer, Stop>
-    requires { AllHere (S.known store.old).slot }
-    ensures ends { Compiles C.compile_of env.now
+    requires here { AllHere (S.known store.old).slot }
+    requires named { HasBuildName env.now target.now }
+    ensures ends { Compiles C.compile_of env.now target.now
         (site_of (S.known store.old) (C.deaths compiler.old))
         (site_of (S.known store.new) (C.deaths compiler.new)) (status_in result) (text_in result) }
     ensures keeps { Keeps (S.known store.old) (S.known store.new) }
 {
-    match plan(alloc, store, env) {
-        Ok(plan) => build(alloc, env, &plan, store, compiler),
+    match plan(alloc, store, env, target) {
+        Ok(plan) => build(alloc, &plan, store, compiler),
         Err(error) => refuse(alloc, &error),
     }
 }
@@ -44,24 +47,24 @@ pub(crate) fn compile<S: Store, C: Compiler>(
 // Builds the jobs of a plan.
 fn build<S: Store, C: Compiler>(
     alloc: Global,
-    env: &AppName,
     plan: &Plan,
     store: &mut S,
     compiler: &mut C,
 ) -> Result<Answer, Stop>
     requires here { AllHere (S.known store.old).slot }
     requires planned { ArePlanned plan.now.jobs }
-    ensures ends { Builds C.compile_of env.now plan.now.jobs
+    ensures ends { Builds C.compile_of plan.now.env plan.now.jobs
         (site_of (S.known store.old) (C.deaths compiler.old))
         (site_of (S.known store.new) (C.deaths compiler.new)) (status_in result) (text_in result) }
-    ensures stands { Stands C.compile_of env.now plan.now.jobs (S.known store.old).slot
+    ensures stands { Stands C.compile_of plan.now.env plan.now.jobs (S.known store.old).slot
         (S.known store.new).slot }
-    ensures elsewhere { StaysElsewhere env.now (S.known store.old).slot (S.known store.new).slot }
+    ensures elsewhere { StaysElsewhere plan.now.env (S.known store.old).slot
+        (S.known store.new).slot }
     ensures keeps { Keeps (S.known store.old) (S.known store.new) }
 {
-    clear_env(alloc, env, store)?;
+    clear_env(alloc, &plan.env, store)?;
     let fates = seq_build(alloc, plan, compiler)?;
-    finish(alloc, env, plan.jobs.as_slice(), &fates, store)
+    finish(alloc, &plan.env, plan.jobs.as_slice(), &fates, store)
 }
 
 // Puts what was built into an empty environment, and reports it.

@@ -146,3 +146,11 @@ named env target text result is e t ok empty long bad = at result refl ok
 -- a name is short enough
 pub short_name : (name : List ℕ) → IsAppName name → Ok name ≡ unless_too_long name
 short_name name is = ap (λ (b : Bool). cond b (Err TooLong) (Ok name)) (sym (le-ltb 255 (length name) is.not_long))
+
+-- what was taken as a name is short enough
+pub taken_is_short : (env target text : List ℕ) (result : Result (List ℕ) NameError) → text ≡ tagged env target
+    → (IsErrOf result TooLong ↔ (255 < length text)) → IfOk result (λ _. length (tagged env target) ≤ 255)
+taken_is_short env target text (Ok name) is long =
+    let short : 255 < length text → ⊥ = λ over. let wrong = long.1 over in cc in
+    omega (arith, short, ap (λ (t : List ℕ). length t) is)
+taken_is_short env target text (Err e) is long = tt

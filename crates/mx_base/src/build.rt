@@ -1,9 +1,9 @@
 // The names of builds.
-ghost use Rattle.std.specs.Prelude.{◌≡◌, List, ℕ, IfOk, string_bytes};
+ghost use Rattle.std.specs.Prelude.{◌≡◌, ◌≤◌, List, ℕ, length, IfOk, string_bytes};
 ghost use Rattle.mx_base.specs.Blame.{Computes};
 ghost use Rattle.mx_base.specs.NameFaults.{blame_of};
 ghost use Rattle.mx_base.specs.AppName.{IsAppName};
-ghost use Rattle.mx_base.specs.BuildName.{begins_tagged, build_name, is_plain, tagged, unless_too_long};
+ghost use Rattle.mx_base.specs.BuildName.{HasBuildName, begins_tagged, build_name, is_plain, tagged, unless_too_long};
 
 use crate::name::{AppName, NameError};
 use std::alloc::{AllocError, Global};
@@ -19,6 +19,7 @@ pub const HOST: &str = "host";
 /// `TooLong` where that has more than 255 bytes, and no other refusal.
 pub fn build_name(alloc: Global, env: &AppName, target: &AppName) -> Result<AppName, NameError>
     ensures ok { IfOk result (λ name. name ≡ build_name env.now target.now) }
+    ensures fits { IfOk result (λ _. HasBuildName env.now target.now) }
     ensures answer { Computes blame_of result (λ answer.
         answer ≡ unless_too_long (build_name env.now target.now)) }
 {
@@ -48,6 +49,7 @@ fn begins_tagged(name: &str) -> bool
 #[tactic(auto, using(crate::proofs::BuildNameLemmas::short_name))]
 fn plain(env: &AppName) -> Result<AppName, NameError>
     ensures ok { IfOk result (λ name. name ≡ env.now) }
+    ensures fits { IfOk result (λ _. length env.now ≤ 255) }
     ensures answer { Computes blame_of result (λ answer. answer ≡ unless_too_long env.now) }
 {
     // This call tells what holds of a name.
@@ -57,6 +59,7 @@ fn plain(env: &AppName) -> Result<AppName, NameError>
 
 fn named(alloc: Global, env: &AppName, target: &AppName) -> Result<AppName, NameError>
     ensures ok { IfOk result (λ name. name ≡ tagged env.now target.now) }
+    ensures fits { IfOk result (λ _. length (tagged env.now target.now) ≤ 255) }
     ensures answer { Computes blame_of result (λ answer.
         answer ≡ unless_too_long (tagged env.now target.now)) }
 {

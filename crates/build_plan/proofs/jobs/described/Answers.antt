@@ -15,5 +15,5 @@ pub returns : goal.returns
 returns c =
     let schedule = c.args.scene.now.schedule in
     parts_given schedule c.args.post.now c.in_ok-recipe.recipe c.in_ok-needs.needs c.args.sources c.of_parts.result c.of_parts.ensures
-    (rw c.as_slice.ensures.value at (rw c.settings.ensures at c.in_ok-recipe.ensures))
+    (rw c.as_slice.ensures.value at c.in_ok-recipe.ensures)
     (rw c.deref.ensures.value at c.in_ok-needs.ensures.places) (rw c.deref.ensures.value at c.in_ok-needs.ensures.apps)

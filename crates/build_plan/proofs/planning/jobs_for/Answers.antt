@@ -14,7 +14,8 @@ pub returns-in_err-scene-clause-answer : goal.returns-in_err-scene-clause-answer
 returns-in_err-scene-clause-answer g c =
     let p = err_from_is_err_and c.from_residual.result c.from_residual.ensures.1 in
     rw (p.1, p.2) (λ input.
-    if_stops c.args.settings.now c.args.converged.now.rows.rows c.args.env.now (g.S.Store.known c.args.store.now).sources c.in_err-scene.field-0.0 (c.in_err-scene.ensures.answer input))
+    if_stops c.args.settings.now c.args.converged.now.rows.rows c.args.env.now c.args.target.now (g.S.Store.known c.args.store.now).sources c.in_err-scene.field-0.0
+    (c.in_err-scene.ensures.answer input))
 
 pub jobs-requires : goal.jobs-requires
 jobs-requires g c =
@@ -26,10 +27,11 @@ returns-clause-answer g c =
     let settings = c.args.settings.now in
     let rows = c.args.converged.now.rows.rows in
     let env = c.args.env.now in
+    let target = c.args.target.now in
     let schedule = c.in_ok-scene.scene.schedule in
     answers_by_as (λ (jobs : Vec Job Global). jobs.items) blame_of
     (λ answer. IfSome told (λ files. MakesJobs files schedule answer))
-    (λ answer. IfSome told (λ files. Then (Schedules settings rows env) (MakesJobs files) answer))
+    (λ answer. IfSome told (λ files. Then (Schedules settings rows env target) (MakesJobs files) answer))
     c.jobs.result
-    (λ answer made. if_goes_on settings rows env told schedule answer c.in_ok-scene.ensures.answer made)
+    (λ answer made. if_goes_on settings rows env target told schedule answer c.in_ok-scene.ensures.answer made)
     c.jobs.ensures.answer

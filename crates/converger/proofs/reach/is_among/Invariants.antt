@@ -3,4 +3,4 @@ use Rattle.std.specs.List.{list_any}
 use Rattle.converger.proofs.reach.is_among.Given as goal
 
 abbrev pub invariant-loop-name : goal.invariant-loop-name
-invariant-loop-name l = list_any (bytes_eq l.env) (take l.name-index l.names) ≡ false
+invariant-loop-name l = list_any (bytes_eq l.text) (take l.name-index l.names) ≡ false

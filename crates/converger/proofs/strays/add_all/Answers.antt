@@ -4,7 +4,7 @@ use Rattle.converger.proofs.strays.add_all.Goals as goal
 
 pub loop-name-preserved : goal.loop-name-preserved
 loop-name-preserved c =
-    let only = c.args.only.now in
+    let only = c.args.list.now in
     let i = c.loop-name.name-index in
     let within : i < length only = omega arith in
     record {

@@ -6,8 +6,8 @@ use Rattle.converger.proofs.strays.add_all.Given as goal
 
 abbrev pub invariant-loop-name : goal.invariant-loop-name
 invariant-loop-name l = record {
-  names : (env : List ℕ)
-      → contains_by (λ name. text_cmp env name.now) l.names ≡
-      (contains_by (λ name. text_cmp env name.now) l.fn.names || list_any (bytes_eq env) (take l.name-index l.only));
-  not_empty : list_any (bytes_eq []) (take l.name-index l.only) ≡ false;
+  names : (text : List ℕ)
+      → contains_by (λ name. text_cmp text name.now) l.names ≡
+      (contains_by (λ name. text_cmp text name.now) l.fn.names || list_any (bytes_eq text) (take l.name-index l.list));
+  not_empty : list_any (bytes_eq []) (take l.name-index l.list) ≡ false;
 }

@@ -9,17 +9,18 @@ pub loop-other-preserved : goal.loop-other-preserved
 loop-other-preserved c =
     let rows = c.args.web.now.rows.now.rows in
     let env = c.args.env.now in
+    let target = c.args.web.now.target.now in
     let old = c.loop-other.strays.items in
     let other = c.loop-other.other in
     elim c.if-is_stray.branch [
       | then-is_stray w ↦ rw (w.strays-is, w.mark.ensures) (record {
         long = length-set old other _ ∙ c.loop-other.invariant.long;
-        marks = stray_yes rows env c.args.strays.now.items old other (omega (arith, ap length c.rows-other-end.ensures.rows)) c.loop-other.invariant.marks
-            (c.is_stray.ensures.0 w.if-is_stray.true);
+        marks = stray_yes rows env target c.args.strays.now.items old other (omega (arith, ap length c.rows-other-end.ensures.rows))
+            c.loop-other.invariant.marks (c.is_stray.ensures.0 w.if-is_stray.true);
       })
       | else-is_stray w ↦ rw w.strays-is (record {
         long = c.loop-other.invariant.long;
-        marks = stray_no rows env c.args.strays.now.items old other c.loop-other.invariant.marks
+        marks = stray_no rows env target c.args.strays.now.items old other c.loop-other.invariant.marks
             (λ s. both_ways _ w.if-is_stray.false (c.is_stray.ensures.1 s));
       })
     ]
@@ -27,7 +28,7 @@ loop-other-preserved c =
 pub returns-clause-marks : goal.returns-clause-marks
 returns-clause-marks c =
     let past = ap length c.rows-other-end.ensures.rows in
-    stray_all c.args.web.now.rows.now.rows c.args.env.now c.args.strays.now.items c.loop-other.strays.items c.loop-other.other
+    stray_all c.args.web.now.rows.now.rows c.args.env.now c.args.web.now.target.now c.args.strays.now.items c.loop-other.strays.items c.loop-other.other
     (omega (arith, past)) c.loop-other.invariant.marks
 
 pub is_stray-requires-clause-reached : goal.is_stray-requires-clause-reached

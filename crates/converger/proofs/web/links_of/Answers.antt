@@ -10,19 +10,19 @@ loop-row-preserved c =
     let is = rw c.rows-list.ensures.rows at c.row-item.is in
     record {
       long = c.in_ok-add_link.ensures.long ∙ c.loop-row.invariant.long;
-      each = λ place inside. link_more rows c.loop-row.row-index c.row-item.result place c.loop-row.links.items c.add_link.new.links.items within is
-          (c.loop-row.invariant.each place inside) (c.in_ok-add_link.ensures.each place);
+      each = λ place inside. link_more rows c.args.target.now c.loop-row.row-index c.row-item.result place c.loop-row.links.items
+          c.add_link.new.links.items within is (c.loop-row.invariant.each place inside) (c.in_ok-add_link.ensures.each place);
     }
 
 pub of-requires : goal.of-requires
 of-requires c =
     let rows = c.args.rows.now.rows in
     let past : length rows ≤ c.loop-row.row-index = omega (arith, ap length c.rows-list.ensures.rows) in
-    let whole = links_done rows c.loop-row.row-index c.loop-row.links.items past c.loop-row.invariant.long c.loop-row.invariant.each in
-    subst NeedsAreWithin (sym whole) (links_within rows)
+    let whole = links_done rows c.args.target.now c.loop-row.row-index c.loop-row.links.items past c.loop-row.invariant.long c.loop-row.invariant.each in
+    subst NeedsAreWithin (sym whole) (links_within rows c.args.target.now)
 
 pub returns-clause-links : goal.returns-clause-links
 returns-clause-links c =
     let rows = c.args.rows.now.rows in
     let past : length rows ≤ c.loop-row.row-index = omega (arith, ap length c.rows-list.ensures.rows) in
-    c.of.ensures ∙ links_done rows c.loop-row.row-index c.loop-row.links.items past c.loop-row.invariant.long c.loop-row.invariant.each
+    c.of.ensures ∙ links_done rows c.args.target.now c.loop-row.row-index c.loop-row.links.items past c.loop-row.invariant.long c.loop-row.invariant.each

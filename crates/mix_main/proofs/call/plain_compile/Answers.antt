@@ -10,7 +10,7 @@ returns g c = record {
     comes = c.compile-built.ensures.ends;
     says = c.say.ensures;
   };
-  stands = compiles_stand _ _ _ _ _ _ c.compile-built.ensures.ends;
-  elsewhere = compiles_elsewhere _ _ _ _ _ _ c.compile-built.ensures.ends;
+  stands = compiles_stand _ _ _ _ _ _ _ c.compile-built.ensures.ends;
+  elsewhere = compiles_elsewhere _ _ _ _ _ _ _ c.compile-built.ensures.ends;
   keeps = c.compile-built.ensures.keeps;
 }

@@ -9,11 +9,11 @@ returns-in-Ok-clause-ends g c =
     planned c.in-Ok.plan.jobs (record {
       planned = c.in-Ok.ensures.planned;
       first = c.in-Ok.ensures.answer;
-      ends = rw same at c.build.ensures.ends;
-      stands = rw same at c.build.ensures.stands;
-      elsewhere = rw same at c.build.ensures.elsewhere;
+      ends = rw (same, c.in-Ok.ensures.name) at c.build.ensures.ends;
+      stands = rw (same, c.in-Ok.ensures.name) at c.build.ensures.stands;
+      elsewhere = rw (same, c.in-Ok.ensures.name) at c.build.ensures.elsewhere;
     })
 
 pub returns-in-Err-clause-ends : goal.returns-in-Err-clause-ends
 returns-in-Err-clause-ends g c =
-    refuse_ends _ c.args.env.now c.in-Err.error (g.S.Store.known c.args.store.now) (g.S.Store.known c.plan.new.store) (g.C.Compiler.deaths c.args.compiler.now) _ _ c.in-Err.ensures.answer c.in-Err.ensures.reads c.refuse.ensures
+    refuse_ends _ c.args.env.now c.args.target.now c.in-Err.error (g.S.Store.known c.args.store.now) (g.S.Store.known c.plan.new.store) (g.C.Compiler.deaths c.args.compiler.now) _ _ c.in-Err.ensures.answer c.in-Err.ensures.reads c.refuse.ensures
