@@ -12,5 +12,5 @@ pub use compiler::{CompileFault, Compiler, Input, Meaning};
 pub use echo::EchoCompiler;
 pub use how::{How, Texts};
 pub use job::{Job, Jobs, Origin, Places, Plan};
-pub use outcome::{Fate, Outcome, Twin};
+pub use outcome::{Fate, Outcome, Twin, Verdict};
 pub use seq::{SeqFault, seq_build};

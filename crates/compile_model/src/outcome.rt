@@ -65,6 +65,15 @@ impl Twin {
     }
 }
 
+/// What a compiler says of a job whose output files lie elsewhere.
+#[derive(Drop)]
+pub struct Verdict {
+    /// 0 where the job was built.
+    pub status: u32,
+    /// Warnings or errors.
+    pub text: Bytes,
+}
+
 /// What became of a job.
 #[derive(Drop)]
 pub enum Fate {

@@ -76,6 +76,18 @@ fn a_folder_is_cleared_but_for_what_links_lead_to(rt: HostRuntime) -> Result<(),
     same(text.as_str(), "x=x y/z=y/z ;;xx=again ;")
 }
 
+#[tactic(auto, using(tree_store::proofs::MomentLemmas::writes_key))]
+fn put_anew<F: Folder>(
+    alloc: Global,
+    folder: &mut F,
+    file: &RelPath,
+) -> Result<(), StoreFault>
+    ensures { (F.known folder.new).key ≡ (F.known folder.old).key }
+{
+    folder.unmark(alloc)?;
+    folder.put(alloc, file, b"")
+}
+
 // What a folder answers that is then given back.
 fn put_once<S: Store>(
     alloc: Global,
@@ -87,7 +99,7 @@ fn put_once<S: Store>(
     requires { (S.known store.old).slot (record { env = env.now; app = app.now }) ≡ Out → ⊥ }
 {
     let mut folder = store.folder(alloc, env, app)?;
-    let put = folder.put(alloc, file, b"");
+    let put = put_anew(alloc, &mut folder, file);
     store.give_back(folder);
     put
 }
@@ -102,6 +114,30 @@ fn a_folder_comes_back_with_its_faults(rt: HostRuntime) -> Result<(), Fail> {
     failed(put_once(alloc, &mut store, &env, &app, &file))
 }
 
+#[test]
+fn a_folder_gives_back_its_mark(rt: HostRuntime) -> Result<(), Fail> {
+    let alloc = rt.alloc();
+    let mut folder = folder_of(rt, alloc, "marked")?;
+    told(folder.unmark(alloc))?;
+    if told(folder.read_mark(alloc))?.is_some() {
+        return Err(Fail::new("a mark"));
+    }
+    for bytes in &["longer", "2"] {
+        told(folder.mark(alloc, bytes.as_bytes()))?;
+    }
+    let mark = told(folder.read_mark(alloc))?.ok_or("no mark")?;
+    same(str::from_utf8(mark.as_slice())?, "2")?;
+    same(
+        fs::read_to_string(&rt, "marked/_build/dev/marks/a")?.as_str(),
+        "2",
+    )?;
+    told(folder.unmark(alloc))?;
+    match told(folder.read_mark(alloc))? {
+        Some(_) => Err(Fail::new("a mark")),
+        None => Ok(()),
+    }
+}
+
 // No system takes a name of 256 bytes.
 #[test]
 fn each_call_of_a_folder_fails_in_a_root_that_cannot_be(rt: HostRuntime) -> Result<(), Fail> {
@@ -110,5 +146,8 @@ fn each_call_of_a_folder_fails_in_a_root_that_cannot_be(rt: HostRuntime) -> Resu
     let mut folder = folder_of(rt, alloc, root.as_str())?;
     failed(folder.files(alloc))?;
     failed(folder.clear(alloc))?;
+    failed(folder.unmark(alloc))?;
+    failed(folder.read_mark(alloc))?;
+    failed(folder.mark(alloc, b""))?;
     failed(put(&mut folder, alloc, "x", "")?)
 }

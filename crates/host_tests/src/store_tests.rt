@@ -143,6 +143,59 @@ fn a_store_lists_apps_that_have_files(rt: HostRuntime) -> Result<(), Fail> {
     same(text.as_str(), "_c a b ;;")
 }
 
+#[test]
+fn a_store_lists_what_has_a_mark_alone(rt: HostRuntime) -> Result<(), Fail> {
+    let alloc = rt.alloc();
+    write_files(rt, "marks/_build", &["dev/lib/a/z", "dev/marks/b", "test/marks/a", "-/marks/a"])?;
+    fs::create_dir_all(&rt, "marks/_build/none/lib/a")?;
+    fs::create_dir_all(&rt, "marks/_build/none/marks/a")?;
+    let mut text = String::new(alloc);
+    let mut store = HostStore::new(rt, alloc, "marks")?;
+    push_apps(&mut store, alloc, &mut text, "dev")?;
+    push_apps(&mut store, alloc, &mut text, "none")?;
+    for env in &told(store.environments(alloc))? {
+        text.push_str(env.as_str())?;
+        text.push(' ')?;
+    }
+    same(text.as_str(), "a b ;;dev test ")
+}
+
+// Puts a file of the project, or removes it where there are no bytes.
+fn change(
+    store: &mut HostStore<HostRuntime>,
+    alloc: Global,
+    file: &str,
+    bytes: Option<&str>,
+) -> Result<Result<(), StoreFault>, Fail> {
+    let file = path(alloc, file)?;
+    if file.is_in_build() {
+        return Err(Fail::new("a folder of builds"));
+    }
+    Ok(match bytes {
+        Some(bytes) => store.put(alloc, &file, bytes.as_bytes()),
+        None => store.remove(alloc, &file),
+    })
+}
+
+#[test]
+fn a_store_changes_files(rt: HostRuntime) -> Result<(), Fail> {
+    let alloc = rt.alloc();
+    write_files(rt, "changed", &["a"])?;
+    let mut text = String::new(alloc);
+    let mut store = HostStore::new(rt, alloc, "changed")?;
+    for (file, bytes) in &[
+        ("b/c", Some("new")),
+        ("a", Some("other")),
+        ("b/c", None),
+        ("b/d", None),
+    ] {
+        told(change(&mut store, alloc, *file, *bytes)?)?;
+        push_read(&mut store, alloc, &mut text, *file)?;
+    }
+    same(text.as_str(), "new;other;-;-;")?;
+    failed(change(&mut store, alloc, "b", Some("a folder"))?)
+}
+
 // No system takes a name of 256 bytes.
 #[test]
 fn each_call_of_a_store_fails_in_a_root_that_cannot_be(rt: HostRuntime) -> Result<(), Fail> {
@@ -155,5 +208,8 @@ fn each_call_of_a_store_fails_in_a_root_that_cannot_be(rt: HostRuntime) -> Resul
         return Err(Fail::new("a folder of builds"));
     }
     failed(store.list(alloc, &here))?;
+    failed(store.put(alloc, &here, b""))?;
+    failed(store.remove(alloc, &here))?;
+    failed(store.environments(alloc))?;
     failed(store.apps(alloc, &name(alloc, "dev")?))
 }

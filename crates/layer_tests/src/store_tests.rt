@@ -36,14 +36,16 @@ fn failing_at(alloc: Global, call: u64) -> Result<FaultPlan, AllocError> {
 }
 
 // Writes the file anew, and answers how many there are.
+#[tactic(auto, using(tree_store::proofs::MomentLemmas::writes_key))]
 fn refilled<F: Folder>(
     alloc: Global,
     folder: &mut F,
     path: &RelPath,
     bytes: &[u8],
 ) -> Result<usize, StoreFault>
-    ensures { F.key folder.new ≡ F.key folder.old }
+    ensures { (F.known folder.new).key ≡ (F.known folder.old).key }
 {
+    folder.unmark(alloc)?;
     folder.clear(alloc)?;
     folder.put(alloc, path, bytes)?;
     Ok(folder.files(alloc)?.as_slice().len())
@@ -99,7 +101,8 @@ fn each_failing_call_is_answered(rt: HostRuntime) -> Result<(), Fail> {
         (0, 1, failed),
         (0, 2, failed),
         (0, 3, failed),
-        (0, 4, whole),
+        (0, 4, failed),
+        (0, 5, whole),
     ];
     for (store_fails, folder_fails, wanted) in cases {
         let mut store = MemStore::new(

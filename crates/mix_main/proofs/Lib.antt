@@ -3,6 +3,7 @@ pub mod CallLemmas
 pub mod CompileLemmas
 pub mod LawLemmas
 pub mod PartLemmas
+pub mod PutLemmas
 pub mod ReportLemmas
 pub mod StandLemmas
 pub mod TreeLemmas

@@ -14,11 +14,12 @@ use Rattle.compile_model.specs.declared.outcome.Fate.TheVariants.{Built, Failed,
 use Rattle.compile_model.specs.Seq.{HoldsInOrder}
 use Rattle.tree_store.specs.declared.key.BuildKey.{BuildKey}
 use Rattle.tree_store.specs.Key.{is_same_build}
-use Rattle.tree_store.specs.Files.{put_file, put_all, with_file, without_file, emptied, PutsPartly}
+use Rattle.tree_store.specs.declared.holding.Holding.{Holding}
+use Rattle.tree_store.specs.Holding.{nothing, only_files, unmarked, with_all}
 use Rattle.tree_store.specs.Slot.{Slot, emptied_slot, slot_with}
 use Rattle.tree_store.specs.Slot.Slot.{Here, Out}
 use Rattle.tree_store.proofs.FilesLemmas.{put_all_in_order}
-use Rattle.tree_store.proofs.OrderLemmas.{less_back, same_name}
+use Rattle.tree_store.proofs.OrderLemmas.{same_name}
 use Rattle.tree_store.proofs.StoreLemmas.{one_key}
 use Rattle.mix_main.specs.Tree.{is_same_text, is_in_env, files_of, app_files, ClearsEnv, LeavesTree, cut_file, begun, IsEmpty, FillsPartly}
 use Rattle.mix_main.specs.Filling.{jobs_differ, filled_once, filled_by, BeginsHeld, BeginsSlot, BeginsEnv}
@@ -29,78 +30,19 @@ pub on_err : {T E : Type 0} (r : Result T E) (P : Type 0) → P → OnErr r P
 on_err (Ok x) P holds = tt
 on_err (Err e) P holds = holds
 
-before_at : (a : List ℕ) (ps : List File) (f : File) (post : List File) → IsBefore a (paths_of (ps ++ f ∷ post)) → text_cmp a f.path ≡ Less
-before_at a [] f post b = b.0
-before_at a (p ∷ ps) f post b = before_at a ps f post b.1
-
--- a file put behind all that stand before it
-put_behind : (pre : List File) (f c : File) (post : List File) → AreInOrder (pre ++ f ∷ post) → c.path ≡ f.path → put_file c pre ≡ pre ++ c ∷ []
-put_behind [] f c post o e = refl
-put_behind (p ∷ ps) f c post o e =
-    ap (λ (r : Ordering). match_ordering r (c ∷ p ∷ ps) (record { path = p.path; bytes = c.bytes } ∷ ps) (p ∷ put_file c ps))
-    (ap (λ (t : List ℕ). text_cmp t p.path) e ∙ less_back p.path f.path (before_at p.path ps f post o.0))
-    ∙ ap (λ (fs : List File). p ∷ fs) (put_behind ps f c post o.1 e)
-
-without_behind : (pre : List File) (f : File) (post : List File) → AreInOrder (pre ++ f ∷ post) → without_file f.path pre ≡ pre
-without_behind [] f post o = refl
-without_behind (p ∷ ps) f post o =
-    ap (λ (r : Ordering). cond (not (is_eq r)) (p ∷ without_file f.path ps) (without_file f.path ps)) (less_back p.path f.path (before_at p.path ps f post o.0))
-    ∙ ap (λ (fs : List File). p ∷ fs) (without_behind ps f post o.1)
-
-map_const : (g : List File → List File) (xs : List File) (o : Option (List File)) → option_map g (option_map (λ h. xs) o) ≡ option_map (λ h. g xs) o
-map_const g xs None = refl
-map_const g xs (Some h) = refl
-
-abbrev just : List File → Option (List File) → Option (List File)
-just xs o = option_map (λ h. xs) o
-
-next : (files : List File) (k : ℕ) (file : File) → k < length files → get_or files k file ≡ file → drop k files ≡ file ∷ drop (suc k) files
-next files k file lt is = drop-cons files k file lt ∙ ap (λ (f : File). f ∷ drop (suc k) files) is
-
-split : (files : List File) (k : ℕ) (file : File) → k < length files → get_or files k file ≡ file → AreInOrder files → AreInOrder (take k files ++ file ∷ drop (suc k) files)
-split files k file lt is order =
-    subst AreInOrder (sym (take-append-drop k files) ∙ ap (λ (fs : List File). take k files ++ fs) (next files k file lt is)) order
-
--- one file more was put
-pub put_next : (files : List File) (k : ℕ) (file : File) (old mid new : Option (List File)) → k < length files → get_or files k file ≡ file → AreInOrder files → mid ≡ just (take k files) old → new ≡ with_file file mid → new ≡ just (take (k + 1) files) old
-put_next files k file old mid new lt is order m e =
-    e ∙ ap (with_file file) m ∙ map_const (put_file file) (take k files) old
-    ∙ ap (λ (fs : List File). just fs old)
-    (put_behind (take k files) file file (drop (suc k) files) (split files k file lt is order) refl
-    ∙ ap (λ (f : File). take k files ++ f ∷ []) (sym is) ∙ sym (take_more files k file lt))
-
--- the next one was put in part
-pub put_last_partly : (files : List File) (k : ℕ) (file : File) (old mid new : Option (List File)) → k < length files → get_or files k file ≡ file → AreInOrder files → mid ≡ just (take k files) old → PutsPartly file mid new → (whole : ℕ) × (part : Option ℕ) × (new ≡ just (begun whole part files) old)
-put_last_partly files k file old mid new lt is order m (inl e) =
-    (k, None, e ∙ m ∙ ap (λ (fs : List File). just fs old) (sym (append-nil (take k files))))
-put_last_partly files k file old mid new lt is order m (inr (inl e)) = (
-  k,
-  None,
-  e ∙ ap (option_map (without_file file.path)) m ∙ map_const (without_file file.path) (take k files) old
-      ∙ ap (λ (fs : List File). just fs old) (without_behind (take k files) file (drop (suc k) files) (split files k file lt is order) ∙ sym (append-nil (take k files))),
-)
-put_last_partly files k file old mid new lt is order m (inr (inr (n, e))) =
-    let cut : File = record { path = file.path; bytes = take n file.bytes } in (
-      k,
-      Some n,
-      e ∙ ap (with_file cut) m ∙ map_const (put_file cut) (take k files) old
-          ∙ ap (λ (fs : List File). just fs old)
-          (put_behind (take k files) file cut (drop (suc k) files) (split files k file lt is order) refl
-          ∙ ap (λ (fs : List File). take k files ++ cut_file (Some n) fs) (sym (next files k file lt is))),
-    )
-
-here_same : (a b : Option (List File)) → Here a ≡ Here b → a ≡ b
+here_same : (a b : Option Holding) → Here a ≡ Here b → a ≡ b
 here_same a b e = cc
 
 -- the same of slots
-pub begins_slot : (files : List File) (old new : Option (List File)) (from to : Slot) → Here old ≡ from → to ≡ Here new → BeginsHeld files old new → BeginsSlot files from to
+pub begins_slot : (files : List File) (old new : Option Holding) (from to : Slot) → Here old ≡ from → to ≡ Here new → BeginsHeld files old new → BeginsSlot files from to
 begins_slot files old new from to is was begins order empty =
-    let none : old ≡ emptied old = here_same old (emptied old) (subst (λ (s : Slot). s ≡ emptied_slot s) (sym is) empty) in
+    let none : old ≡ option_map (λ held. nothing) old = here_same old (option_map (λ held. nothing) old) (subst (λ (s : Slot). s ≡ emptied_slot s) (sym is) empty) in
     let b = begins order none in
     (b.0, b.1, was ∙ ap Here b.2 ∙ ap (slot_with (begun b.0 b.1 files)) is)
 
 emptied_with_none : (s : Slot) → emptied_slot s ≡ slot_with [] s
-emptied_with_none (Here held) = refl
+emptied_with_none (Here None) = refl
+emptied_with_none (Here (Some held)) = refl
 emptied_with_none Out = refl
 
 -- what is empty has begun with none
@@ -167,9 +109,9 @@ order_of (Skipped n) order = tt
 
 once_own : (fate : Fate) (s : Slot) → HoldsInOrder fate → IsEmpty s → filled_once true fate s ≡ slot_with (files_of fate) s
 once_own (Built o) (Here None) order empty = refl
-once_own (Built o) (Here (Some h)) order empty =
-    let none : h ≡ [] = cc in
-    ap (λ (fs : List File). Here (Some (put_all fs o.files))) none ∙ ap (λ (fs : List File). Here (Some fs)) (put_all_in_order o.files order)
+once_own (Built o) (Here (Some held)) order empty =
+    let none : held ≡ nothing = cc in
+    ap (λ (h : Holding). Here (Some (with_all o.files (unmarked h)))) none ∙ ap (λ (fs : List File). Here (Some (only_files fs))) (put_all_in_order o.files order)
 once_own (Built o) Out order empty = refl
 once_own (Failed o) s order empty = empty ∙ emptied_with_none s
 once_own (Skipped n) s order empty = empty ∙ emptied_with_none s

@@ -1,5 +1,5 @@
 -- Slots that places change in turn.
-use Rattle.std.proofs.Common.{◌≡◌, ℕ, zero, suc, ◌<◌, Bool, true, false, cond, Some, None, List, [], ◌∷◌, length, get_or, Contains, bytes_eq, ◌||◌, ◌&&◌, not, map, refl, sym, ◌∙◌, ap, subst, arith}
+use Rattle.std.proofs.Common.{◌≡◌, ℕ, zero, suc, ◌<◌, Bool, true, false, cond, Option, Some, None, List, [], ◌∷◌, length, get_or, Contains, bytes_eq, ◌||◌, ◌&&◌, not, map, refl, sym, ◌∙◌, ap, subst, arith}
 use Rattle.std.specs.declared.cmp.Ordering.{Ordering}
 use Rattle.std.specs.declared.cmp.Ordering.TheVariants.{Less, Equal, Greater}
 use Rattle.std.specs.Ordering.{is_eq, ordering_then, nat_cmp}
@@ -13,7 +13,9 @@ use Rattle.tree_store.specs.Key.{is_same_build}
 use Rattle.mx_base.specs.Order.{text_cmp}
 use Rattle.std.specs.List.{AllByRecursion, list_any}
 use Rattle.compile_model.specs.Seq.{HoldsInOrder}
-use Rattle.tree_store.specs.Slot.{Slot, emptied_slot, slot_with, Lists}
+use Rattle.tree_store.specs.declared.holding.Holding.{Holding}
+use Rattle.tree_store.specs.Holding.{any_of, has_any, nothing, only_files}
+use Rattle.tree_store.specs.Slot.{Slot, emptied_slot, slot_with, Lists, ListsIf}
 use Rattle.tree_store.proofs.FilesLemmas.{put_all_in_order}
 use Rattle.tree_store.specs.Slot.Slot.{Here, Out}
 use Rattle.tree_store.proofs.OrderLemmas.{same_name}
@@ -79,13 +81,23 @@ cleared_listed : (env : List ℕ) (apps : List (List ℕ)) (q : BuildKey) (s : S
 cleared_listed env [] q s e c = absurd (contains_none q.app c)
 cleared_listed env (app ∷ apps) q s e c = cleared_step env app apps q s (is_same_build (record { env = env; app = app }) q) e refl (cleared_listed env apps q s e) c
 
+bare_is_nothing : (files : List File) (mark : Option (List ℕ)) → any_of files mark ≡ false → record { files = files; mark = mark } ≡ nothing
+bare_is_nothing [] None e = refl
+bare_is_nothing [] (Some bytes) e = cc
+bare_is_nothing (f ∷ fs) mark e = cc
+
+cleared_held : (env : List ℕ) (apps : List (List ℕ)) (q : BuildKey) (held : Holding) (b : Bool) → has_any held ≡ b → is_in_env env q ≡ true → ListsIf b apps q.app → cleared_by env apps q (Here (Some held)) ≡ Here (Some nothing)
+cleared_held env apps q held true any e l = cleared_listed env apps q (Here (Some held)) e l
+cleared_held env apps q held false any e l =
+    let none : held ≡ nothing = bare_is_nothing held.files held.mark any in
+    cleared_fixed env apps q (Here (Some held)) (ap (λ (h : Holding). Here (Some h)) (sym none)) ∙ ap (λ (h : Holding). Here (Some h)) none
+
 cleared_own : (env : List ℕ) (apps : List (List ℕ)) (q : BuildKey) (s : Slot) → is_in_env env q ≡ true → Lists s apps q.app → cleared_by env apps q s ≡ emptied_slot s
 cleared_own env apps q (Here None) e l = cleared_fixed env apps q (Here None) refl
-cleared_own env apps q (Here (Some [])) e l = cleared_fixed env apps q (Here (Some [])) refl
-cleared_own env apps q (Here (Some (f ∷ fs))) e l = cleared_listed env apps q (Here (Some (f ∷ fs))) e l
+cleared_own env apps q (Here (Some held)) e l = cleared_held env apps q held (has_any held) refl e l
 cleared_own env apps q Out e l = cleared_fixed env apps q Out refl
 
--- the listed apps are all that have files, so the environment is empty
+-- the listed apps are all that hold anything, so the environment is empty
 pub clears_env : (env : List ℕ) (apps : List (List ℕ)) (old new : BuildKey → Slot) → ((app : List ℕ) → Lists (old (record { env = env; app = app })) apps app) → ((q : BuildKey) → new q ≡ cleared_by env apps q (old q)) → ClearsEnv env old new
 clears_env env apps old new lists is q = at (is_in_env env q) refl
   where
@@ -173,29 +185,29 @@ filled_out env q (job ∷ jobs) (fate ∷ fates) =
     once own (Skipped n) = refl
 
 -- an empty build of this job's own gets the job's files
-once_own : (fate : Fate) → HoldsInOrder fate → filled_once true fate (Here (Some [])) ≡ Here (Some (files_of fate))
-once_own (Built o) order = ap (λ (files : List File). Here (Some files)) (put_all_in_order o.files order)
+once_own : (fate : Fate) → HoldsInOrder fate → filled_once true fate (Here (Some nothing)) ≡ Here (Some (only_files (files_of fate)))
+once_own (Built o) order = ap (λ (files : List File). Here (Some (only_files files))) (put_all_in_order o.files order)
 once_own (Failed o) order = refl
 once_own (Skipped n) order = refl
 
-filled_empty : (env : List ℕ) (q : BuildKey) (jobs : List Job) (fates : List Fate) → is_in_env env q ≡ true → jobs_differ jobs ≡ true → AllByRecursion HoldsInOrder fates → filled_by env q jobs fates (Here (Some [])) ≡ Here (Some (app_files q.app jobs fates))
+filled_empty : (env : List ℕ) (q : BuildKey) (jobs : List Job) (fates : List Fate) → is_in_env env q ≡ true → jobs_differ jobs ≡ true → AllByRecursion HoldsInOrder fates → filled_by env q jobs fates (Here (Some nothing)) ≡ Here (Some (only_files (app_files q.app jobs fates)))
 filled_empty env q [] fates e differ order = refl
 filled_empty env q (job ∷ jobs) [] e differ order = refl
 filled_empty env q (job ∷ jobs) (fate ∷ fates) e differs order =
     let parts = both (not (list_any (bytes_eq job.app) (map (λ job. job.app) jobs))) (jobs_differ jobs) differs in
     at (is_same_text job.app q.app) refl (not_true (list_any (bytes_eq job.app) (map (λ job. job.app) jobs)) parts.0) (filled_empty env q jobs fates e parts.1 order.1)
   where
-    step : (t : Bool) → is_same_text job.app q.app ≡ t → filled_by env q jobs fates (filled_once (is_same_build (record { env = env; app = job.app }) q) fate (Here (Some []))) ≡ filled_by env q jobs fates (filled_once t fate (Here (Some [])))
-    step t same = ap (λ (own : Bool). filled_by env q jobs fates (filled_once own fate (Here (Some [])))) (own_app env job.app q e ∙ same)
+    step : (t : Bool) → is_same_text job.app q.app ≡ t → filled_by env q jobs fates (filled_once (is_same_build (record { env = env; app = job.app }) q) fate (Here (Some nothing))) ≡ filled_by env q jobs fates (filled_once t fate (Here (Some nothing)))
+    step t same = ap (λ (own : Bool). filled_by env q jobs fates (filled_once own fate (Here (Some nothing)))) (own_app env job.app q e ∙ same)
 
-    at : (t : Bool) → is_same_text job.app q.app ≡ t → list_any (bytes_eq job.app) (map (λ job. job.app) jobs) ≡ false → filled_by env q jobs fates (Here (Some [])) ≡ Here (Some (app_files q.app jobs fates)) → filled_by env q jobs fates (filled_once (is_same_build (record { env = env; app = job.app }) q) fate (Here (Some []))) ≡ Here (Some (cond (is_same_text job.app q.app) (files_of fate) (app_files q.app jobs fates)))
+    at : (t : Bool) → is_same_text job.app q.app ≡ t → list_any (bytes_eq job.app) (map (λ job. job.app) jobs) ≡ false → filled_by env q jobs fates (Here (Some nothing)) ≡ Here (Some (only_files (app_files q.app jobs fates))) → filled_by env q jobs fates (filled_once (is_same_build (record { env = env; app = job.app }) q) fate (Here (Some nothing))) ≡ Here (Some (only_files (cond (is_same_text job.app q.app) (files_of fate) (app_files q.app jobs fates))))
     at true same apart rest =
         step true same ∙ ap (filled_by env q jobs fates) (once_own fate order.0)
-        ∙ filled_apart env q jobs fates (Here (Some (files_of fate))) e (subst (λ (x : List ℕ). list_any (bytes_eq x) (map (λ job. job.app) jobs) ≡ false) (same_name job.app q.app same) apart)
-        ∙ ap (λ (t : Bool). Here (Some (cond t (files_of fate) (app_files q.app jobs fates)))) (sym same)
+        ∙ filled_apart env q jobs fates (Here (Some (only_files (files_of fate)))) e (subst (λ (x : List ℕ). list_any (bytes_eq x) (map (λ job. job.app) jobs) ≡ false) (same_name job.app q.app same) apart)
+        ∙ ap (λ (t : Bool). Here (Some (only_files (cond t (files_of fate) (app_files q.app jobs fates))))) (sym same)
     at false same apart rest =
-        step false same ∙ ap (filled_by env q jobs fates) (either_same false fate (Here (Some [])) refl) ∙ rest
-        ∙ ap (λ (t : Bool). Here (Some (cond t (files_of fate) (app_files q.app jobs fates)))) (sym same)
+        step false same ∙ ap (filled_by env q jobs fates) (either_same false fate (Here (Some nothing)) refl) ∙ rest
+        ∙ ap (λ (t : Bool). Here (Some (only_files (cond t (files_of fate) (app_files q.app jobs fates))))) (sym same)
 
 pub filled_emptied : (env : List ℕ) (q : BuildKey) (jobs : List Job) (fates : List Fate) (s : Slot) → is_in_env env q ≡ true → jobs_differ jobs ≡ true → AllByRecursion HoldsInOrder fates → filled_by env q jobs fates (emptied_slot s) ≡ slot_with (app_files q.app jobs fates) s
 filled_emptied env q jobs fates (Here None) e differ order = filled_none env q jobs fates

@@ -9,7 +9,8 @@ use Rattle.compile_model.specs.declared.outcome.Fate.TheVariants.{Built, Failed,
 use Rattle.compile_model.specs.Seq.{HoldsInOrder}
 use Rattle.tree_store.specs.declared.key.BuildKey.{BuildKey}
 use Rattle.tree_store.specs.Key.{is_same_build}
-use Rattle.tree_store.specs.Files.{emptied}
+use Rattle.tree_store.specs.declared.holding.Holding.{Holding}
+use Rattle.tree_store.specs.Holding.{nothing, only_files}
 use Rattle.tree_store.specs.Slot.{Slot, filled_slot, slot_with}
 use Rattle.mix_main.specs.Tree.{is_in_env, begun, IsEmpty, FillsPartly}
 
@@ -34,10 +35,10 @@ filled_by env q [] fates slot = slot
 filled_by env q (job ∷ jobs) [] slot = slot
 filled_by env q (job ∷ jobs) (fate ∷ fates) slot = filled_by env q jobs fates (filled_once (is_same_build (record { env = env; app = job.app }) q) fate slot)
 
--- where no file was held, the first of these in order are, and of the next one nothing or a prefix
-abbrev pub BeginsHeld : List File → Option (List File) → Option (List File) → Type 0
+-- where nothing was held, the first of these in order are, and of the next one nothing or a prefix
+abbrev pub BeginsHeld : List File → Option Holding → Option Holding → Type 0
 BeginsHeld files old new =
-    AreInOrder files → old ≡ emptied old → (whole : ℕ) × (part : Option ℕ) × (new ≡ option_map (λ h. begun whole part files) old)
+    AreInOrder files → old ≡ option_map (λ held. nothing) old → (whole : ℕ) × (part : Option ℕ) × (new ≡ option_map (λ held. only_files (begun whole part files)) old)
 
 -- the same of a build
 abbrev pub BeginsSlot : List File → Slot → Slot → Type 0

@@ -7,8 +7,8 @@ use Rattle.compile_model.specs.declared.job.Job.{Job}
 use Rattle.compile_model.specs.declared.outcome.Fate.{Fate}
 use Rattle.compile_model.specs.declared.outcome.Fate.TheVariants.{Built, Failed, Skipped}
 use Rattle.tree_store.specs.declared.key.BuildKey.{BuildKey}
-use Rattle.tree_store.specs.Slot.{Slot, emptied_slot, slot_with}
-use Rattle.tree_store.specs.Slot.Slot.{Here, Out}
+use Rattle.tree_store.specs.declared.holding.Holding.{Holding}
+use Rattle.tree_store.specs.Slot.{Slot, changed_slot, emptied_slot, slot_with}
 
 abbrev pub is_same_text : List ℕ → List ℕ → Bool
 is_same_text a b = is_eq (text_cmp a b)
@@ -41,16 +41,19 @@ ClearsEnv env old new = (q : BuildKey) → new q ≡ (if is_in_env env q then em
 abbrev pub StaysElsewhere : List ℕ → (BuildKey → Slot) → (BuildKey → Slot) → Type 0
 StaysElsewhere env old new = (q : BuildKey) → is_in_env env q ≡ false → new q ≡ old q
 
--- a build with those of its files alone that stay
-abbrev pub slot_of_those : (File → Bool) → Slot → Slot
-slot_of_those stays (Here held) = Here (option_map (filter stays) held)
-slot_of_those stays Out = Out
+-- those of the files that stay, and the mark or none
+abbrev pub part_of : (File → Bool) → (keeps : Bool) → Holding → Holding
+part_of stays keeps held = record { files = filter stays held.files; mark = if keeps then held.mark else None }
 
--- some of the files that a build held, each whole
+-- some of the files that were held, each whole, and the mark or none
+abbrev pub HoldsPart : Option Holding → Option Holding → Type 0
+HoldsPart old new = (stays : File → Bool) × (keeps : Bool) × (new ≡ option_map (part_of stays keeps) old)
+
+-- the same of a build
 abbrev pub LeavesPart : Slot → Slot → Type 0
-LeavesPart old new = (stays : File → Bool) × (new ≡ slot_of_those stays old)
+LeavesPart old new = (stays : File → Bool) × (keeps : Bool) × (new ≡ changed_slot (part_of stays keeps) old)
 
--- each build holds some of the files that it held, each whole
+-- each build holds some of the files that it held, each whole, and its mark or none
 abbrev pub EachLeavesPart : (BuildKey → Slot) → (BuildKey → Slot) → Type 0
 EachLeavesPart old new = (q : BuildKey) → LeavesPart (old q) (new q)
 
@@ -64,7 +67,7 @@ cut_file (Some n) (file ∷ files) = record { path = file.path; bytes = take n f
 abbrev pub begun : ℕ → Option ℕ → List File → List File
 begun whole part files = take whole files ++ cut_file part (drop whole files)
 
--- the build holds no file
+-- the build holds nothing
 abbrev pub IsEmpty : Slot → Type 0
 IsEmpty slot = slot ≡ emptied_slot slot
 

@@ -1,9 +1,10 @@
 // Putting the built files.
-ghost use Rattle.std.specs.Prelude.{◌≡◌, ℕ, length, OnOk, OnErr, false};
+ghost use Rattle.std.specs.Prelude.{◌≡◌, ℕ, length, OnOk, OnErr, false, option_map};
 ghost use Rattle.mx_base.specs.Causes.{Counted};
 ghost use Rattle.mx_base.specs.Blame.{fails};
 ghost use Rattle.tree_store.specs.Blame.{blame_of};
-ghost use Rattle.tree_store.specs.Files.{with_files};
+ghost use Rattle.tree_store.specs.FolderKnown.{IsUnmarked};
+ghost use Rattle.tree_store.specs.Holding.{unmarked, with_all};
 ghost use Rattle.tree_store.specs.declared.key.BuildKey.{BuildKey};
 ghost use Rattle.tree_store.specs.Key.{is_same_build};
 ghost use Rattle.tree_store.specs.Slot.{ChangesSlot, AllHere, filled_slot};
@@ -92,7 +93,7 @@ fn fill_app<S: Store>(
     ensures fails { Fails result (S.known store.old) (S.known store.new) }
 {
     let mut folder = store.folder(alloc, env, app)?;
-    let filled = put_files(alloc, files, &mut folder);
+    let filled = put_anew(alloc, files, &mut folder);
     store.give_back(folder);
     match filled {
         Ok(()) => Ok(()),
@@ -100,12 +101,29 @@ fn fill_app<S: Store>(
     }
 }
 
-#[tactic(auto, using(tree_store::proofs::FilesLemmas::with_files_more))]
-fn put_files<F: Folder>(alloc: Global, files: &[File], folder: &mut F) -> Result<(), StoreFault>
-    ensures held { OnOk result (F.held folder.new ≡ with_files files.now (F.held folder.old)) }
-    ensures begun { OnErr result (BeginsHeld files.now (F.held folder.old) (F.held folder.new)) }
-    ensures key { F.key folder.new ≡ F.key folder.old }
-    ensures cause { Counted (F.faults folder.old) (F.faults folder.new) (fails blame_of result) }
+// Puts files into a folder, whose mark is taken away first.
+fn put_anew<F: Folder>(alloc: Global, files: &[File], folder: &mut F) -> Result<(), StoreFault>
+    ensures held { OnOk result ((F.known folder.new).held
+        ≡ option_map (λ held. with_all files.now (unmarked held)) (F.known folder.old).held) }
+    ensures begun { OnErr result (BeginsHeld files.now (F.known folder.old).held
+        (F.known folder.new).held) }
+    ensures key { (F.known folder.new).key ≡ (F.known folder.old).key }
+    ensures cause { Counted (F.known folder.old).faults (F.known folder.new).faults
+        (fails blame_of result) }
+{
+    folder.unmark(alloc)?;
+    put_each(alloc, files, folder)
+}
+
+fn put_each<F: Folder>(alloc: Global, files: &[File], folder: &mut F) -> Result<(), StoreFault>
+    requires { IsUnmarked (F.known folder.old) }
+    ensures held { OnOk result ((F.known folder.new).held
+        ≡ option_map (with_all files.now) (F.known folder.old).held) }
+    ensures begun { OnErr result (BeginsHeld files.now (F.known folder.old).held
+        (F.known folder.new).held) }
+    ensures key { (F.known folder.new).key ≡ (F.known folder.old).key }
+    ensures cause { Counted (F.known folder.old).faults (F.known folder.new).faults
+        (fails blame_of result) }
 {
     for file in files {
         folder.put(alloc, &file.path, file.bytes.as_slice())?;

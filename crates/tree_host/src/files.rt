@@ -93,3 +93,9 @@ pub(crate) fn remove_folder<R: Files + AllocGlobal>(rt: &R, path: Path<'_>) -> i
     if_there(fs::remove_dir_all(rt, path))?;
     Ok(())
 }
+
+/// Removes a file, if it is there, or a link in its place.
+pub(crate) fn remove_file<R: Files>(rt: &R, path: Path<'_>) -> io::Result<()> {
+    if_there(fs::remove_file(rt, path))?;
+    Ok(())
+}

@@ -3,7 +3,7 @@ ghost use Rattle.std.specs.Prelude.{◌≡◌, IfOk};
 ghost use Rattle.mx_base.specs.Order.{paths_of};
 
 use crate::counted::counted;
-use crate::files::{Kind, host_path, kind_at, remove_folder, write_file};
+use crate::files::{Kind, host_path, kind_at, read_file, remove_file, remove_folder, write_file};
 use crate::walk::{Scope, files_below};
 use mx_base::{AppName, Bytes, Count, File, Files, RelPath};
 use std::alloc::Global;
@@ -11,24 +11,27 @@ use std::path::{Path, PathBuf};
 use std::{fs, io};
 use tree_store::{BuildKey, Folder, StoreFault};
 
-/// The folder of a build, which a `HostStore` hands out. It tells no files. A link to a folder is
-/// followed neither in listing nor in clearing, also where it stands in this folder's own place.
+/// The folder of a build, which a `HostStore` hands out, with its mark beside the outputs. It tells nothing of
+/// what it holds. A link to a folder is followed neither in listing nor in clearing, also where it stands in this
+/// folder's own place.
 #[derive(Drop)]
 pub struct HostFolder<R> {
     pub(crate) rt: R,
     pub(crate) key: BuildKey,
     pub(crate) dir: PathBuf,
+    pub(crate) mark: PathBuf,
     pub(crate) faults: Count,
 }
 
 impl<R: fs::Files + AllocGlobal + Clone + Drop> Folder for HostFolder<R> {
     ghost use Rattle.std.specs.Prelude.{None};
 
-    ghost key = { λ folder. folder.key };
-
-    ghost held = { λ _. None };
-
-    ghost faults = { λ folder. folder.faults };
+    ghost known = { λ folder. record {
+      key = folder.key;
+      held = None;
+      moments = None;
+      faults = folder.faults;
+    } };
 
     ghost tells = { ⊥ };
 
@@ -40,6 +43,11 @@ impl<R: fs::Files + AllocGlobal + Clone + Drop> Folder for HostFolder<R> {
 
     fn app(&self) -> &AppName {
         &self.key.app
+    }
+
+    fn unmark(&mut self, _alloc: Global) -> Result<(), StoreFault> {
+        let removed = remove_file(&self.rt, self.mark.as_path());
+        counted(&mut self.faults, removed)
     }
 
     /// Its subfolders go too, and whatever else isn't a file.
@@ -59,6 +67,17 @@ impl<R: fs::Files + AllocGlobal + Clone + Drop> Folder for HostFolder<R> {
     fn files(&mut self, alloc: Global) -> Result<Files, StoreFault> {
         let files = read_files(&self.rt, alloc, self.dir.as_path());
         counted(&mut self.faults, files)
+    }
+
+    /// It makes the folders that are missing.
+    fn mark(&mut self, _alloc: Global, bytes: &[u8]) -> Result<(), StoreFault> {
+        let written = write_file(&self.rt, self.mark.as_path(), bytes);
+        counted(&mut self.faults, written)
+    }
+
+    fn read_mark(&mut self, _alloc: Global) -> Result<Option<Bytes>, StoreFault> {
+        let bytes = read_file(&self.rt, self.mark.as_path());
+        counted(&mut self.faults, bytes)
     }
 }
 

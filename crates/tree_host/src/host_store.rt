@@ -4,24 +4,23 @@ ghost use Rattle.mx_base.specs.Order.{ArePathsInOrder};
 ghost use Rattle.mx_base.specs.Path.{is_below};
 ghost use Rattle.tree_store.specs.declared.key.BuildKey.{BuildKey};
 ghost use Rattle.mx_base.specs.Layout.{is_in_build};
-ghost use Rattle.tree_store.specs.Slot.{AreNamesInOrder};
 ghost use Rattle.tree_store.specs.Slot.Slot.{Here};
 
+use crate::builds::{apps_in, builds_of, environments_in, mark_path, outputs_path};
 use crate::counted::counted;
-use crate::files::{Kind, host_path, if_there, is_link, kind_at, read_file};
+use crate::files::{host_path, is_link, read_file, remove_file, write_file};
 use crate::host_folder::HostFolder;
-use crate::walk::{Scope, files_below, has_file};
-use mx_base::{AppName, BUILD, Bytes, Count, NameError, RelPath};
+use crate::walk::{Scope, files_below};
+use mx_base::{AppName, Bytes, Count, RelPath};
 use std::alloc::{AllocError, Global};
 use std::collections::BTreeSet;
-use std::fs::{DirEntry, Files};
-use std::io::ErrorKind;
+use std::fs::Files;
 use std::path::{Path, PathBuf};
-use std::{fs, io};
+use std::io;
 use tree_store::{BuildKey, Store, StoreFault};
 
-/// A project's folder in the real file system, with the outputs of an app below
-/// `_build/ENV/lib/APP`. It tells no contents, and keeps which folders of builds are out.
+/// A project's folder in the real file system, with the outputs of an app below `_build/ENV/lib/APP` and its mark
+/// in `_build/ENV/marks/APP`. It tells no contents, and keeps which folders of builds are out.
 ///
 /// `get` reads what the system reads at a path. In a listing no link to a folder is followed, neither
 /// one that it meets nor one on the way to the listed folder; a link to a file is that file, and
@@ -36,11 +35,12 @@ pub struct HostStore<R> {
     returned: Count,
 }
 
-impl<R: Files + AllocGlobal + Clone + Drop> HostStore<R> {
+impl<R: Files + AllocGlobal + Clone + Drop + Send> HostStore<R> {
     /// The project in a folder, by the folder's path. The empty path is the current folder. The system
     /// isn't asked whether the folder is there.
     pub fn new(rt: R, alloc: Global, root: &str) -> Result<HostStore<R>, AllocError>
-        ensures here { IfOk result (λ store. (key : BuildKey) → (⟦<HostStore<R> as Store>⟧.known store).slot key ≡ Here None) }
+        ensures here { IfOk result (λ store. (key : BuildKey) → (⟦<HostStore<R> as Store>⟧.known store).slot key
+            ≡ Here None) }
         ensures faults { IfOk result (λ store. (⟦<HostStore<R> as Store>⟧.known store).faults ≡ 0) }
         ensures folder_faults { IfOk result (λ store. (⟦<HostStore<R> as Store>⟧.known store).returned ≡ 0) }
     {
@@ -55,7 +55,7 @@ impl<R: Files + AllocGlobal + Clone + Drop> HostStore<R> {
     }
 }
 
-impl<R: Files + AllocGlobal + Clone + Drop> Store for HostStore<R> {
+impl<R: Files + AllocGlobal + Clone + Drop + Send> Store for HostStore<R> {
     type F = HostFolder<R>;
 
     ghost use Rattle.std.specs.Prelude.{None};
@@ -76,13 +76,32 @@ impl<R: Files + AllocGlobal + Clone + Drop> Store for HostStore<R> {
         counted(&mut self.faults, bytes)
     }
 
+    /// It makes the folders that are missing. Where the path is that of a folder it is a fault.
+    fn put(&mut self, alloc: Global, path: &RelPath, bytes: &[u8]) -> Result<(), StoreFault> {
+        let path = host_path(alloc, self.root.as_path(), path)?;
+        let written = write_file(&self.rt, path.as_path(), bytes);
+        counted(&mut self.faults, written)
+    }
+
+    fn remove(&mut self, alloc: Global, path: &RelPath) -> Result<(), StoreFault> {
+        let path = host_path(alloc, self.root.as_path(), path)?;
+        let removed = remove_file(&self.rt, path.as_path());
+        counted(&mut self.faults, removed)
+    }
+
     /// A folder that is absent has no files.
     fn list(&mut self, alloc: Global, dir: &RelPath) -> Result<Vec<RelPath>, StoreFault> {
         let paths = listed(&self.rt, alloc, self.root.as_path(), dir);
         counted(&mut self.faults, paths)
     }
 
-    /// A thing in the folder of builds whose name is no app's is passed over.
+    /// A thing in the folder of builds whose name is no environment's, and a link, is passed over.
+    fn environments(&mut self, alloc: Global) -> Result<Vec<AppName>, StoreFault> {
+        let envs = environments_in(&self.rt, alloc, self.root.as_path());
+        counted(&mut self.faults, envs)
+    }
+
+    /// A thing in a folder of builds or of marks whose name is no app's is passed over.
     fn apps(&mut self, alloc: Global, env: &AppName) -> Result<Vec<AppName>, StoreFault> {
         let folder = builds_of(alloc, self.root.as_path(), env)?;
         let apps = apps_in(&self.rt, alloc, folder.as_path());
@@ -97,14 +116,15 @@ impl<R: Files + AllocGlobal + Clone + Drop> Store for HostStore<R> {
         app: &AppName,
     ) -> Result<HostFolder<R>, StoreFault> {
         let rt = self.rt.clone()?;
-        let mut dir = builds_of(alloc, self.root.as_path(), env)?;
-        dir.push(app.as_str())?;
+        let dir = outputs_path(alloc, self.root.as_path(), env, app)?;
+        let mark = mark_path(alloc, self.root.as_path(), env, app)?;
         let key = BuildKey::of(env, app)?;
         self.out.insert(key.clone()?)?;
         Ok(HostFolder {
             rt,
             key,
             dir,
+            mark,
             faults: Count::new(),
         })
     }
@@ -114,19 +134,12 @@ impl<R: Files + AllocGlobal + Clone + Drop> Store for HostStore<R> {
             rt: _,
             key,
             dir: _,
+            mark: _,
             faults,
         } = folder;
         self.returned.take_over(&faults);
         self.out.remove(&key);
     }
-}
-
-// The folder of an environment's builds.
-fn builds_of(alloc: Global, root: Path<'_>, env: &AppName) -> Result<PathBuf, AllocError> {
-    let mut folder = root.join(alloc, BUILD)?;
-    folder.push(env.as_str())?;
-    folder.push("lib")?;
-    Ok(folder)
 }
 
 fn listed<R: Files + AllocGlobal + Clone + Drop>(
@@ -160,53 +173,4 @@ fn leads_through_link<R: Files>(
         }
     }
     Ok(false)
-}
-
-// The apps that have a file in a folder of builds.
-fn apps_in<R: Files + AllocGlobal + Clone + Drop>(
-    rt: &R,
-    alloc: Global,
-    folder: Path<'_>,
-) -> io::Result<Vec<AppName>>
-    ensures { IfOk result (λ apps. AreNamesInOrder apps.items) }
-{
-    let mut apps = BTreeSet::new(alloc);
-    if let Some(entries) = if_there(fs::read_dir(rt, folder))? {
-        for entry in entries {
-            if let Some(app) = built_app(rt, alloc, entry)? {
-                apps.insert(app)?;
-            }
-        }
-    }
-    in_order(alloc, apps)
-}
-
-// The app of an entry of a folder of builds, where it is an app's folder that holds a file.
-fn built_app<R: Files + AllocGlobal + Clone + Drop>(
-    rt: &R,
-    alloc: Global,
-    entry: io::Result<DirEntry<R, Global>>,
-) -> io::Result<Option<AppName>> {
-    let entry = match entry {
-        Ok(entry) => entry,
-        // The name isn't UTF-8, and so no app's.
-        Err(e) if e.kind() == ErrorKind::InvalidFilename => return Ok(None),
-        Err(e) => return Err(e),
-    };
-    let app = match AppName::of(alloc, entry.file_name().as_bytes()) {
-        Ok(app) => app,
-        Err(NameError::OutOfMemory) => return Err(ErrorKind::OutOfMemory.into()),
-        Err(_) => return Ok(None),
-    };
-    match kind_at(rt, entry.path())? {
-        Kind::Folder if has_file(rt, entry.path())? => Ok(Some(app)),
-        _ => Ok(None),
-    }
-}
-
-fn in_order(alloc: Global, apps: BTreeSet<AppName>) -> io::Result<Vec<AppName>>
-    ensures { IfOk result (λ apps. AreNamesInOrder apps.items) }
-{
-    let apps = apps.into_iter().collect(alloc)?;
-    Ok(apps)
 }

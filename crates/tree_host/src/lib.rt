@@ -3,6 +3,7 @@
 //! What is proved is when each counts a fault, which folders are out, and what a listing looks like.
 #![tactic(auto)]
 
+mod builds;
 mod counted;
 mod files;
 mod host_folder;

@@ -9,12 +9,13 @@ use Rattle.std.specs.declared.cmp.Ordering.TheVariants.{Less, Equal, Greater}
 use Rattle.std.specs.Ordering.{match_ordering, is_eq}
 use Rattle.std.specs.Map.{lookup, keys_of}
 use Rattle.std.specs.BTreeMap.{insert_entry, is_at}
+use Rattle.std.specs.Map.{remove_entry}
 use Rattle.mx_base.specs.declared.file.File.{File}
 use Rattle.mx_base.specs.Order.{text_cmp, IsBefore, ArePathsInOrder, AreInOrder, paths_of, bytes_at}
 use Rattle.mx_base.specs.Path.{is_below}
 use Rattle.tree_store.specs.Contents.{file_of}
 use Rattle.mx_base.specs.Layout.{is_in_build}
-use Rattle.tree_store.specs.Files.{outside_build, paths_below, put_file, put_all, with_file, with_files, HoldsPart}
+use Rattle.tree_store.specs.Files.{outside_build, paths_below, put_file, put_all, without_file}
 use Rattle.tree_store.proofs.OrderLemmas.{less_back, same_name, in_order_filter}
 
 abbrev Entry : Type 0
@@ -29,11 +30,6 @@ map_insert_entry (e ∷ es) p b =
       | Greater ↦ ap (λ (fs : List File). file_of e ∷ fs) (map_insert_entry es p b)
     ]
 
--- a file more
-pub with_files_more : (file : File) (files : List File) (held : Option (List File)) → with_files (file ∷ files) held ≡ with_files files (with_file file held)
-with_files_more file files None = refl
-with_files_more file files (Some h) = refl
-
 found : (b : Bool) (e : Entry) (o : Option (List ℕ)) (r : Option File) → o ≡ option_map (λ (f : File). f.bytes) r → cond b (Some e.1) o ≡ option_map (λ (f : File). f.bytes) (cond b (Some (file_of e)) r)
 found true e o r h = refl
 found false e o r h = h
@@ -42,6 +38,28 @@ found false e o r h = h
 pub lookup_is_bytes_at : (es : List Entry) (path : List ℕ) → lookup (is_at (text_cmp path)) es ≡ bytes_at path (map file_of es)
 lookup_is_bytes_at [] path = refl
 lookup_is_bytes_at (e ∷ es) path = found (is_at (text_cmp path) e.0) e _ _ (lookup_is_bytes_at es path)
+
+-- a path that stands before all has no file to remove
+none_removed : (path : List ℕ) (es : List Entry) → AllByRecursion (λ p. text_cmp path p ≡ Less) (keys_of es) → without_file path (map file_of es) ≡ map file_of es
+none_removed path [] all = refl
+none_removed path (e ∷ es) all =
+    ap (λ (r : Ordering). cond (not (is_eq r)) (file_of e ∷ without_file path (map file_of es)) (without_file path (map file_of es))) all.0
+    ∙ ap (λ (fs : List File). file_of e ∷ fs) (none_removed path es all.1)
+
+-- an entry that is removed from a map
+pub map_remove_entry : (path : List ℕ) (es : List Entry) → IsStrictlySortedBy text_cmp (keys_of es) → map file_of (remove_entry (is_at (text_cmp path)) es) ≡ without_file path (map file_of es)
+unfolding IsStrictlySortedBy
+map_remove_entry path [] o = refl
+map_remove_entry path (e ∷ es) o = at (is_at (text_cmp path) e.0) refl o.0 (map_remove_entry path es o.1)
+  where
+    left : Bool → List File → List File
+    left b rest = cond (not b) (file_of e ∷ rest) rest
+
+    at : (b : Bool) → is_at (text_cmp path) e.0 ≡ b → AllByRecursion (λ p. text_cmp e.0 p ≡ Less) (keys_of es) → map file_of (remove_entry (is_at (text_cmp path)) es) ≡ without_file path (map file_of es) →
+        map file_of (cond b es (e ∷ remove_entry (is_at (text_cmp path)) es)) ≡ left b (without_file path (map file_of es))
+    at true is all rest =
+        sym (none_removed path es (subst (λ (q : List ℕ). AllByRecursion (λ p. text_cmp q p ≡ Less) (keys_of es)) (sym (same_name path e.0 is)) all))
+    at false is all rest = ap (λ (fs : List File). file_of e ∷ fs) rest
 
 before_entries : (path : List ℕ) (es : List Entry) → AllByRecursion (λ p. text_cmp path p ≡ Less) (keys_of es) → IsBefore path (paths_of (map file_of es))
 before_entries path [] all = tt
@@ -92,14 +110,6 @@ behind_none (f ∷ fs) = (tt, behind_none fs)
 -- files in order, put where there are none, are those files
 pub put_all_in_order : (files : List File) → AreInOrder files → put_all [] files ≡ files
 put_all_in_order files order = put_all_behind [] files (behind_none files) order
-
-filter_all : (files : List File) → filter (λ f. true) files ≡ files
-filter_all [] = refl
-filter_all (f ∷ fs) = ap (λ (gs : List File). f ∷ gs) (filter_all fs)
-
-pub part_of_itself : (held : Option (List File)) → HoldsPart held held
-part_of_itself None = (λ f. true, refl)
-part_of_itself (Some files) = (λ f. true, ap (λ (fs : List File). Some fs) (sym (filter_all files)))
 
 abbrev pub outside : List ℕ → Bool
 outside path = not (is_in_build path)

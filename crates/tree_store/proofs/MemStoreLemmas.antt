@@ -8,23 +8,24 @@ use Rattle.std.specs.List.{AllByRecursion}
 use Rattle.std.specs.List.Sorted.{IsStrictlySortedBy}
 use Rattle.std.specs.BTreeMap.{BTreeMap, get, WritesThrough, is_at}
 use Rattle.std.specs.Map.{lookup, keys_of}
-use Rattle.mx_base.specs.declared.file.File.{File}
 use Rattle.mx_base.specs.Order.{text_cmp, IsBefore, ArePathsInOrder}
+use Rattle.tree_store.specs.declared.holding.Holding.{Holding}
 use Rattle.tree_store.specs.declared.key.BuildKey.{BuildKey}
 use Rattle.tree_store.specs.Key.{key_cmp, is_same_build}
-use Rattle.tree_store.specs.Slot.{Slot, SetsSlot, Lists}
+use Rattle.tree_store.specs.Slot.{Slot, SetsSlot, Lists, ListsIf}
 use Rattle.tree_store.specs.Slot.Slot.{Here, Out}
-use Rattle.tree_store.specs.MemStore.{slot_of, has_files, apps_in}
+use Rattle.tree_store.specs.Holding.{has_any}
+use Rattle.tree_store.specs.MemStore.{slot_of, keeps_any, apps_in}
 use Rattle.tree_store.proofs.OrderLemmas.{equal_itself, same_bytes, contains_either, not_among}
 use Rattle.tree_store.proofs.StoreLemmas.{same_key, is_same}
 
 abbrev Kept : Type 0
-Kept = Option (List File)
+Kept = Option Holding
 
 slot_out : (o : Option Kept) → slot_of o ≡ Out → IsSome o
 slot_out None e = cc
 slot_out (Some None) e = refl
-slot_out (Some (Some files)) e = refl
+slot_out (Some (Some held)) e = refl
 
 slot_cond : (b : Bool) (w : Kept) (o : Option Kept) → slot_of (cond b (Some w) o) ≡ cond b (slot_of (Some w)) (slot_of o)
 slot_cond true w o = refl
@@ -39,14 +40,14 @@ Entries = List (BuildKey × Kept)
 
 -- the entry's app is listed in the environment
 abbrev is_listed : List ℕ → BuildKey × Kept → Bool
-is_listed env e = pointwise nat_eq e.0.env env && has_files e.1
+is_listed env e = pointwise nat_eq e.0.env env && keeps_any e.1
 
 both : (a b : Bool) → (a && b) ≡ true → (a ≡ true) × (b ≡ true)
 both true b e = (refl, e)
 both false b e = cc
 
 listed_env : (env : List ℕ) (e : BuildKey × Kept) → is_listed env e ≡ true → e.0.env ≡ env
-listed_env env e is = same_bytes e.0.env env (both (pointwise nat_eq e.0.env env) (has_files e.1) is).0
+listed_env env e is = same_bytes e.0.env env (both (pointwise nat_eq e.0.env env) (keeps_any e.1) is).0
 
 -- an app stands before those of later entries of its environment
 before_apps : (key : BuildKey) (env : List ℕ) (es : Entries) → key.env ≡ env → AllByRecursion (λ k. key_cmp key k ≡ Less) (keys_of es) → IsBefore key.app (apps_in env es)
@@ -72,25 +73,31 @@ apps_in_order env (e ∷ es) order = at (is_listed env e) refl (apps_in_order en
 contains_more : (x : List ℕ) (xs : List (List ℕ)) (a : List ℕ) → Contains xs a → Contains (x ∷ xs) a
 contains_more x xs a c = (suc c.0, omega (arith, c.1), c.2)
 
--- another app more
-lists_more : (slot : Slot) (x : List ℕ) (xs : List (List ℕ)) (a : List ℕ) → (x ≡ a → ⊥) → Lists slot xs a → Lists slot (x ∷ xs) a
-lists_more (Here None) x xs a other l = tt
-lists_more (Here (Some [])) x xs a other l = λ c. at (contains_either x xs a c)
+lists_if_more : (b : Bool) (x : List ℕ) (xs : List (List ℕ)) (a : List ℕ) → (x ≡ a → ⊥) → ListsIf b xs a → ListsIf b (x ∷ xs) a
+lists_if_more true x xs a other l = contains_more x xs a l
+lists_if_more false x xs a other l = λ c. at (contains_either x xs a c)
   where
     at : (x ≡ a) ⊎ Contains xs a → ⊥
     at (inl e) = other e
     at (inr c) = l c
-lists_more (Here (Some (f ∷ fs))) x xs a other l = contains_more x xs a l
+
+-- another app more
+lists_more : (slot : Slot) (x : List ℕ) (xs : List (List ℕ)) (a : List ℕ) → (x ≡ a → ⊥) → Lists slot xs a → Lists slot (x ∷ xs) a
+lists_more (Here None) x xs a other l = tt
+lists_more (Here (Some held)) x xs a other l = lists_if_more (has_any held) x xs a other l
 lists_more Out x xs a other l = tt
 
 lists_either : (b : Bool) (slot : Slot) (x : List ℕ) (xs : List (List ℕ)) (a : List ℕ) → (b ≡ true → x ≡ a → ⊥) → Lists slot xs a → Lists slot (cond b (x ∷ xs) xs) a
 lists_either true slot x xs a other l = lists_more slot x xs a (other refl) l
 lists_either false slot x xs a other l = l
 
-lists_here : (kept : Kept) (x : List ℕ) (xs : List (List ℕ)) → IsBefore x xs → Lists (slot_of (Some kept)) (cond (has_files kept) (x ∷ xs) xs) x
+lists_if_here : (b : Bool) (x : List ℕ) (xs : List (List ℕ)) → IsBefore x xs → ListsIf b (cond b (x ∷ xs) xs) x
+lists_if_here true x xs before = (0, omega arith, refl)
+lists_if_here false x xs before = not_among x xs before
+
+lists_here : (kept : Kept) (x : List ℕ) (xs : List (List ℕ)) → IsBefore x xs → Lists (slot_of (Some kept)) (cond (keeps_any kept) (x ∷ xs) xs) x
 lists_here None x xs before = tt
-lists_here (Some []) x xs before = not_among x xs before
-lists_here (Some (f ∷ fs)) x xs before = (0, omega arith, refl)
+lists_here (Some held) x xs before = lists_if_here (has_any held) x xs before
 
 -- one entry more
 lists_entry : (key : BuildKey) (e : BuildKey × Kept) (es : Entries) (o : Option Kept) (b : Bool) → is_same_build key e.0 ≡ b → AllByRecursion (λ k. key_cmp e.0 k ≡ Less) (keys_of es) → Lists (slot_of o) (apps_in key.env es) key.app → Lists (slot_of (cond b (Some e.1) o)) (apps_in key.env (e ∷ es)) key.app
@@ -98,8 +105,8 @@ lists_entry key e es o true is all rest =
     let k = same_key key e.0 is in
     let apps = apps_in key.env es in
     let own : pointwise nat_eq e.0.env key.env ≡ true = subst (λ (n : List ℕ). pointwise nat_eq e.0.env n ≡ true) (sym k.0) (nat_list_eq_equiv.refl e.0.env) in
-    subst (λ (t : Bool). Lists (slot_of (Some e.1)) (cond (t && has_files e.1) (e.0.app ∷ apps) apps) key.app) (sym own)
-    (subst (λ (n : List ℕ). Lists (slot_of (Some e.1)) (cond (has_files e.1) (e.0.app ∷ apps) apps) n) (sym k.1)
+    subst (λ (t : Bool). Lists (slot_of (Some e.1)) (cond (t && keeps_any e.1) (e.0.app ∷ apps) apps) key.app) (sym own)
+    (subst (λ (n : List ℕ). Lists (slot_of (Some e.1)) (cond (keeps_any e.1) (e.0.app ∷ apps) apps) n) (sym k.1)
     (lists_here e.1 e.0.app apps (before_apps e.0 key.env es (sym k.0) all)))
 lists_entry key e es o false is all rest =
     lists_either (is_listed key.env e) (slot_of o) e.0.app (apps_in key.env es) key.app

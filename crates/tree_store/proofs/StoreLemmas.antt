@@ -3,8 +3,8 @@ use Rattle.std.proofs.Common.{◌≡◌, ℕ, Bool, true, false, cond, Option, L
 use Rattle.std.specs.declared.cmp.Ordering.{Ordering}
 use Rattle.std.specs.declared.cmp.Ordering.TheVariants.{Less, Equal, Greater}
 use Rattle.std.specs.Ordering.{is_eq, ordering_then}
-use Rattle.mx_base.specs.declared.file.File.{File}
 use Rattle.mx_base.specs.Order.{text_cmp}
+use Rattle.tree_store.specs.declared.holding.Holding.{Holding}
 use Rattle.tree_store.specs.declared.key.BuildKey.{BuildKey}
 use Rattle.tree_store.specs.Key.{is_same_build}
 use Rattle.tree_store.specs.Slot.{Slot, SetsSlot, ChangesSlot}
@@ -48,7 +48,7 @@ slot_after_set key q slot old new sets e =
     sets q ∙ ap (λ (b : Bool). cond b slot (old q)) (ap (is_same_build key) e ∙ is_same_itself key)
 
 -- a folder that was handed out and came back
-pub lent_and_back : (key back_key : BuildKey) (step : Slot → Slot) (held : Option (List File)) (old mid new : BuildKey → Slot) → SetsSlot key Out old mid → back_key ≡ key → SetsSlot back_key (Here held) mid new → step (old key) ≡ Here held → ChangesSlot key step old new
+pub lent_and_back : (key back_key : BuildKey) (step : Slot → Slot) (held : Option Holding) (old mid new : BuildKey → Slot) → SetsSlot key Out old mid → back_key ≡ key → SetsSlot back_key (Here held) mid new → step (old key) ≡ Here held → ChangesSlot key step old new
 lent_and_back key back_key step held old mid new out own back is q = at (is_same_build key q) refl (subst (λ (k : BuildKey). new q ≡ cond (is_same_build k q) (Here held) (mid q)) own (back q)) (out q)
   where
     at : (b : Bool) → is_same_build key q ≡ b → new q ≡ cond b (Here held) (mid q) → mid q ≡ cond b Out (old q) → new q ≡ cond b (step (old q)) (old q)

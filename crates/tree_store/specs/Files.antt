@@ -25,21 +25,19 @@ put_all held (f ∷ fs) = put_all (put_file f held) fs
 abbrev pub without_file : List ℕ → List File → List File
 without_file path files = filter (λ f. not (is_eq (text_cmp path f.path))) files
 
--- the same where a folder may not tell its files
+-- so many of the first bytes of a file
+abbrev pub cut_at : ℕ → File → File
+cut_at count file = record { path = file.path; bytes = take count file.bytes }
+
+-- the same where files may not be told
 abbrev pub with_file : File → Option (List File) → Option (List File)
 with_file file held = option_map (put_file file) held
-
-abbrev pub with_files : List File → Option (List File) → Option (List File)
-with_files files held = option_map (λ h. put_all h files) held
-
-abbrev pub emptied : Option (List File) → Option (List File)
-emptied held = option_map (λ h. []) held
-
--- any of the old files, each of them whole
-abbrev pub HoldsPart : Option (List File) → Option (List File) → Type 0
-HoldsPart old new = (stays : File → Bool) × (new ≡ option_map (filter stays) old)
 
 -- as it was, without this file, or with a prefix of its bytes
 abbrev pub PutsPartly : File → Option (List File) → Option (List File) → Type 0
 PutsPartly file old new =
-    (new ≡ old) ⊎ (new ≡ option_map (without_file file.path) old) ⊎ ((n : ℕ) × (new ≡ with_file (record { path = file.path; bytes = take n file.bytes }) old))
+    (new ≡ old) ⊎ (new ≡ option_map (without_file file.path) old) ⊎ ((n : ℕ) × (new ≡ with_file (cut_at n file) old))
+
+-- as it was, or without the file of this path
+abbrev pub RemovesPartly : List ℕ → Option (List File) → Option (List File) → Type 0
+RemovesPartly path old new = (new ≡ old) ⊎ (new ≡ option_map (without_file path) old)

@@ -1,7 +1,10 @@
 pub mod Blame
 pub mod Contents
 pub mod Files
+pub mod FolderKnown
+pub mod Holding
 pub mod Key
 pub mod Known
 pub mod MemStore
+pub mod Moment
 pub mod Slot

@@ -3,7 +3,7 @@ ghost use Rattle.std.specs.Prelude.{◌≡◌, ◌↔◌, List, [], IsTrue, IfOk
 ghost use Rattle.std.specs.Option.{option_copied};
 ghost use Rattle.mx_base.specs.declared.file.File.{File};
 ghost use Rattle.mx_base.specs.Order.{AreInOrder, ArePathsInOrder, bytes_at};
-ghost use Rattle.tree_store.specs.Files.{put_file, put_all, paths_below};
+ghost use Rattle.tree_store.specs.Files.{put_file, put_all, paths_below, without_file};
 
 use mx_base::{Bytes, File, Files, RelPath};
 use std::alloc::{AllocError, Global};
@@ -40,9 +40,19 @@ impl Contents {
     pub fn put(&mut self, path: RelPath, bytes: Bytes) -> Result<(), AllocError>
         ensures ok { OnOk result (self.new ≡ put_file (record { path = path; bytes = bytes }) self.old) }
         ensures err { OnErr result (self.new ≡ self.old) }
+        ensures in_order { OnOk result (AreInOrder self.old) }
     {
         self.by_path.insert(path, bytes)?;
         Ok(())
+    }
+
+    /// Removes the file of a path, if there is one.
+    pub fn remove(&mut self, path: &RelPath)
+        ensures { self.new ≡ without_file path.now self.old }
+    {
+        // This call tells that the paths are in order.
+        let _ = self.by_path.len();
+        self.by_path.remove(path);
     }
 
     pub(crate) fn clear(&mut self)

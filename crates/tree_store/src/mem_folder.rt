@@ -1,26 +1,29 @@
 // A folder in memory.
-ghost use Rattle.std.specs.Prelude.{Some, refl};
+ghost use Rattle.std.specs.Prelude.{None, Some, refl};
 
-use crate::contents::Contents;
+use crate::folder::Folder;
+use crate::holding::Holding;
 use crate::key::BuildKey;
-use crate::store::{Folder, StoreFault};
+use crate::store::StoreFault;
 use mx_base::{AppName, Bytes, Faults, Files, RelPath};
 use std::alloc::Global;
 
-/// The files of a build in memory, which a `MemStore` hands out. Its plan says which calls fail.
+/// A build in memory, which a `MemStore` hands out. Its plan says which calls fail; a call that fails changes
+/// nothing. It doesn't tell what was written into it on the way.
 #[derive(Drop)]
 pub struct MemFolder<P> {
     pub(crate) key: BuildKey,
-    pub(crate) contents: Contents,
+    pub(crate) holding: Holding,
     pub(crate) plan: P,
 }
 
 impl<P: Faults> Folder for MemFolder<P> {
-    ghost key = { λ folder. folder.key };
-
-    ghost held = { λ folder. Some folder.contents };
-
-    ghost faults = { λ folder. P.count folder.plan };
+    ghost known = { λ folder. record {
+      key = folder.key;
+      held = Some folder.holding;
+      moments = None;
+      faults = P.count folder.plan;
+    } };
 
     ghost tells = { Unit {0} };
 
@@ -34,11 +37,19 @@ impl<P: Faults> Folder for MemFolder<P> {
         &self.key.app
     }
 
+    fn unmark(&mut self, _alloc: Global) -> Result<(), StoreFault> {
+        if self.plan.fails() {
+            return Err(StoreFault::Failed);
+        }
+        self.holding.mark = None;
+        Ok(())
+    }
+
     fn clear(&mut self, _alloc: Global) -> Result<(), StoreFault> {
         if self.plan.fails() {
             return Err(StoreFault::Failed);
         }
-        self.contents.clear();
+        self.holding.files.clear();
         Ok(())
     }
 
@@ -48,7 +59,7 @@ impl<P: Faults> Folder for MemFolder<P> {
         }
         let path = path.clone()?;
         let bytes = Bytes::from_slice(alloc, bytes)?;
-        self.contents.put(path, bytes)?;
+        self.holding.files.put(path, bytes)?;
         Ok(())
     }
 
@@ -56,6 +67,24 @@ impl<P: Faults> Folder for MemFolder<P> {
         if self.plan.fails() {
             return Err(StoreFault::Failed);
         }
-        Ok(self.contents.files(alloc)?)
+        Ok(self.holding.files.files(alloc)?)
+    }
+
+    fn mark(&mut self, alloc: Global, bytes: &[u8]) -> Result<(), StoreFault> {
+        if self.plan.fails() {
+            return Err(StoreFault::Failed);
+        }
+        self.holding.mark = Some(Bytes::from_slice(alloc, bytes)?);
+        Ok(())
+    }
+
+    fn read_mark(&mut self, _alloc: Global) -> Result<Option<Bytes>, StoreFault> {
+        if self.plan.fails() {
+            return Err(StoreFault::Failed);
+        }
+        match &self.holding.mark {
+            Some(bytes) => Ok(Some(bytes.clone()?)),
+            None => Ok(None),
+        }
     }
 }

@@ -5,5 +5,5 @@ use Rattle.host_tests.proofs.folder_tests.put_once.Goals as goal
 
 pub give_back-requires : goal.give_back-requires
 give_back-requires g c =
-    slot_after_set (record { env = c.args.env.now; app = c.args.app.now }) (g.S.F.Folder.key c.put-put.new.self) Out (g.S.Store.known c.args.store.now).slot (g.S.Store.known c.folder.new.self).slot
-    c.in_ok-folder.ensures.lends.out (c.put-put.ensures.key ∙ c.in_ok-folder.ensures.key)
+    slot_after_set (record { env = c.args.env.now; app = c.args.app.now }) (g.S.F.Folder.known c.put_anew-put.new.folder).key Out (g.S.Store.known c.args.store.now).slot (g.S.Store.known c.folder.new.self).slot
+    c.in_ok-folder.ensures.lends.out (c.put_anew-put.ensures ∙ c.in_ok-folder.ensures.folder.build)

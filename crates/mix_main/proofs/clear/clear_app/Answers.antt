@@ -9,13 +9,13 @@ use Rattle.mix_main.proofs.clear.clear_app.Goals as goal
 pub give_back-requires : goal.give_back-requires
 give_back-requires g c =
     let key : BuildKey = record { env = c.args.env.now; app = c.args.app.now } in
-    slot_after_set key (g.S.F.Folder.key c.clear-cleared.new.self) Out (g.S.Store.known c.args.store.now).slot (g.S.Store.known c.folder.new.self).slot c.in_ok-folder.ensures.lends.out (c.clear-cleared.ensures.key ∙ c.in_ok-folder.ensures.key)
+    slot_after_set key (g.S.F.Folder.known c.empty-cleared.new.folder).key Out (g.S.Store.known c.args.store.now).slot (g.S.Store.known c.folder.new.self).slot c.in_ok-folder.ensures.lends.out (c.empty-cleared.ensures.key ∙ c.in_ok-folder.ensures.folder.build)
 
 pub returns-in-Ok-clause-cleared : goal.returns-in-Ok-clause-cleared
 returns-in-Ok-clause-cleared g c =
     let key : BuildKey = record { env = c.args.env.now; app = c.args.app.now } in
-    lent_and_back key (g.S.F.Folder.key c.clear-cleared.new.self) emptied_slot (g.S.F.Folder.held c.clear-cleared.new.self) (g.S.Store.known c.args.store.now).slot (g.S.Store.known c.folder.new.self).slot (g.S.Store.known c.give_back.new.self).slot
-    c.in_ok-folder.ensures.lends.out (c.clear-cleared.ensures.key ∙ c.in_ok-folder.ensures.key) c.give_back.ensures.back (ap emptied_slot (sym c.in_ok-folder.ensures.folder) ∙ ap Here (sym c.in-Ok.ensures.held))
+    lent_and_back key (g.S.F.Folder.known c.empty-cleared.new.folder).key emptied_slot (g.S.F.Folder.known c.empty-cleared.new.folder).held (g.S.Store.known c.args.store.now).slot (g.S.Store.known c.folder.new.self).slot (g.S.Store.known c.give_back.new.self).slot
+    c.in_ok-folder.ensures.lends.out (c.empty-cleared.ensures.key ∙ c.in_ok-folder.ensures.folder.build) c.give_back.ensures.back (ap emptied_slot (sym c.in_ok-folder.ensures.folder.held) ∙ ap Here (sym c.in-Ok.ensures.emptied))
 
 pub returns-in_err-folder-clause-part : goal.returns-in_err-folder-clause-part
 returns-in_err-folder-clause-part g c = same_part (g.S.Store.known c.args.store.now).slot (g.S.Store.known c.folder.new.self).slot c.in_err-folder.ensures.lends.kept
@@ -23,13 +23,13 @@ returns-in_err-folder-clause-part g c = same_part (g.S.Store.known c.args.store.
 pub returns-in-Ok-clause-part : goal.returns-in-Ok-clause-part
 returns-in-Ok-clause-part g c =
     let key : BuildKey = record { env = c.args.env.now; app = c.args.app.now } in
-    lent_part key (g.S.F.Folder.key c.clear-cleared.new.self) (g.S.F.Folder.held c.in_ok-folder.folder) (g.S.F.Folder.held c.clear-cleared.new.self) (g.S.Store.known c.args.store.now).slot (g.S.Store.known c.folder.new.self).slot (g.S.Store.known c.give_back.new.self).slot
-    c.in_ok-folder.ensures.lends.out (c.clear-cleared.ensures.key ∙ c.in_ok-folder.ensures.key) c.give_back.ensures.back c.in_ok-folder.ensures.folder
-    (none_left (g.S.F.Folder.held c.in_ok-folder.folder) (g.S.F.Folder.held c.clear-cleared.new.self) c.in-Ok.ensures.held)
+    lent_part key (g.S.F.Folder.known c.empty-cleared.new.folder).key (g.S.F.Folder.known c.in_ok-folder.folder).held (g.S.F.Folder.known c.empty-cleared.new.folder).held (g.S.Store.known c.args.store.now).slot (g.S.Store.known c.folder.new.self).slot (g.S.Store.known c.give_back.new.self).slot
+    c.in_ok-folder.ensures.lends.out (c.empty-cleared.ensures.key ∙ c.in_ok-folder.ensures.folder.build) c.give_back.ensures.back c.in_ok-folder.ensures.folder.held
+    (none_left (g.S.F.Folder.known c.in_ok-folder.folder).held (g.S.F.Folder.known c.empty-cleared.new.folder).held c.in-Ok.ensures.emptied)
 
 pub returns-in-Err-clause-part : goal.returns-in-Err-clause-part
 returns-in-Err-clause-part g c =
     let key : BuildKey = record { env = c.args.env.now; app = c.args.app.now } in
-    lent_part key (g.S.F.Folder.key c.clear-cleared.new.self) (g.S.F.Folder.held c.in_ok-folder.folder) (g.S.F.Folder.held c.clear-cleared.new.self) (g.S.Store.known c.args.store.now).slot (g.S.Store.known c.folder.new.self).slot (g.S.Store.known c.give_back.new.self).slot
-    c.in_ok-folder.ensures.lends.out (c.clear-cleared.ensures.key ∙ c.in_ok-folder.ensures.key) c.give_back.ensures.back c.in_ok-folder.ensures.folder
-    c.in-Err.ensures.partly
+    lent_part key (g.S.F.Folder.known c.empty-cleared.new.folder).key (g.S.F.Folder.known c.in_ok-folder.folder).held (g.S.F.Folder.known c.empty-cleared.new.folder).held (g.S.Store.known c.args.store.now).slot (g.S.Store.known c.folder.new.self).slot (g.S.Store.known c.give_back.new.self).slot
+    c.in_ok-folder.ensures.lends.out (c.empty-cleared.ensures.key ∙ c.in_ok-folder.ensures.folder.build) c.give_back.ensures.back c.in_ok-folder.ensures.folder.held
+    c.in-Err.ensures.part

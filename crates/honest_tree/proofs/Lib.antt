@@ -1,0 +1,2 @@
+pub mod HonestLemmas
+pub mod KeptLemmas

@@ -1,0 +1,3 @@
+pub mod Given
+pub mod Honest
+pub mod KeptOf

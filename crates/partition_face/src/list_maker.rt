@@ -1,0 +1,90 @@
+// A maker that hands out given partitions.
+ghost use Rattle.std.specs.Prelude.{◌≡◌, ◌≤◌, IfOk, OnErr, OnOk, drop, map, take, vec_len};
+ghost use Rattle.std.specs.List.{All};
+ghost use Rattle.partition_face.specs.Counts.{fresh, raised_by};
+ghost use Rattle.partition_face.specs.Makers.{Stops, maker_of, new_maker};
+
+use crate::counts::Counts;
+use crate::maker::{Maker, MakerFault};
+use crate::partition::Partition;
+use mx_base::Count;
+use std::alloc::{AllocError, Global};
+use std::mem;
+
+/// Hands out the first of its partitions, in their order, as many as it is asked for, and then the next of them.
+/// Where it has fewer that counts as a fault.
+#[derive(Drop)]
+pub struct ListMaker<P: Partition> {
+    waiting: Vec<P>,
+    stopped: Counts,
+    asked: u64,
+    faults: Count,
+    pub ghost ready: { All (λ partition. P.counted partition ≡ fresh) waiting.items },
+}
+
+impl<P: Partition + Drop> ListMaker<P> {
+    /// A maker of these partitions, none of which has made a run or died.
+    pub fn new(partitions: Vec<P>) -> ListMaker<P>
+        requires { All (λ partition. P.counted partition ≡ fresh) partitions.items }
+        ensures { ⟦<ListMaker<P> as Maker>⟧.known result ≡ new_maker }
+    {
+        ListMaker {
+            waiting: partitions,
+            stopped: Counts::new(),
+            asked: 0,
+            faults: Count::new(),
+        }
+    }
+}
+
+impl<P: Partition + Drop> Maker for ListMaker<P> {
+    type P = P;
+
+    ghost use Rattle.partition_face.specs.Makers.{maker_of};
+
+    ghost known = { λ maker. maker_of maker.stopped maker.asked maker.faults };
+
+    fn start(&mut self, _alloc: Global, n: u32) -> Result<Vec<P>, MakerFault> {
+        self.asked = self.asked.saturating_add(n as u64);
+        let wanted = n as usize;
+        let given = self.waiting.len().min(wanted);
+        let started = take_first(&mut self.waiting, given)?;
+        if given < wanted {
+            self.faults.raise();
+        }
+        if given == 0 && wanted > 0 {
+            return Err(MakerFault::Failed);
+        }
+        Ok(started)
+    }
+
+    #[tactic(auto, using(crate::proofs::CountLemmas::runs_more, crate::proofs::CountLemmas::deaths_more))]
+    fn stop(&mut self, partitions: Vec<P>)
+        ensures { Stops (map P.counted partitions.items)
+            (maker_of self.old.stopped self.old.asked self.old.faults)
+            (maker_of self.new.stopped self.new.asked self.new.faults) }
+    {
+        for partition in partitions {
+            let counts = partition.counts();
+            self.stopped = self.stopped.plus(counts);
+        }
+        stands(self.stopped.runs);
+        stands(self.stopped.deaths);
+    }
+}
+
+// No count is past its last value.
+fn stands(count: u64)
+    ensures { raised_by 0 count ≡ count }
+{}
+
+// Takes the first so many out.
+fn take_first<P>(waiting: &mut Vec<P>, n: usize) -> Result<Vec<P>, AllocError>
+    requires { n ≤ vec_len waiting.old }
+    ensures taken { IfOk result (λ taken. taken.items ≡ take n waiting.old.items) }
+    ensures left { OnOk result (waiting.new.items ≡ drop n waiting.old.items) }
+    ensures err { OnErr result (waiting.new.items ≡ waiting.old.items) }
+{
+    let rest = waiting.split_off(n)?;
+    Ok(mem::replace(waiting, rest))
+}
