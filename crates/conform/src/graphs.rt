@@ -74,7 +74,7 @@ fn push_places(out: &mut String, places: &[usize]) -> Result<(), Fault> {
 
 /// The graph of a text: for each place its needs, joined by commas, and then a semicolon. A number behind a `+` counts
 /// from the place itself. Numbers that are no place are left out.
-fn graph_of(alloc: Global, text: &str) -> Result<Graph, Fault> {
+pub(crate) fn graph_of(alloc: Global, text: &str) -> Result<Graph, Fault> {
     let rows: Vec<&str> = text.split_terminator(';').collect(alloc)?;
     let mut needs = Vec::new(alloc);
     for row in &rows {

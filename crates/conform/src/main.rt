@@ -6,12 +6,14 @@
 #![tactic(auto)]
 
 mod compilers;
+mod cores;
 mod fields;
 mod graphs;
 mod manifests;
 mod marks;
 mod messages;
 mod mortal;
+mod openings;
 mod projects;
 mod rows;
 mod shown;
@@ -21,6 +23,7 @@ mod units;
 mod writable;
 
 use compilers::{command_case, manager_case, settings_case};
+use cores::core_case;
 use fields::{Fault, fields_of};
 use graphs::{closure_case, order_case};
 use manifests::{decls_case, manifest_case, project_case};
@@ -93,6 +96,7 @@ fn answer(alloc: Global, out: &mut String, line: &str) -> Result<(), Fault> {
         "plan_for" => plan_for_case(alloc, out, texts),
         "listing" => listing_case(alloc, out, texts),
         "mark" => mark_case(alloc, out, texts),
+        "core" => core_case(alloc, out, texts),
         "run" => run_case(alloc, out, texts),
         _ => Err(Fault::Form),
     }

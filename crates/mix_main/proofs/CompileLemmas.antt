@@ -1,5 +1,5 @@
 -- From the plan to the tree.
-use Rattle.std.proofs.Common.{◌≡◌, ℕ, true, false, Bool, List, Result, Ok, Err, IfOk, OnOk, refl, ◌∙◌, ap, ap₂, subst}
+use Rattle.std.proofs.Common.{◌≡◌, ℕ, true, false, Bool, List, Result, Ok, Err, IfOk, OnOk, refl, ◌∙◌, ap, subst}
 use Rattle.mx_base.specs.Blame.{Blame, is_outside}
 use Rattle.mx_base.specs.Blame.Blame.{Input, Outside, Memory}
 use Rattle.mx_base.specs.Causes.{Rose}
@@ -17,6 +17,7 @@ use Rattle.tree_store.specs.Slot.{Slot}
 use Rattle.build_plan.specs.Blame.{blame_of}
 use Rattle.build_plan.specs.declared.error.PlanError.{PlanError}
 use Rattle.build_plan.specs.Plan.{IsPlan}
+use Rattle.mix_report.specs.Report.{report}
 use Rattle.mix_main.specs.declared.status.Status.{Status}
 use Rattle.mix_main.specs.declared.answer.Answer.{Answer}
 use Rattle.mix_main.specs.declared.answer.Stop.{Stop}
@@ -25,7 +26,6 @@ use Rattle.mix_main.specs.Answer.{Fails, status_in, text_in}
 use Rattle.mix_main.specs.Compile.{Builds, Compiles, status_by}
 use Rattle.mix_main.specs.Compile.Builds.{built, read_fault, tree_fault, no_memory}
 use Rattle.mix_main.specs.Compile.Compiles.{refused, unread, unplanned}
-use Rattle.mix_main.specs.Report.{report}
 use Rattle.mix_main.specs.Filling.{filled_by, BeginsEnv}
 use Rattle.mix_main.specs.Refusal.{TellsError}
 use Rattle.mix_main.specs.Refusal.TellsError.{told, read, no_memory as untold}
@@ -55,26 +55,33 @@ refuse_ends compile env target error old new deaths status text first reads (rea
 refuse_ends compile env target error old new deaths status text first reads (untold quiet ended line) =
     unplanned (ap (λ (s : Known). site_of s deaths) (only_read old new _ reads (not_outside (blame_of error) quiet))) ended line
 
-module _ (compile : Content → Outcome) (law : (content : Content) → AreInOrder (compile content).files) (env : List ℕ) (jobs jobs' : List Job) (fates fates' : List Fate) (planned : ArePlanned jobs) (js : jobs' ≡ jobs) (fs : fates' ≡ fates) (is : fates ≡ seq compile jobs) where
+module _ (compile : Content → Outcome) (law : (content : Content) → AreInOrder (compile content).files) (env : List ℕ) (jobs : List Job) (fates fates' : List Fate) (planned : ArePlanned jobs) (fs : fates' ≡ fates) (is : fates ≡ seq compile jobs) where
   -- emptied, and then filled
-  pub built_tree : (old mid new : BuildKey → Slot) → ClearsEnv env old mid → ((q : BuildKey) → new q ≡ filled_by env q jobs' fates' (mid q)) → LeavesTree env jobs (seq compile jobs) old new
+  pub built_tree : (old mid new : BuildKey → Slot) → ClearsEnv env old mid → ((q : BuildKey) → new q ≡ filled_by env q jobs fates' (mid q)) →
+      LeavesTree env jobs (seq compile jobs) old new
   built_tree old mid new clears fills =
       leaves_tree env jobs (seq compile jobs) old mid new (planned_differ jobs planned) (seq_in_order compile law jobs) clears
-      (λ q. fills q ∙ ap (λ (x : List Job). filled_by env q x fates' (mid q)) js ∙ ap (λ (x : List Fate). filled_by env q jobs x (mid q)) (fs ∙ is))
+      (λ q. fills q ∙ ap (λ (x : List Fate). filled_by env q jobs x (mid q)) (fs ∙ is))
 
   -- emptied, and then filled until an error
-  pub built_partly : (old mid new : BuildKey → Slot) → ClearsEnv env old mid → BeginsEnv env jobs' fates' mid new → FillsPartly env jobs (seq compile jobs) old new
+  pub built_partly : (old mid new : BuildKey → Slot) → ClearsEnv env old mid → BeginsEnv env jobs fates' mid new →
+      FillsPartly env jobs (seq compile jobs) old new
   built_partly old mid new clears begins =
       let begun : BeginsEnv env jobs (seq compile jobs) mid new =
-      subst (λ (x : List Fate). BeginsEnv env jobs x mid new) (fs ∙ is) (subst (λ (x : List Job). BeginsEnv env x fates' mid new) js begins) in
-      cleared_filled env jobs (seq compile jobs) old mid new clears (begun (planned_differ jobs planned) (seq_in_order compile law jobs) (cleared_empty env old mid clears))
+      subst (λ (x : List Fate). BeginsEnv env jobs x mid new) (fs ∙ is) begins in
+      cleared_filled env jobs (seq compile jobs) old mid new clears
+      (begun (planned_differ jobs planned) (seq_in_order compile law jobs) (cleared_empty env old mid clears))
 
   -- how it ends from the compiled jobs on
-  pub finish_ends : (result : Result Answer Stop) (old mid new : Known) (deaths after : ℕ) → ClearsEnv env old.slot mid.slot → mid.faults ≡ old.faults → mid.returned ≡ old.returned → after ≡ deaths → IfOk result (λ answer. answer.status ≡ status_by fates') → IfOk result (λ answer. answer.text.items ≡ report jobs' fates') → OnOk result ((q : BuildKey) → new.slot q ≡ filled_by env q jobs' fates' (mid.slot q)) → Fails result mid new → Builds compile env jobs (site_of old deaths) (site_of new after) (status_in result) (text_in result)
+  pub finish_ends : (result : Result Answer Stop) (old mid new : Known) (deaths after : ℕ) →
+      ClearsEnv env old.slot mid.slot → mid.faults ≡ old.faults → mid.returned ≡ old.returned → after ≡ deaths →
+      IfOk result (λ answer. answer.status ≡ status_by fates') → IfOk result (λ answer. answer.text.items ≡ report jobs fates') →
+      OnOk result ((q : BuildKey) → new.slot q ≡ filled_by env q jobs fates' (mid.slot q)) → Fails result mid new →
+      Builds compile env jobs (site_of old deaths) (site_of new after) (status_in result) (text_in result)
   finish_ends (Ok answer) old mid new deaths after clears faults returned died status text filled fails =
       built (record {
         tree = built_tree old.slot mid.slot new.slot clears filled;
-        report = text ∙ ap₂ report js (fs ∙ is);
+        report = text ∙ ap (report jobs) (fs ∙ is);
         ended = status ∙ ap status_by (fs ∙ is);
         calm = record { reads = fails.0 ∙ faults; trees = fails.1 ∙ returned; deaths = died };
       })

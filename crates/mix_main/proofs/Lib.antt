@@ -4,6 +4,5 @@ pub mod CompileLemmas
 pub mod LawLemmas
 pub mod PartLemmas
 pub mod PutLemmas
-pub mod ReportLemmas
 pub mod StandLemmas
 pub mod TreeLemmas

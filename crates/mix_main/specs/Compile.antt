@@ -16,10 +16,10 @@ use Rattle.tree_store.specs.Slot.{Slot}
 use Rattle.build_plan.specs.Blame.{blame_of}
 use Rattle.build_plan.specs.declared.error.PlanError.{PlanError}
 use Rattle.build_plan.specs.Plan.{IsPlan}
+use Rattle.mix_report.specs.Report.{report, is_failed}
 use Rattle.mix_main.specs.declared.status.Status.{Status}
 use Rattle.mix_main.specs.declared.status.Status.TheVariants.{Done, SomeFailed, ReadFault, TreeFault, Died, OutOfMemory}
 use Rattle.mix_main.specs.Refusal.{status_of}
-use Rattle.mix_main.specs.Report.{report, is_failed}
 use Rattle.mix_main.specs.Texts.{read_fault_line, tree_fault_line, died_line, memory_line, refusal_line}
 use Rattle.mix_main.specs.Tree.{ClearsEnv, EachLeavesPart, FillsPartly, LeavesTree, StaysElsewhere}
 use Rattle.mix_main.specs.World.{Calm, Site}

@@ -6,7 +6,6 @@ pub mod Filling
 pub mod Help
 pub mod Laws
 pub mod Refusal
-pub mod Report
 pub mod Status
 pub mod Texts
 pub mod Tree

@@ -7,18 +7,18 @@ ghost use Rattle.tree_store.specs.Slot.{AllHere};
 ghost use Rattle.mix_main.specs.Answer.{Fails, status_in, text_in};
 ghost use Rattle.mix_main.specs.Compile.{Builds, Compiles, Stands, status_by};
 ghost use Rattle.mix_main.specs.Filling.{BeginsEnv, filled_by};
-ghost use Rattle.mix_main.specs.Report.{report};
 ghost use Rattle.mix_main.specs.Tree.{StaysElsewhere};
 ghost use Rattle.mix_main.specs.World.{Keeps, site_of};
+ghost use Rattle.mix_report.specs.Report.{report, is_failed};
 
 use crate::answer::{Answer, Stop};
 use crate::clear::clear_env;
 use crate::fill::fill_env;
 use crate::refusal::refuse;
-use crate::report::{any_failed, report_of};
 use crate::status::Status;
 use build_plan::plan;
-use compile_model::{Compiler, Fate, Job, Plan, seq_build};
+use compile_model::{Compiler, Fate, Plan, seq_build};
+use mix_report::report;
 use mx_base::AppName;
 use std::alloc::Global;
 use tree_store::Store;
@@ -64,43 +64,50 @@ fn build<S: Store, C: Compiler>(
 {
     clear_env(alloc, &plan.env, store)?;
     let fates = seq_build(alloc, plan, compiler)?;
-    finish(alloc, &plan.env, plan.jobs.as_slice(), &fates, store)
+    finish(alloc, &plan.env, plan, &fates, store)
 }
 
 // Puts what was built into an empty environment, and reports it.
 fn finish<S: Store>(
     alloc: Global,
     env: &AppName,
-    jobs: &[Job],
+    plan: &Plan,
     fates: &[Fate],
     store: &mut S,
 ) -> Result<Answer, Stop>
-    requires lengths { length fates.now ≡ length jobs.now }
+    requires lengths { length fates.now ≡ length plan.now.jobs }
     requires here { AllHere (S.known store.old).slot }
     ensures status { IfOk result (λ answer. answer.status ≡ status_by fates.now) }
-    ensures report { IfOk result (λ answer. answer.text.items ≡ report jobs.now fates.now) }
+    ensures report { IfOk result (λ answer. answer.text.items
+        ≡ report plan.now.jobs fates.now) }
     ensures filled { OnOk result ((q : BuildKey) → (S.known store.new).slot q
-        ≡ filled_by env.now q jobs.now fates.now ((S.known store.old).slot q)) }
-    ensures begun { BeginsEnv env.now jobs.now fates.now
+        ≡ filled_by env.now q plan.now.jobs fates.now ((S.known store.old).slot q)) }
+    ensures begun { BeginsEnv env.now plan.now.jobs fates.now
         (S.known store.old).slot (S.known store.new).slot }
     ensures elsewhere { StaysElsewhere env.now (S.known store.old).slot (S.known store.new).slot }
     ensures keeps { Keeps (S.known store.old) (S.known store.new) }
     ensures fails { Fails result (S.known store.old) (S.known store.new) }
 {
-    fill_env(alloc, env, jobs, fates, store)?;
-    let text = report_of(alloc, jobs, fates)?;
+    fill_env(alloc, env, plan.jobs.as_slice(), fates, store)?;
+    let text = report(alloc, plan, fates)?;
     Ok(Answer {
         status: status_by(fates),
-        text,
+        text: text.into_vec(),
     })
 }
 
 fn status_by(fates: &[Fate]) -> Status
     ensures { result ≡ status_by fates.now }
 {
-    if any_failed(fates) {
+    if fates.iter().any(|fate| is_failed(fate)) {
         Status::SomeFailed
     } else {
         Status::Done
     }
+}
+
+fn is_failed(fate: &Fate) -> bool
+    ensures { result ≡ is_failed fate.now }
+{
+    matches!(fate, Fate::Failed(_))
 }

@@ -14,7 +14,6 @@ mod fill;
 mod help;
 mod laws;
 mod refusal;
-mod report;
 mod status;
 
 pub use call::{plain_compile, run};

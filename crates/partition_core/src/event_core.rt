@@ -1,5 +1,5 @@
 // The events of a build.
-ghost use Rattle.std.specs.Prelude.{◌≡◌, ◌≤◌, ◌↔◌, ◌+◌, ◌*◌, ◌<◌, [], length, map, slice_get, Some, IsOk, IfOk, IfSome, IfErr, OnOk, OnErr};
+ghost use Rattle.std.specs.Prelude.{◌≡◌, ◌≤◌, ◌↔◌, ◌+◌, ◌*◌, ◌<◌, [], length, map, slice_get, Some, IsOk, IfOk, IfSome, IfErr, IsTrue, OnOk, OnErr};
 ghost use Rattle.std.specs.Option.{option_copied};
 ghost use Rattle.compile_model.specs.Planned.{ArePlanned};
 ghost use Rattle.compile_model.specs.Seq.{seq};
@@ -12,6 +12,7 @@ ghost use Rattle.partition_core.specs.Story.{state_now, with_event};
 
 use crate::event::{Event, Illegal, Next, Standing};
 use crate::lot::fate_at;
+use crate::refusal::standing;
 use crate::table::Table;
 use compile_model::{Fate, Meaning, Outcome, Plan};
 use mx_base::Shared;
@@ -99,7 +100,19 @@ impl<M: Meaning> Core<M> {
         self.table.next()
     }
 
-    /// What is compiled.
+    /// Whether the partition of this number is free: it runs nothing, and hasn't ended.
+    pub fn is_free(&self, by: u32) -> bool
+        ensures free { IsTrue result → standing (state_now self.now).standings by
+            ≡ Some Standing.Idle }
+        ensures only { standing (state_now self.now).standings by ≡ Some Standing.Idle
+            → IsTrue result }
+    {
+        match standing(self.table.standings.as_slice(), by) {
+            Some(Standing::Idle) => true,
+            _ => false,
+        }
+    }
+
     pub fn plan(&self) -> &Plan
         ensures value { result.now ≡ self.now.opening.plan }
         ensures planned { ArePlanned self.now.opening.plan.jobs }

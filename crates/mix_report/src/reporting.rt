@@ -1,22 +1,24 @@
 // The report of a compile.
-ghost use Rattle.std.specs.Prelude.{◌≡◌, ◌++◌, length, count_by, slice_get, true, IfOk, OnOk};
-ghost use Rattle.std.specs.List.{list_any};
-ghost use Rattle.std.specs.Fmt.{decimal};
-ghost use Rattle.mix_main.specs.Report.{report, jobs_text, job_text, fate_text, shown_text, shown_after, failed_text, skipped_text, app_at, count_text, totals, is_built, is_failed, is_skipped};
+ghost use Rattle.std.specs.Prelude.{◌≡◌, ◌++◌, length, count_by, true, IfOk, OnOk};
+ghost use Rattle.mix_report.specs.Report.{report, jobs_text, job_text, fate_text, shown_text, shown_after, failed_text, skipped_text, count_text, totals, is_built, is_failed, is_skipped};
 
-use compile_model::{Fate, Job, Outcome};
+use crate::app::app_at;
+use compile_model::{Fate, Job, Outcome, Plan};
 use mx_base::{Bytes, push_decimal};
 use std::alloc::{AllocError, Global};
 
-/// One entry for each job in order, and last the totals.
-pub(crate) fn report_of(alloc: Global, jobs: &[Job], fates: &[Fate]) -> Result<Vec<u8>, AllocError>
-    requires { length fates.now ≡ length jobs.now }
-    ensures { IfOk result (λ text. text.items ≡ report jobs.now fates.now) }
+/// What became of each job in order, with the lines of its outcome's text, and last how many ended in each way.
+///
+/// It takes one fate for each job. Its only error is want of memory.
+pub fn report(alloc: Global, plan: &Plan, fates: &[Fate]) -> Result<Bytes, AllocError>
+    requires { length fates.now ≡ length plan.now.jobs }
+    ensures { IfOk result (λ text. text ≡ report plan.now.jobs fates.now) }
 {
+    let jobs = plan.jobs.as_slice();
     let mut text = Vec::new(alloc);
     push_jobs(alloc, &mut text, jobs, fates)?;
     push_totals(alloc, &mut text, jobs, fates)?;
-    Ok(text)
+    Ok(Bytes::from_vec(text))
 }
 
 fn push_jobs(
@@ -83,15 +85,6 @@ fn push_skipped(text: &mut Vec<u8>, jobs: &[Job], need: u32) -> Result<(), Alloc
     text.extend_from_slice(app_at(jobs, need))?;
     text.extend_from_slice(b"\n")?;
     Ok(())
-}
-
-fn app_at(jobs: &[Job], place: u32) -> &[u8]
-    ensures { result.now ≡ app_at (slice_get jobs.now place) }
-{
-    match jobs.get(place as usize) {
-        Some(job) => job.app.as_str().as_bytes(),
-        None => b"",
-    }
 }
 
 // Each line after two spaces.
@@ -176,16 +169,4 @@ fn push_count(
 {
     push_decimal(alloc, text, count as u64)?;
     text.extend_from_slice(label)
-}
-
-fn is_failed(fate: &Fate) -> bool
-    ensures { result ≡ is_failed fate.now }
-{
-    matches!(fate, Fate::Failed(_))
-}
-
-pub(crate) fn any_failed(fates: &[Fate]) -> bool
-    ensures { result ≡ list_any is_failed fates.now }
-{
-    fates.iter().any(|fate| is_failed(fate))
 }

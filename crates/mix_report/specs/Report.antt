@@ -1,10 +1,11 @@
 -- The report of a compile.
-use Rattle.std.specs.Prelude.{ℕ, Bool, true, false, ◌==◌, List, [], ◌∷◌, ◌++◌, length, Option, Some, None, slice_get, count_by, flat_map, codes}
+use Rattle.std.specs.Prelude.{ℕ, Bool, true, false, ◌==◌, List, [], ◌∷◌, ◌++◌, length, count_by, flat_map, codes}
 use Rattle.std.specs.Fmt.{decimal}
 use Rattle.std.specs.List.{slice_split}
 use Rattle.compile_model.specs.declared.job.Job.{Job}
 use Rattle.compile_model.specs.declared.outcome.Fate.{Fate}
 use Rattle.compile_model.specs.declared.outcome.Fate.TheVariants.{Built, Failed, Skipped}
+use Rattle.mix_report.specs.App.{app_at}
 
 abbrev pub is_newline : ℕ → Bool
 is_newline byte = byte == 10
@@ -33,15 +34,11 @@ shown_after false [] = 10 ∷ []
 shown_after true (b ∷ bs) = 32 ∷ 32 ∷ b ∷ shown_after (is_newline b) bs
 shown_after false (b ∷ bs) = b ∷ shown_after (is_newline b) bs
 
-abbrev pub app_at : Option Job → List ℕ
-app_at (Some job) = job.app
-app_at None = []
-
 abbrev pub failed_text : ℕ → List ℕ → List ℕ
 failed_text status text = codes " failed with status " ++ decimal status ++ codes "\n" ++ shown_text text
 
 abbrev pub skipped_text : List Job → ℕ → List ℕ
-skipped_text jobs need = codes " skipped, needs " ++ app_at (slice_get jobs need) ++ codes "\n"
+skipped_text jobs need = codes " skipped, needs " ++ app_at jobs need ++ codes "\n"
 
 -- what became of a job
 abbrev pub fate_text : List Job → Fate → List ℕ

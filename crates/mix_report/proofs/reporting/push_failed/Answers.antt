@@ -1,8 +1,8 @@
 use Rattle.std.proofs.Common.{codes}
 use Rattle.std.specs.Fmt.{decimal}
-use Rattle.mix_main.specs.Report.{shown_text}
-use Rattle.mix_main.proofs.ReportLemmas.{four_pieces}
-use Rattle.mix_main.proofs.report.push_failed.Goals as goal
+use Rattle.mix_report.specs.Report.{shown_text}
+use Rattle.mix_report.proofs.ReportLemmas.{four_pieces}
+use Rattle.mix_report.proofs.reporting.push_failed.Goals as goal
 
 pub returns : goal.returns
 returns c =

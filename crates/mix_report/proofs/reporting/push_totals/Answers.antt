@@ -1,7 +1,7 @@
 use Rattle.std.proofs.Common.{codes, length}
-use Rattle.mix_main.specs.Report.{count_text}
-use Rattle.mix_main.proofs.ReportLemmas.{four_pieces}
-use Rattle.mix_main.proofs.report.push_totals.Goals as goal
+use Rattle.mix_report.specs.Report.{count_text}
+use Rattle.mix_report.proofs.ReportLemmas.{four_pieces}
+use Rattle.mix_report.proofs.reporting.push_totals.Goals as goal
 
 pub returns : goal.returns
 returns c =

@@ -2,7 +2,7 @@
 use Rattle.std.proofs.Common.{◌≡◌, ℕ, Bool, true, false, cond, List, [], ◌∷◌, ◌++◌, flat_map, refl, sym, ◌∙◌, ap, append_assoc}
 use Rattle.std.specs.List.{slice_split, onto_first}
 use Rattle.std.proofs.lemmas.Bool.{eqb-true}
-use Rattle.mix_main.specs.Report.{is_newline, without_last_empty, shown_line, shown_text, shown_after}
+use Rattle.mix_report.specs.Report.{is_newline, without_last_empty, shown_line, shown_text, shown_after}
 
 abbrev lines_shown : List (List ℕ) → List ℕ
 lines_shown parts = flat_map shown_line (without_last_empty parts)

@@ -1,6 +1,6 @@
 use Rattle.std.proofs.Common.{◌≡◌, ◌≤◌, ◌+◌, drop, count_by}
-use Rattle.mix_main.specs.Report.{is_built, is_failed, is_skipped}
-use Rattle.mix_main.proofs.report.tally_of.Given as goal
+use Rattle.mix_report.specs.Report.{is_built, is_failed, is_skipped}
+use Rattle.mix_report.proofs.reporting.tally_of.Given as goal
 
 abbrev pub invariant-loop-fate : goal.invariant-loop-fate
 invariant-loop-fate l = record {
