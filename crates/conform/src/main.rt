@@ -9,6 +9,7 @@ mod compilers;
 mod cores;
 mod fields;
 mod graphs;
+mod locks;
 mod manifests;
 mod marks;
 mod messages;
@@ -26,6 +27,7 @@ use compilers::{command_case, manager_case, settings_case};
 use cores::core_case;
 use fields::{Fault, fields_of};
 use graphs::{closure_case, order_case};
+use locks::lock_case;
 use manifests::{decls_case, manifest_case, project_case};
 use marks::{listing_case, mark_case};
 use messages::{message_case, write_case};
@@ -83,6 +85,7 @@ fn answer(alloc: Global, out: &mut String, line: &str) -> Result<(), Fault> {
         "decls" => decls_case(alloc, out, texts),
         "project" => project_case(alloc, out, texts),
         "manifest" => manifest_case(alloc, out, texts),
+        "lock" => lock_case(alloc, out, texts),
         "settings" => settings_case(alloc, out, texts),
         "manager" => manager_case(alloc, out, texts),
         "command" => command_case(alloc, out, texts),

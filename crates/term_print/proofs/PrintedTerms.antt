@@ -458,3 +458,13 @@ printed_spells t printable =
       spelled = are_tokens (subst (λ (w : List ℕ). Leads s.tokens w []) (append-nil (printed t)) (s.word.leads [] tt)) refl;
       grammar = s.grammar;
     }
+
+-- the tokens of a term's text where it stands in a longer one, before what may follow a term
+pub record Placed (t : Term) : Type 0 where
+  pub tokens : List Token
+  pub grammar : IsTerm tokens t
+  pub leads : (rest : List ℕ) → Stops rest → Leads tokens (printed t ++ rest) rest
+  pub utf8 : IsUtf8 (printed t)
+
+pub printed_placed : (t : Term) → IsPrintable t → Placed t
+printed_placed t printable = let s = spelled printable in record { tokens = s.tokens; grammar = s.grammar; leads = s.word.leads; utf8 = s.word.utf8 }

@@ -1,0 +1,17 @@
+pub mod ApartLemmas
+pub mod AsciiLemmas
+pub mod BackLemmas
+pub mod EntryLemmas
+pub mod FactLemmas
+pub mod OneLemmas
+pub mod OptionLemmas
+pub mod OrderLemmas
+pub mod PrintLemmas
+pub mod PushLemmas
+pub mod ReadLemmas
+pub mod SomeLemmas
+pub mod SortLemmas
+pub mod SoundLemmas
+pub mod TermLemmas
+pub mod VersionLemmas
+pub mod ViewLemmas
