@@ -1,0 +1,12 @@
+pub mod Needed
+pub mod Universe
+pub mod Agreement
+pub mod Ways
+pub mod Nodes
+pub mod Standing
+pub mod Moves
+pub mod Ends
+pub mod FirstValid
+pub mod Uniqueness
+pub mod FitLemmas
+pub mod WalkLemmas

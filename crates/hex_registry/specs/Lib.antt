@@ -1,0 +1,11 @@
+pub mod Offers
+pub mod Refusals
+pub mod Blame
+pub mod Shelves
+pub mod Loaded
+pub mod Candidates
+pub mod Picks
+pub mod Valid
+pub mod Breaches
+pub mod Missing
+pub mod Reach
