@@ -5,7 +5,7 @@ use Rattle.std.proofs.lemmas.Option.{slice_get-get_or}
 use Rattle.compile_model.specs.declared.job.Job.{Job}
 use Rattle.compile_model.specs.declared.outcome.Outcome.{Outcome}
 use Rattle.compile_model.specs.declared.outcome.Fate.{Fate}
-use Rattle.compile_model.specs.Calls.{Call, DiesOf, after_calls, call_at, calls_from, calls_of, calls_unless}
+use Rattle.compile_model.specs.Calls.{Call, after_calls, call_at, calls_from, calls_of, calls_to, calls_unless, last_calls}
 use Rattle.compile_model.specs.Content.{Content}
 use Rattle.compile_model.specs.Seq.{fate_of, first_unbuilt, seq, seq_from}
 
@@ -34,10 +34,8 @@ pub called_more : (f : Content → Outcome) (jobs : List Job) (i : ℕ) (job : J
 called_more f jobs i job told h is = after_more told (calls_of f (take i jobs)) _ ∙ ap (after_calls told) (sym (calls_take_more f jobs i job h is))
 
 -- the compiler died of the job of this place
-pub dies_of : (f : Content → Outcome) (jobs : List Job) (before now : Option (List Call)) (place : ℕ) (job : Job) → place < length jobs → job ≡ get_or jobs place job
-    → now ≡ after_calls (after_calls before (calls_of f (take place jobs))) (call_at (seq f (take place jobs)) job true ∷ []) → DiesOf f jobs before now place
-dies_of f jobs before now place job below is called = record {
-  job = job;
-  at = slice_get-get_or jobs place job below ∙ ap Some (sym is);
-  calls = called ∙ after_more before (calls_of f (take place jobs)) (call_at (seq f (take place jobs)) job true ∷ []);
-}
+pub called_to : (f : Content → Outcome) (jobs : List Job) (before now : Option (List Call)) (place : ℕ) (job : Job) → place < length jobs → job ≡ get_or jobs place job
+    → now ≡ after_calls (after_calls before (calls_of f (take place jobs))) (call_at (seq f (take place jobs)) job true ∷ []) → now ≡ after_calls before (calls_to f jobs place)
+called_to f jobs before now place job below is called =
+    called ∙ after_more before (calls_of f (take place jobs)) (call_at (seq f (take place jobs)) job true ∷ [])
+    ∙ ap (λ (at : Option Job). after_calls before (calls_of f (take place jobs) ++ last_calls (seq f (take place jobs)) at)) (sym (slice_get-get_or jobs place job below ∙ ap Some (sym is)))

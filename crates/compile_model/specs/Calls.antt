@@ -35,14 +35,17 @@ calls_from compile fates (job ∷ jobs) = calls_unless (first_unbuilt fates job.
 abbrev pub calls_of : (Content → Outcome) → List Job → List Call
 calls_of compile jobs = calls_from compile [] jobs
 
--- the compiler lived through the jobs before this place, and died of the job there, its last call
-pub record DiesOf (compile : Content → Outcome) (jobs : List Job) (before now : Option (List Call)) (place : ℕ) : Type 0 where
-  pub job : Job
-  pub at : slice_get jobs place ≡ Some job
-  pub calls : now ≡ after_calls before (calls_of compile (take place jobs) ++ call_at (seq compile (take place jobs)) job true ∷ [])
+-- a call of which the compiler died, where there was a job for it
+abbrev pub last_calls : List Fate → Option Job → List Call
+last_calls fates (Some job) = call_at fates job true ∷ []
+last_calls fates None = []
 
--- what the compiler was given, by what became of the jobs
-abbrev pub AreCallsOf : {X : Type 0} → (Content → Outcome) → List Job → Option (List Call) → Option (List Call) → Result X SeqFault → Type 0
-AreCallsOf compile jobs before now (Ok fates) = now ≡ after_calls before (calls_of compile jobs)
-AreCallsOf compile jobs before now (Err (Died place)) = DiesOf compile jobs before now place
-AreCallsOf compile jobs before now (Err OutOfMemory) = Unit {0}
+-- a compiler that died of the job of this place lived through those before it
+abbrev pub calls_to : (Content → Outcome) → List Job → ℕ → List Call
+calls_to compile jobs place = calls_of compile (take place jobs) ++ last_calls (seq compile (take place jobs)) (slice_get jobs place)
+
+-- the calls that an answer tells; for want of memory they may have ended anywhere
+abbrev pub calls_by : {X : Type 0} → (Content → Outcome) → List Job → Result X SeqFault → Option (List Call)
+calls_by compile jobs (Ok fates) = Some (calls_of compile jobs)
+calls_by compile jobs (Err (Died place)) = Some (calls_to compile jobs place)
+calls_by compile jobs (Err OutOfMemory) = None

@@ -1,10 +1,10 @@
 // Compiling one job after another.
-ghost use Rattle.std.specs.Prelude.{◌≡◌, None, [], ◌∷◌, true, false, IsTrue, IfOk, IfErr, length, vec_len};
+ghost use Rattle.std.specs.Prelude.{◌≡◌, None, [], ◌∷◌, true, false, IsTrue, IfOk, IfErr, IfSome, length, vec_len};
 ghost use Rattle.mx_base.specs.Blame.{fails};
 ghost use Rattle.mx_base.specs.Causes.{Counted};
 ghost use Rattle.std.specs.List.{All};
 ghost use Rattle.compile_model.specs.Blame.{compile_blame, seq_blame};
-ghost use Rattle.compile_model.specs.Calls.{AreCallsOf, after_calls, call_at, calls_unless};
+ghost use Rattle.compile_model.specs.Calls.{after_calls, call_at, calls_by, calls_unless};
 ghost use Rattle.compile_model.specs.Planned.{IsNamed};
 ghost use Rattle.compile_model.specs.Seq.{seq, first_unbuilt, outcome_at, outcomes_of, fate_of, DiedAt};
 ghost use Rattle.std.specs.Option.{option_copied};
@@ -59,8 +59,8 @@ pub fn seq_build<C: Compiler>(
         (C.deaths compiler.new)) }
     ensures cause { Counted (C.deaths compiler.old) (C.deaths compiler.new)
         (fails seq_blame result) }
-    ensures calls { AreCallsOf C.compile_of plan.now.jobs (C.calls compiler.old)
-        (C.calls compiler.new) result }
+    ensures calls { IfSome (calls_by C.compile_of plan.now.jobs result) (λ calls.
+        C.calls compiler.new ≡ after_calls (C.calls compiler.old) calls) }
 {
     let mut fates = Vec::new(alloc);
     for (place, job) in plan.jobs.as_slice().iter().enumerate() {

@@ -50,11 +50,11 @@ pub record RemovesFile {X : Type 0} (path : List ℕ) (old new : Known) (result 
   pub cause : Counted old.faults new.faults (fails blame_of result)
 
 -- the folder of a build is out after it was handed out, and nothing else changes
-pub record Lends {X E : Type 0} (key : BuildKey) (old new : Known) (result : Result X E) (failed : Bool) : Type 0 where
+pub record Lends {X : Type 0} (key : BuildKey) (old new : Known) (result : Result X StoreFault) : Type 0 where
   pub out : OnOk result (SetsSlot key Out old.slot new.slot)
   pub kept : OnErr result (new.slot ≡ old.slot)
   pub rest : new ≡ record old { slot = new.slot; faults = new.faults }
-  pub cause : Counted old.faults new.faults failed
+  pub cause : Counted old.faults new.faults (fails blame_of result)
 
 -- the folder is that of the build, holds what the store has there, and hasn't failed
 pub record IsLent (key : BuildKey) (slot : Slot) (folder : FolderKnown) : Type 0 where

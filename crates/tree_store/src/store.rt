@@ -108,7 +108,7 @@ pub trait Store {
             ((known self.old).slot (record { env = env.now; app = app.now }))
             (Self.F.known folder)) }
         ensures lends { Lends (record { env = env.now; app = app.now }) (known self.old)
-            (known self.new) result (fails blame_of result) };
+            (known self.new) result };
 
     /// Takes a folder back. The build is then what the folder holds. It takes no memory.
     fn give_back(&mut self, folder: Self::F)

@@ -1,7 +1,7 @@
 use Rattle.std.proofs.Common.{ap}
 use Rattle.mx_base.specs.Blame.{is_outside}
 use Rattle.compile_model.specs.Blame.{compile_blame}
-use Rattle.compile_model.proofs.CallLemmas.{dies_of}
+use Rattle.compile_model.proofs.CallLemmas.{called_to}
 use Rattle.compile_model.proofs.SeqLemmas.{dies_at}
 use Rattle.compile_model.proofs.seq.seq_build.Goals as goal
 
@@ -22,6 +22,6 @@ returns-in-Err-Died-clause-calls g c =
     let calls = c.loop-place.invariant.calls in
     let slice = c.as_slice.ensures.value in
     let died = ap (λ fault. is_outside (compile_blame fault)) c.in-Err-Died.field-0-is in
-    dies_of g.C.Meaning.compile_of c.args.plan.now.jobs _ _ c.loop-place.place c.job-item.result
+    called_to g.C.Meaning.compile_of c.args.plan.now.jobs _ _ c.loop-place.place c.job-item.result
     (rw (← jobs) c.loop-place-test.true) (rw (← jobs) c.job-item.is)
     (rw (← jobs, ← so_far, ← slice, ← calls) (c.in-Err-Died.ensures.died died))
