@@ -1,5 +1,5 @@
 -- A build that has a name is refused none.
-use Rattle.std.proofs.Common.{◌≡◌, ℕ, Bool, List, length, cond, ◌∙◌, ap, Result, Ok, Err}
+use Rattle.std.proofs.Common.{◌≡◌, ℕ, Bool, List, length, cond, ◌∙◌, ap, Ok, Err}
 use Rattle.std.proofs.lemmas.Bool.{le-ltb}
 use Rattle.mx_base.specs.Blame.Blame.{Input}
 use Rattle.mx_base.specs.BuildName.{HasBuildName, build_name, unless_too_long}

@@ -1,4 +1,4 @@
-use Rattle.std.proofs.Common.{List, IfSome, Ok, Err, sym, subst}
+use Rattle.std.proofs.Common.{List, IfSome, Ok, sym, subst}
 use Rattle.std.proofs.lemmas.Result.{err_from_is_err_and}
 use Rattle.compile_model.specs.declared.job.Job.{Job}
 use Rattle.project_file.specs.Files.{AreSettings}
