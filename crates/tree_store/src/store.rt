@@ -45,7 +45,7 @@ impl<T: Drop> From<AllocFailed<T>> for StoreFault {
 }
 
 /// The files of a project, and its builds, of which some are out as folders. Folders need not be
-/// `Drop`, so code over any store can't let one go: it gives each back. They may cross threads.
+/// `Drop`, so code over any store can't let one go: it gives each back.
 pub trait Store {
     type F: Folder;
 
