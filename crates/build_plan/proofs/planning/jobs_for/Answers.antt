@@ -1,8 +1,10 @@
-use Rattle.std.proofs.Common.{IfSome, Vec}
+use Rattle.std.proofs.Common.{List, IfSome, All, sym, subst, Vec}
 use Rattle.std.proofs.lemmas.Result.{err_from_is_err_and}
 use Rattle.std.specs.declared.alloc.Global.{Global}
 use Rattle.compile_model.specs.declared.job.Job.{Job}
+use Rattle.build_plan.specs.declared.found.Found.{Found}
 use Rattle.build_plan.specs.Blame.{blame_of}
+use Rattle.build_plan.specs.Found.{IsFound}
 use Rattle.build_plan.specs.Stages.{MakesJobs, Schedules, Then}
 use Rattle.build_plan.proofs.ReadLemmas.{answers_by_as}
 use Rattle.build_plan.proofs.SceneLemmas.{if_goes_on, if_stops}
@@ -14,6 +16,10 @@ returns-in_err-scene-clause-answer g c =
     rw (p.1, p.2) (λ input.
     if_stops c.args.settings.now c.args.converged.now.rows.rows c.args.env.now c.args.target.now (g.S.Store.known c.args.store.now).sources c.in_err-scene.field-0.0
     (c.in_err-scene.ensures.answer input))
+
+pub jobs-requires : goal.jobs-requires
+jobs-requires g c =
+    subst (λ (all : List Found). IfSome (g.S.Store.known c.args.store.now).sources (λ files. All (IsFound files) all)) (sym c.in_ok-scene.ensures.found) c.requires.meant
 
 pub returns-clause-answer : goal.returns-clause-answer
 returns-clause-answer g c =
