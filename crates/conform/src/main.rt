@@ -37,7 +37,8 @@ use std::alloc::{AllocError, Global};
 use std::io;
 use std::io::{BufRead, BufReader, BufWriter, Write};
 use terms::{
-    build_case, join_case, match_case, name_case, print_case, requirement_case, term_case, version_case,
+    build_case, join_case, match_case, name_case, print_case, requirement_case, term_case,
+    version_case,
 };
 use units::unit_case;
 

@@ -3,13 +3,14 @@ ghost use Rattle.std.specs.Prelude.{◌≡◌, length, IfOk};
 ghost use Rattle.compile_model.specs.Planned.{ArePlanned};
 
 use crate::fields::Fault;
+use crate::projects::planned;
 use crate::stores::store_of;
 use crate::terms::app_name;
 use build_manifest::read_mark;
-use build_plan::{PlanError, plan};
+use build_plan::PlanError;
 use compile_model::{Job, Outcome, Plan};
 use dep_order::{Graph, Places};
-use mx_base::{Bytes, Files, Shared, listing_text};
+use mx_base::{Bytes, Files, HOST, Shared, listing_text};
 use partition_core::Kept;
 use std::alloc::{AllocError, Global};
 
@@ -20,7 +21,8 @@ pub(crate) fn plan_of(alloc: Global, graph: &Graph) -> Result<Plan, Fault>
     let files = files_of(alloc, graph.needs())?;
     let mut store = store_of(alloc, b"", b"", files.as_slice())?;
     let env = app_name(alloc, b"dev")?;
-    match plan(alloc, &mut store, &env) {
+    let target = app_name(alloc, HOST.as_bytes())?;
+    match planned(alloc, &mut store, &env, &target)? {
         Ok(plan) => Ok(plan),
         Err(PlanError::OutOfMemory) => Err(Fault::Memory),
         Err(_) => Err(Fault::Form),

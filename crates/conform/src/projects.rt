@@ -1,5 +1,6 @@
 // Cases of whole projects: their plan, and what running the command does.
-ghost use Rattle.mx_base.specs.BuildName.{HasBuildName};
+ghost use Rattle.std.specs.Prelude.{IfOk};
+ghost use Rattle.compile_model.specs.Planned.{ArePlanned};
 ghost use Rattle.tree_store.specs.Slot.{AllHere};
 
 use crate::compilers::refused_settings;
@@ -44,7 +45,6 @@ pub(crate) fn plan_for_case(
     push_plan(alloc, out, &mut store, &env, &target)
 }
 
-/// The plan, where the environment and the target have a build name.
 fn push_plan<S: Store>(
     alloc: Global,
     out: &mut String,
@@ -52,25 +52,25 @@ fn push_plan<S: Store>(
     env: &AppName,
     target: &AppName,
 ) -> Result<(), Fault> {
-    match build_name(alloc, env, target) {
-        Ok(_) => push_planned(alloc, out, store, env, target),
-        Err(NameError::OutOfMemory) => Err(Fault::Memory),
-        Err(_) => Err(Fault::Form),
+    match planned(alloc, store, env, target)? {
+        Ok(plan) => push_jobs(alloc, out, &plan),
+        Err(error) => refused_plan(alloc, out, &error),
     }
 }
 
-fn push_planned<S: Store>(
+/// What a project plans, where the environment and the target have a build name.
+pub(crate) fn planned<S: Store>(
     alloc: Global,
-    out: &mut String,
     store: &mut S,
     env: &AppName,
     target: &AppName,
-) -> Result<(), Fault>
-    requires { HasBuildName env.now target.now }
+) -> Result<Result<Plan, PlanError>, Fault>
+    ensures { IfOk result (λ answer. IfOk answer (λ plan. ArePlanned plan.jobs)) }
 {
-    match plan(alloc, store, env, target) {
-        Ok(plan) => push_jobs(alloc, out, &plan),
-        Err(error) => refused_plan(alloc, out, &error),
+    match build_name(alloc, env, target) {
+        Ok(_) => Ok(plan(alloc, store, env, target)),
+        Err(NameError::OutOfMemory) => Err(Fault::Memory),
+        Err(_) => Err(Fault::Form),
     }
 }
 
