@@ -5,7 +5,7 @@ use Rattle.hex_pick.specs.Outcome.IsOutcome.{picked, no_pick, too_many}
 use Rattle.hex_pick.specs.Problem.{locked_of, next_needed, problem_of}
 use Rattle.hex_pick.specs.Walking.{WentOn}
 use Rattle.hex_pick.proofs.WalkLemmas.{has_begun, is_past, is_picked, stands_by}
-use Rattle.hex_pick.proofs.search.search.Goals as goal
+use Rattle.hex_pick.proofs.search.pick_within.Goals as goal
 
 pub walk-init : goal.walk-init
 walk-init c = record {
