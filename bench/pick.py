@@ -8,9 +8,9 @@ package's candidates. That so many nodes are walked is asked too: the same answe
 before it, and none where one less may.
 """
 import os
-import subprocess
 import sys
-import time
+
+from lines import asked
 
 
 def varint(number):
@@ -36,36 +36,18 @@ def message(name, releases):
     return out + field(2, name.encode()) + field(3, b"hexpm")
 
 
-def run(line):
-    begin = time.monotonic()
-    child = subprocess.run([program], input=(line + "\n").encode(), stdout=subprocess.PIPE)
-    spent = time.monotonic() - begin
-    if child.returncode != 0:
-        sys.exit("status %d" % child.returncode)
-    return spent, child.stdout.decode().strip()
-
-
-def fastest(line, wanted):
-    each = []
-    for _ in range(3):
-        spent, answer = run(line)
-        if not answer.startswith(wanted):
-            sys.exit("%r, but %r" % (wanted, answer[:200]))
-        each.append(spent)
-    return min(each)
-
-
 def row(title, registry, wants, walked, before, answer):
     """`before` nodes come before the answer; None where it is that there are too many."""
     wants = "".join("need %s %s ;" % (name, name) for name in wants).encode().hex()
     files = "".join(" %s %s" % (("hex/%s/package" % name).encode().hex(), message(name, releases).hex())
                     for name, releases in registry.items())
-    asked = lambda limit: "pick %s %s%s" % (str(limit).encode().hex() or "-", wants, files)
+    fields = lambda limit: "%s %s%s" % (str(limit).encode().hex() or "-", wants, files)
     if before is not None:
-        assert run(asked(before))[1].startswith(answer)
-        assert run(asked(before - 1))[1] == "refused - TooManyNodes"
-    loaded = fastest("registry - %s %s%s" % (wants, min(registry).encode().hex(), files), "ok ")
-    spent = fastest(asked(""), answer) - loaded
+        asked(program, "pick", fields(before), answer)
+        asked(program, "pick", fields(before - 1), "refused - TooManyNodes")
+    first = min(registry).encode().hex()
+    loaded = asked(program, "registry", "- %s %s%s" % (wants, first, files), "ok ")
+    spent = asked(program, "pick", fields(""), answer) - loaded
     print("| %s | %d | %.3f | %.2f | %.3f |" % (title, walked, spent, 1e6 * spent / walked, loaded))
 
 
