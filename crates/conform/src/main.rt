@@ -15,12 +15,14 @@ mod marks;
 mod messages;
 mod mortal;
 mod openings;
+mod picks;
 mod projects;
 mod rows;
 mod shown;
 mod stores;
 mod terms;
 mod units;
+mod wanted;
 mod writable;
 
 use compilers::{command_case, manager_case, settings_case};
@@ -31,6 +33,7 @@ use locks::lock_case;
 use manifests::{decls_case, manifest_case, project_case};
 use marks::{listing_case, mark_case};
 use messages::{message_case, write_case};
+use picks::{breach_case, pick_case, registry_case};
 use projects::{plan_case, plan_for_case, run_case};
 use rows::{converge_case, reach_case, reach_for_case, rows_case};
 use std::alloc::{AllocError, Global};
@@ -86,6 +89,9 @@ fn answer(alloc: Global, out: &mut String, line: &str) -> Result<(), Fault> {
         "decls" => decls_case(alloc, out, texts),
         "project" => project_case(alloc, out, texts),
         "manifest" => manifest_case(alloc, out, texts),
+        "registry" => registry_case(alloc, out, texts),
+        "pick" => pick_case(alloc, out, texts),
+        "breach" => breach_case(alloc, out, texts),
         "lock" => lock_case(alloc, out, texts),
         "settings" => settings_case(alloc, out, texts),
         "manager" => manager_case(alloc, out, texts),

@@ -24,7 +24,11 @@ pub(crate) fn message_case(
     }
 }
 
-fn refused_message(alloc: Global, out: &mut String, error: WireError) -> Result<(), Fault> {
+pub(crate) fn refused_message(
+    alloc: Global,
+    out: &mut String,
+    error: WireError,
+) -> Result<(), Fault> {
     let (cause, field) = wire_cause(error.cause);
     if field.is_empty() {
         return refused(out, error.at, cause);

@@ -18,7 +18,8 @@ use Rattle.hex_pick.proofs.Standing.{parts_preferred, preferred_on, sibling_pref
 -- each of them is reached, and preferred to each later one
 data InOrder (problem : Problem) : List (List Picked) → Type 0 where
   last : InOrder problem []
-  first : {root : List Picked} {roots : List (List Picked)} → Leads problem [] root → ((other : List Picked) → Contains roots other → IsPreferred problem root other) → InOrder problem roots → InOrder problem (root ∷ roots)
+  first : {root : List Picked} {roots : List (List Picked)} → Leads problem [] root → ((other : List Picked) → Contains roots other
+      → IsPreferred problem root other) → InOrder problem roots → InOrder problem (root ∷ roots)
 
 dropped : {A : Type 0} (x : A) (xs ys : List A) (n : ℕ) → drop n ys ≡ x ∷ xs → (slice_get ys n ≡ Some x) × (drop (suc n) ys ≡ xs)
 dropped x xs [] zero e = absurd (cc)
@@ -27,16 +28,20 @@ dropped x xs (y ∷ ys) zero e = let head : y ≡ x = cc in let tail : ys ≡ xs
 dropped x xs (y ∷ ys) (suc n) e = dropped x xs ys n e
 
 -- the decisions by what is left of the candidates
-decided_in_order : (problem : Problem) (pick : List Picked) (name : List ℕ) (places : List ℕ) (n : ℕ) → Leads problem [] pick → next_needed problem pick ≡ Some name → drop n (problem.candidates name) ≡ places → InOrder problem (decided_by problem pick name places)
+decided_in_order : (problem : Problem) (pick : List Picked) (name : List ℕ) (places : List ℕ) (n : ℕ) → Leads problem [] pick
+    → next_needed problem pick ≡ Some name → drop n (problem.candidates name) ≡ places → InOrder problem (decided_by problem pick name places)
 decided_in_order problem pick name [] n way is e = last
 decided_in_order problem pick name (place ∷ places) n way is e =
     let d = dropped place places (problem.candidates name) n e in
     let more = decided_in_order problem pick name places (suc n) way is d.1 in
-    (elim (agrees problem (with_picked pick (name, place))) as (λ b. agrees problem (with_picked pick (name, place)) ≡ b → InOrder problem (cond b (with_picked pick (name, place) ∷ decided_by problem pick name places) (decided_by problem pick name places))) [
+    (elim (agrees problem (with_picked pick (name, place))) as (λ b. agrees problem (with_picked pick (name, place)) ≡ b
+    → InOrder problem (cond b (with_picked pick (name, place) ∷ decided_by problem pick name places) (decided_by problem pick name places))) [
       | true ↦ (λ agreed.
-          let child : Contains (children problem pick) (with_picked pick (name, place)) = child_in problem pick name place is (contains_get (problem.candidates name) n place d.0) agreed in
+          let child : Contains (children problem pick) (with_picked pick (name, place)) = child_in problem pick name place is
+          (contains_get (problem.candidates name) n place d.0) agreed in
           first (then_leads [] pick (with_picked pick (name, place)) way (goes child stays))
-          (λ other c. sibling_preferred problem pick name n place (suc n) other way is d.0 agreed (omega arith) (subst (λ (ps : List ℕ). Contains (decided_by problem pick name ps) other) (sym d.1) c))
+          (λ other c. sibling_preferred problem pick name n place (suc n) other way is d.0 agreed (omega arith)
+          (subst (λ (ps : List ℕ). Contains (decided_by problem pick name ps) other) (sym d.1) c))
           more)
       | false ↦ (λ agreed. more)
     ]) refl
@@ -58,7 +63,8 @@ record InSecond (xs ys before : List (List Picked)) (x : List Picked) (after : L
   skipped : List (List Picked)
   is : ys ≡ skipped ++ x ∷ after
 
-place_in : (xs ys before : List (List Picked)) (x : List Picked) (after : List (List Picked)) → xs ++ ys ≡ before ++ x ∷ after → InFirst xs ys before x after ⊎ InSecond xs ys before x after
+place_in : (xs ys before : List (List Picked)) (x : List Picked) (after : List (List Picked)) → xs ++ ys ≡ before ++ x ∷ after
+    → InFirst xs ys before x after ⊎ InSecond xs ys before x after
 place_in [] ys before x after e = inr (record { skipped = before; is = e })
 place_in (y ∷ xs) ys [] x after e =
     let head : y ≡ x = cc in
@@ -68,12 +74,18 @@ place_in (y ∷ xs) ys (z ∷ before) x after e =
     let head : y ≡ z = cc in
     let tail : xs ++ ys ≡ before ++ x ∷ after = cc in
     elim (place_in xs ys before x after tail) [
-      | inl k ↦ inl (record { rest = k.rest; is = ap (λ (w : List Picked). w ∷ xs) head ∙ ap (λ (ws : List (List Picked)). z ∷ ws) k.is; after_is = k.after_is })
+      | inl k ↦ inl (record {
+        rest = k.rest;
+        is = ap (λ (w : List Picked). w ∷ xs) head ∙ ap
+            (λ (ws : List (List Picked)). z ∷ ws) k.is;
+        after_is = k.after_is;
+      })
       | inr k ↦ inr (record { skipped = k.skipped; is = k.is })
     ]
 
 -- a later node lies below an earlier one, or the earlier one is preferred to it
-later_node : {problem : Problem} (roots nodes before after : List (List Picked)) (one other : List Picked) → InOrder problem roots → AreNodes problem roots nodes → nodes ≡ before ++ one ∷ after → Contains after other → Leads problem one other ⊎ IsPreferred problem one other
+later_node : {problem : Problem} (roots nodes before after : List (List Picked)) (one other : List Picked) → InOrder problem roots
+    → AreNodes problem roots nodes → nodes ≡ before ++ one ∷ after → Contains after other → Leads problem one other ⊎ IsPreferred problem one other
 later_node _ _ [] after one other order none e c = absurd (cc)
 later_node _ _ (x ∷ before) after one other order none e c = absurd (cc)
 later_node {problem} _ _ [] after one other (first way parts order) (next {node = node} {roots = roots} {below = below} {more = more} down rest) e c =
@@ -90,14 +102,17 @@ later_node {problem} _ _ (x ∷ before) after one other (first way parts order) 
       | inl k ↦ elim (Contains-append_cases k.rest more other (subst (λ (ns : List (List Picked)). Contains ns other) k.after_is c)) [
         | inl h ↦ later_node (children problem node) below before k.rest one other (all_in_order problem node way) down k.is h
         | inr h ↦ (let l = in_led roots more other rest h in
-            let stands : Contains below one = subst (λ (ns : List (List Picked)). Contains ns one) (sym k.is) (Contains-append_right before (one ∷ k.rest) one (here one k.rest)) in
+            let stands : Contains below one = subst (λ (ns : List (List Picked)). Contains ns one) (sym k.is)
+            (Contains-append_right before (one ∷ k.rest) one (here one k.rest)) in
             let m = in_led (children problem node) below one down stands in
             inr (parts_preferred one l.0 other (preferred_on node l.0 one (parts l.0 l.1) (goes m.1 m.2)) l.2))
       ]
       | inr k ↦ later_node roots more k.skipped after one other order rest k.is c
     ]
 
-pub first_best : (problem : Problem) (nodes before after : List (List Picked)) (pick : List Picked) → AreTried problem.shelves problem.wants problem.candidates → AreAllNodes problem nodes → [] ∷ nodes ≡ before ++ pick ∷ after → ((other : List Picked) → Contains before other → IsValidFor problem other → ⊥) → IsValidFor problem pick → IsBest problem pick
+pub first_best : (problem : Problem) (nodes before after : List (List Picked)) (pick : List Picked)
+    → AreTried problem.shelves problem.wants problem.candidates → AreAllNodes problem nodes → [] ∷ nodes ≡ before ++ pick ∷ after
+    → ((other : List Picked) → Contains before other → IsValidFor problem other → ⊥) → IsValidFor problem pick → IsBest problem pick
 first_best problem nodes before after pick tried all is none_before valid =
     let whole : AreNodes problem ([] ∷ []) ([] ∷ (nodes ++ [])) = next all none in
     let same : [] ∷ (nodes ++ []) ≡ before ++ pick ∷ after = ap (λ (ns : List (List Picked)). [] ∷ ns) (append-nil nodes) ∙ is in

@@ -12,7 +12,8 @@ use Rattle.hex_registry.proofs.MissingLemmas.IsLow.{nothing, lowest}
 use Rattle.hex_pick.specs.Problem.{Problem, next_needed}
 
 -- the least of names
-low_some : (names : List (List ℕ)) (name : List ℕ) → least_with None names ≡ Some name → Contains names name × ((other : List ℕ) → Contains names other → is_le (text_cmp name other) ≡ true)
+low_some : (names : List (List ℕ)) (name : List ℕ) → least_with None names ≡ Some name → Contains names name ×
+    ((other : List ℕ) → Contains names other → is_le (text_cmp name other) ≡ true)
 low_some names name e = at (subst (λ (o : Option (List ℕ)). IsLow names o) e (low_of names))
   where
     at : IsLow names (Some name) → Contains names name × ((other : List ℕ) → Contains names other → is_le (text_cmp name other) ≡ true)
@@ -40,14 +41,17 @@ next_open problem pick name e =
       lowest = λ other a u. k.1 other (in_missing problem.shelves problem.wants pick other a u);
     }
 
-pub none_open : (problem : Problem) (pick : List Picked) (name : List ℕ) → next_needed problem pick ≡ None → IsAsked problem.shelves problem.wants pick name → has_package pick name ≡ true
+pub none_open : (problem : Problem) (pick : List Picked) (name : List ℕ) → next_needed problem pick ≡ None → IsAsked problem.shelves problem.wants pick name
+    → has_package pick name ≡ true
 none_open problem pick name e a =
     elim (cases_Bool (has_package pick name)) [
       | inl having ↦ having
-      | inr lacking ↦ absurd (contains_none name (subst (λ (ns : List (List ℕ)). Contains ns name) (low_none (missing_names problem.shelves problem.wants pick) e) (in_missing problem.shelves problem.wants pick name a lacking)))
+      | inr lacking ↦ absurd (contains_none name (subst (λ (ns : List (List ℕ)). Contains ns name)
+          (low_none (missing_names problem.shelves problem.wants pick) e) (in_missing problem.shelves problem.wants pick name a lacking)))
     ]
 
-pub open_none : (problem : Problem) (pick : List Picked) → ((name : List ℕ) → IsAsked problem.shelves problem.wants pick name → has_package pick name ≡ true) → next_needed problem pick ≡ None
+pub open_none : (problem : Problem) (pick : List Picked) → ((name : List ℕ) → IsAsked problem.shelves problem.wants pick name → has_package pick name ≡ true)
+    → next_needed problem pick ≡ None
 open_none problem pick all = at (next_needed problem pick) refl
   where
     at : (o : Option (List ℕ)) → next_needed problem pick ≡ o → o ≡ None
@@ -58,6 +62,7 @@ open_none problem pick all = at (next_needed problem pick) refl
 abbrev pub Within : List Picked → List Picked → Type 0
 Within pick others = (q : Picked) → Contains pick q → Contains others q
 
-pub asked_more : (problem : Problem) (pick others : List Picked) {name : List ℕ} → Within pick others → IsAsked problem.shelves problem.wants pick name → IsAsked problem.shelves problem.wants others name
+pub asked_more : (problem : Problem) (pick others : List Picked) {name : List ℕ} → Within pick others → IsAsked problem.shelves problem.wants pick name
+    → IsAsked problem.shelves problem.wants others name
 asked_more problem pick others within (wanted want c required) = wanted want c required
 asked_more problem pick others within (demanded by demand c d required) = demanded by demand (within by c) d required

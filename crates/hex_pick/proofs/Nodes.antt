@@ -13,7 +13,8 @@ use Rattle.hex_pick.proofs.Universe.{asked_within, gaps, gaps_fewer, universe}
 use Rattle.hex_pick.proofs.Ways.{child_of, then_leads}
 
 -- a child has fewer undecided packages
-child_fewer : (problem : Problem) (pick child : List Picked) → Contains (children problem pick) child → gaps (universe problem) child < gaps (universe problem) pick
+child_fewer : (problem : Problem) (pick child : List Picked) → Contains (children problem pick) child
+    → gaps (universe problem) child < gaps (universe problem) pick
 child_fewer problem pick child c =
     let k = child_of problem pick child c in
     let o = next_open problem pick k.name k.next in
@@ -32,9 +33,18 @@ pub split : {problem : Problem} (xs ys nodes : List (List Picked)) → AreNodes 
 split [] ys nodes h = record { front = []; back = nodes; first = none; second = h; is = refl }
 split (x ∷ xs) ys _ (next {below = below} {more = more} down rest) =
     let k = split xs ys more rest in
-    record { front = x ∷ (below ++ k.front); back = k.back; first = next down k.first; second = k.second; is = ap (λ ns. x ∷ ns) (ap (λ ns. below ++ ns) k.is ∙ sym (append_assoc below k.front k.back)) }
+    record {
+      front = x ∷ (below ++ k.front);
+      back = k.back;
+      first = next down k.first;
+      second = k.second;
+      is = ap (λ ns. x ∷ ns)
+          (ap (λ ns. below ++ ns) k.is ∙ sym (append_assoc below k.front k.back));
+    }
 
-all_of : (problem : Problem) (count : ℕ) → ((roots : List (List Picked)) → ((root : List Picked) → Contains roots root → gaps (universe problem) root < count) → (nodes : List (List Picked)) × AreNodes problem roots nodes) → (roots : List (List Picked)) → ((root : List Picked) → Contains roots root → gaps (universe problem) root < suc count) → (nodes : List (List Picked)) × AreNodes problem roots nodes
+all_of : (problem : Problem) (count : ℕ) → ((roots : List (List Picked)) → ((root : List Picked) → Contains roots root
+    → gaps (universe problem) root < count) → (nodes : List (List Picked)) × AreNodes problem roots nodes) → (roots : List (List Picked))
+    → ((root : List Picked) → Contains roots root → gaps (universe problem) root < suc count) → (nodes : List (List Picked)) × AreNodes problem roots nodes
 all_of problem count fewer [] f = ([], none)
 all_of problem count fewer (root ∷ roots) f =
     let few = f root (here root roots) in
@@ -42,7 +52,8 @@ all_of problem count fewer (root ∷ roots) f =
     let rest = all_of problem count fewer roots (λ other c. f other (there root other roots c)) in
     (root ∷ (down.0 ++ rest.0), next down.1 rest.1)
 
-total : (problem : Problem) (count : ℕ) (roots : List (List Picked)) → ((root : List Picked) → Contains roots root → gaps (universe problem) root < count) → (nodes : List (List Picked)) × AreNodes problem roots nodes
+total : (problem : Problem) (count : ℕ) (roots : List (List Picked)) → ((root : List Picked) → Contains roots root → gaps (universe problem) root < count)
+    → (nodes : List (List Picked)) × AreNodes problem roots nodes
 total problem zero [] f = ([], none)
 total problem zero (root ∷ roots) f = absurd (let k = f root (here root roots) in omega (arith, k))
 total problem (suc count) roots f = all_of problem count (total problem count) roots f
@@ -71,7 +82,8 @@ record Under (problem : Problem) (root : List Picked) (nodes : List (List Picked
   stands : Contains nodes root
   among : (other : List Picked) → Contains below other → Contains nodes other
 
-under : {problem : Problem} (roots nodes : List (List Picked)) (root : List Picked) → Contains roots root → AreNodes problem roots nodes → Under problem root nodes
+under : {problem : Problem} (roots nodes : List (List Picked)) (root : List Picked) → Contains roots root → AreNodes problem roots nodes
+    → Under problem root nodes
 under _ _ root c none = absurd (contains_none root c)
 under {problem} _ _ root c (next {node = node} {roots = roots} {below = below} {more = more} down rest) =
     elim (contains_cases node root roots c) [
@@ -91,7 +103,8 @@ under {problem} _ _ root c (next {node = node} {roots = roots} {below = below} {
     ]
 
 -- what a way leads to is where it begins or a node below
-pub led_in : {problem : Problem} (pick end : List Picked) (nodes : List (List Picked)) → Leads problem pick end → AreNodes problem (children problem pick) nodes → (pick ≡ end) ⊎ Contains nodes end
+pub led_in : {problem : Problem} (pick end : List Picked) (nodes : List (List Picked)) → Leads problem pick end
+    → AreNodes problem (children problem pick) nodes → (pick ≡ end) ⊎ Contains nodes end
 led_in pick _ nodes stays h = inl refl
 led_in {problem} pick end nodes (goes {child = child} c rest) h =
     let u = under (children problem pick) nodes child c h in
@@ -101,7 +114,8 @@ led_in {problem} pick end nodes (goes {child = child} c rest) h =
     ]
 
 -- a way leads to each node from one of the roots
-pub in_led : {problem : Problem} (roots nodes : List (List Picked)) (end : List Picked) → AreNodes problem roots nodes → Contains nodes end → (root : List Picked) × Contains roots root × Leads problem root end
+pub in_led : {problem : Problem} (roots nodes : List (List Picked)) (end : List Picked) → AreNodes problem roots nodes → Contains nodes end
+    → (root : List Picked) × Contains roots root × Leads problem root end
 in_led _ _ end none c = absurd (contains_none end c)
 in_led {problem} _ _ end (next {node = node} {roots = roots} {below = below} {more = more} down rest) c =
     elim (contains_cases node end (below ++ more) c) [
@@ -115,7 +129,8 @@ in_led {problem} _ _ end (next {node = node} {roots = roots} {below = below} {mo
 -- the nodes make one list
 pub one_tree : {problem : Problem} (roots nodes others : List (List Picked)) → AreNodes problem roots nodes → AreNodes problem roots others → nodes ≡ others
 one_tree _ _ _ none none = refl
-one_tree {problem} _ _ _ (next {node = node} {roots = roots} {below = below} {more = more} down rest) (next {below = other_below} {more = other_more} other_down other_rest) =
+one_tree {problem} _ _ _ (next {node = node} {roots = roots} {below = below} {more = more} down rest)
+    (next {below = other_below} {more = other_more} other_down other_rest) =
     let a = one_tree (children problem node) below other_below down other_down in
     let b = one_tree roots more other_more rest other_rest in
     ap (λ (ns : List (List Picked)). node ∷ (ns ++ more)) a ∙ ap (λ (ns : List (List Picked)). node ∷ (other_below ++ ns)) b

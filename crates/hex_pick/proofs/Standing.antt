@@ -14,10 +14,12 @@ use Rattle.hex_pick.proofs.Universe.{contains_get}
 use Rattle.hex_pick.proofs.Ways.{Takes, child_in, led_within, takes_of, then_leads}
 
 -- a way leads to picks with decisions
-pub stacked_way : {problem : Problem} (pick : List Picked) (frames : List Frame) (later : List (List Picked)) → Stacked problem pick frames later → Leads problem [] pick
+pub stacked_way : {problem : Problem} (pick : List Picked) (frames : List Frame) (later : List (List Picked)) → Stacked problem pick frames later
+    → Leads problem [] pick
 stacked_way _ _ _ start = stays
 stacked_way {problem} _ _ _ (on {pick = pick} {frames = frames} {later = later} name at place next is agreed rest) =
-    then_leads [] pick (with_picked pick (name, place)) (stacked_way pick frames later rest) (goes (child_in problem pick name place next (contains_get (problem.candidates name) at place is) agreed) stays)
+    then_leads [] pick (with_picked pick (name, place)) (stacked_way pick frames later rest)
+    (goes (child_in problem pick name place next (contains_get (problem.candidates name) at place is) agreed) stays)
 
 -- an element past the first ones
 pub get_dropped : {A : Type 0} (n i at : ℕ) (xs : List A) → at ≡ n + i → slice_get (drop n xs) i ≡ slice_get xs at
@@ -26,7 +28,8 @@ get_dropped (suc n) i at [] e = refl
 get_dropped (suc n) i zero (x ∷ xs) e = absurd (omega (arith, e))
 get_dropped (suc n) i (suc at) (x ∷ xs) e = get_dropped n i at xs (omega (arith, e))
 
-pub parts_preferred : {problem : Problem} (pick other end : List Picked) → IsPreferred problem pick other → Leads problem other end → IsPreferred problem pick end
+pub parts_preferred : {problem : Problem} (pick other end : List Picked) → IsPreferred problem pick other → Leads problem other end
+    → IsPreferred problem pick end
 parts_preferred pick other end k way =
     record {
       parting = k.parting;
@@ -67,10 +70,13 @@ preferred_on one other end k way =
     }
 
 -- of two decisions of one package the one by an earlier candidate is preferred
-pub sibling_preferred : (problem : Problem) (pick : List Picked) (name : List ℕ) (at place from : ℕ) (other : List Picked) → Leads problem [] pick → next_needed problem pick ≡ Some name → slice_get (problem.candidates name) at ≡ Some place → agrees problem (with_picked pick (name, place)) ≡ true → at < from → Contains (decided_from problem pick name from) other → IsPreferred problem (with_picked pick (name, place)) other
+pub sibling_preferred : (problem : Problem) (pick : List Picked) (name : List ℕ) (at place from : ℕ) (other : List Picked) → Leads problem [] pick
+    → next_needed problem pick ≡ Some name → slice_get (problem.candidates name) at ≡ Some place → agrees problem (with_picked pick (name, place)) ≡ true
+    → at < from → Contains (decided_from problem pick name from) other → IsPreferred problem (with_picked pick (name, place)) other
 sibling_preferred problem pick name at place from other way next is agreed before c =
     let k = takes_of problem pick name (drop from (problem.candidates name)) other c in
-    let late : slice_get (problem.candidates name) (from + k.index) ≡ Some k.place = sym (get_dropped from k.index (from + k.index) (problem.candidates name) refl) ∙ k.at in
+    let late : slice_get (problem.candidates name) (from + k.index) ≡ Some k.place = sym (get_dropped from k.index (from + k.index)
+    (problem.candidates name) refl) ∙ k.at in
     record {
       parting = pick;
       name = name;
@@ -81,7 +87,8 @@ sibling_preferred problem pick name at place from other way next is agreed befor
       reached = way;
       next = next;
       to_one = goes (child_in problem pick name place next (contains_get (problem.candidates name) at place is) agreed) stays;
-      to_other = goes (subst (λ (p : List Picked). Contains (children problem pick) p) (sym k.is) (child_in problem pick name k.place next (contains_get (problem.candidates name) (from + k.index) k.place late) k.agreed)) stays;
+      to_other = goes (subst (λ (p : List Picked). Contains (children problem pick) p) (sym k.is)
+          (child_in problem pick name k.place next (contains_get (problem.candidates name) (from + k.index) k.place late) k.agreed)) stays;
       takes = decided_here pick (name, place);
       other_takes = subst (λ (p : List Picked). Contains p (name, k.place)) (sym k.is) (decided_here pick (name, k.place));
       tried = is;
@@ -90,7 +97,8 @@ sibling_preferred problem pick name at place from other way next is agreed befor
     }
 
 -- what is left beside the way comes later
-pub later_parts : {problem : Problem} (pick : List Picked) (frames : List Frame) (later : List (List Picked)) (other : List Picked) → Stacked problem pick frames later → Contains later other → IsPreferred problem pick other
+pub later_parts : {problem : Problem} (pick : List Picked) (frames : List Frame) (later : List (List Picked)) (other : List Picked)
+    → Stacked problem pick frames later → Contains later other → IsPreferred problem pick other
 later_parts _ _ _ other start c = absurd (contains_none other c)
 later_parts {problem} _ _ _ other (on {pick = pick} {frames = frames} {later = later} name at place next is agreed rest) c =
     elim (Contains-append_cases (decided_from problem pick name (suc at)) later other c) [

@@ -30,26 +30,31 @@ stock_names (Some stock) = flat_map (λ (offer : Offer). map (λ (demand : Deman
 abbrev pub universe : Problem → List (List ℕ)
 universe problem = map (λ (want : Want). want.«package») problem.wants.wants ++ flat_map (λ (shelf : Shelf). stock_names shelf.stock) problem.shelves
 
-named_at : (shelf : Shelf) (stock : Stock) (offer : Offer) (demand : Demand) → shelf.stock ≡ Some stock → Contains stock.offers offer → Contains (listed_demands offer.demands) demand → Contains (stock_names shelf.stock) demand.«package»
+named_at : (shelf : Shelf) (stock : Stock) (offer : Offer) (demand : Demand) → shelf.stock ≡ Some stock → Contains stock.offers offer
+    → Contains (listed_demands offer.demands) demand → Contains (stock_names shelf.stock) demand.«package»
 unfolding stock_names
 named_at shelf stock offer demand is c d =
     subst (λ (o : Option Stock). Contains (stock_names o) demand.«package») (sym is)
-    (in_joined (λ (o : Offer). map (λ (w : Demand). w.«package») (listed_demands o.demands)) stock.offers offer demand.«package» c (in_mapped (λ (w : Demand). w.«package») (listed_demands offer.demands) demand d))
+    (in_joined (λ (o : Offer). map (λ (w : Demand). w.«package») (listed_demands o.demands)) stock.offers offer demand.«package» c
+    (in_mapped (λ (w : Demand). w.«package») (listed_demands offer.demands) demand d))
 
-demanded_within : (problem : Problem) (by : Picked) (demand : Demand) (o : Option Offer) → offer_at problem.shelves by ≡ o → Contains (demands_of o) demand → Contains (universe problem) demand.«package»
+demanded_within : (problem : Problem) (by : Picked) (demand : Demand) (o : Option Offer) → offer_at problem.shelves by ≡ o → Contains (demands_of o) demand
+    → Contains (universe problem) demand.«package»
 demanded_within problem by demand None e c = absurd (contains_none demand c)
 demanded_within problem by demand (Some offer) e c =
     option_and_then_some (λ (stock : Stock). slice_get stock.offers by.1) (stock_of problem.shelves by.0) offer e (λ stock stock_is at.
     option_and_then_some (λ (shelf : Shelf). shelf.stock) (shelf_of problem.shelves by.0) stock stock_is (λ shelf shelf_is has.
     (let f = find_some (λ (s : Shelf). bytes_eq by.0 s.name) problem.shelves shelf shelf_is in
-    Contains-append_right (map (λ (want : Want). want.«package») problem.wants.wants) (flat_map (λ (s : Shelf). stock_names s.stock) problem.shelves) demand.«package»
+    Contains-append_right (map (λ (want : Want). want.«package») problem.wants.wants) (flat_map
+    (λ (s : Shelf). stock_names s.stock) problem.shelves) demand.«package»
     (in_joined (λ (s : Shelf). stock_names s.stock) problem.shelves shelf demand.«package» f.0
     (named_at shelf stock offer demand has (contains_get stock.offers by.1 offer at) c)))))
 
 -- what is asked is one of them
 pub asked_within : (problem : Problem) (pick : List Picked) (name : List ℕ) → IsAsked problem.shelves problem.wants pick name → Contains (universe problem) name
 asked_within problem pick _ (wanted want c required) =
-    Contains-append_left (map (λ (w : Want). w.«package») problem.wants.wants) (flat_map (λ (shelf : Shelf). stock_names shelf.stock) problem.shelves) want.«package»
+    Contains-append_left (map (λ (w : Want). w.«package») problem.wants.wants) (flat_map (λ
+    (shelf : Shelf). stock_names shelf.stock) problem.shelves) want.«package»
     (in_mapped (λ (w : Want). w.«package») problem.wants.wants want c)
 asked_within problem pick _ (demanded by demand c d required) =
     let f = filtered_of (λ (w : Demand). not (is_among w.app problem.wants.pinned)) (demands_of (offer_at problem.shelves by)) demand d in
@@ -83,11 +88,13 @@ gaps_kept (n ∷ names) pick p =
     subst (λ (b : Bool). cond b (gaps names (with_picked pick p)) (suc (gaps names (with_picked pick p))) ≤ gaps (n ∷ names) pick) (sym (has_decided pick p n))
     (kept_at (bytes_eq n p.0) (has_package pick n) (gaps names (with_picked pick p)) (gaps names pick) (gaps_kept names pick p))
 
-pub gaps_fewer : (names : List (List ℕ)) (pick : List Picked) (p : Picked) → Contains names p.0 → has_package pick p.0 ≡ false → gaps names (with_picked pick p) < gaps names pick
+pub gaps_fewer : (names : List (List ℕ)) (pick : List Picked) (p : Picked) → Contains names p.0 → has_package pick p.0 ≡ false
+    → gaps names (with_picked pick p) < gaps names pick
 gaps_fewer [] pick p c u = absurd (contains_none p.0 c)
 gaps_fewer (n ∷ names) pick p c u =
     subst (λ (b : Bool). cond b (gaps names (with_picked pick p)) (suc (gaps names (with_picked pick p))) < gaps (n ∷ names) pick) (sym (has_decided pick p n))
     (elim (contains_cases n p.0 names c) [
-      | inl e ↦ gone_at (bytes_eq n p.0) (has_package pick n) (gaps names (with_picked pick p)) (gaps names pick) (ap (λ (m : List ℕ). bytes_eq m p.0) e ∙ bytes_itself p.0) (ap (λ (m : List ℕ). has_package pick m) e ∙ u) (gaps_kept names pick p)
+      | inl e ↦ gone_at (bytes_eq n p.0) (has_package pick n) (gaps names (with_picked pick p)) (gaps names pick)
+          (ap (λ (m : List ℕ). bytes_eq m p.0) e ∙ bytes_itself p.0) (ap (λ (m : List ℕ). has_package pick m) e ∙ u) (gaps_kept names pick p)
       | inr more ↦ fewer_at (bytes_eq n p.0) (has_package pick n) (gaps names (with_picked pick p)) (gaps names pick) (gaps_fewer names pick p more u)
     ])

@@ -67,4 +67,5 @@ pub data IsOutcome (problem : Problem) (limit : ℕ) : Result (List Picked) Pick
 
 -- what is picked for the wants, within so many nodes
 abbrev pub SaysPick : List Shelf → Wants → ℕ → Result (List Picked) PickError → Type 0
-SaysPick shelves wants limit answer = (candidates : List ℕ → List ℕ) → AreTried shelves wants candidates → IsOutcome (problem_of shelves wants candidates) limit answer
+SaysPick shelves wants limit answer = (candidates : List ℕ → List ℕ) → AreTried shelves wants candidates
+    → IsOutcome (problem_of shelves wants candidates) limit answer

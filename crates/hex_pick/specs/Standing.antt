@@ -18,7 +18,9 @@ decided_from problem pick name from = decided_by problem pick name (drop from (p
 -- the decisions that led to these picks, the last one first, and the picks that are left beside the way
 pub data Stacked (problem : Problem) : List Picked → List Frame → List (List Picked) → Type 0 where
   start : Stacked problem [] [] []
-  on : {pick : List Picked} {frames : List Frame} {later : List (List Picked)} → (name : List ℕ) (at place : ℕ) → next_needed problem pick ≡ Some name → slice_get (problem.candidates name) at ≡ Some place → agrees problem (with_picked pick (name, place)) ≡ true → Stacked problem pick frames later → Stacked problem (with_picked pick (name, place)) (record { name = name; next = suc at } ∷ frames) (decided_from problem pick name (suc at) ++ later)
+  on : {pick : List Picked} {frames : List Frame} {later : List (List Picked)} → (name : List ℕ) (at place : ℕ) → next_needed problem pick ≡ Some name
+      → slice_get (problem.candidates name) at ≡ Some place → agrees problem (with_picked pick (name, place)) ≡ true → Stacked problem pick frames later
+      → Stacked problem (with_picked pick (name, place)) (record { name = name; next = suc at } ∷ frames) (decided_from problem pick name (suc at) ++ later)
 
 abbrev pub left_at : Problem → List Picked → ℕ → Option (List ℕ) → List (List Picked)
 left_at problem pick from None = []

@@ -8,7 +8,8 @@ use Rattle.hex_pick.specs.Problem.{Problem, children, next_needed}
 -- the nodes of the trees that stand on these picks: each of them, and then those below it
 pub data AreNodes (problem : Problem) : List (List Picked) → List (List Picked) → Type 0 where
   none : AreNodes problem [] []
-  next : {node : List Picked} {roots below more : List (List Picked)} → AreNodes problem (children problem node) below → AreNodes problem roots more → AreNodes problem (node ∷ roots) (node ∷ (below ++ more))
+  next : {node : List Picked} {roots below more : List (List Picked)} → AreNodes problem (children problem node) below → AreNodes problem roots more
+      → AreNodes problem (node ∷ roots) (node ∷ (below ++ more))
 
 -- a way down the tree, which stays, or goes on at a child
 pub data Leads (problem : Problem) : List Picked → List Picked → Type 0 where

@@ -31,7 +31,8 @@ pub record FirstFit (shelves : List Shelf) (wants : Wants) (pick : List Picked) 
   pub before : (k : ℕ) → step.next ≤ k → k < at → IsFalse (fits shelves wants pick (step.name, slice_index step.candidates.items k))
 
 abbrev pub NoFit : List Shelf → Wants → List Picked → Step → Type 0
-NoFit shelves wants pick step = (k : ℕ) → step.next ≤ k → k < length step.candidates.items → IsFalse (fits shelves wants pick (step.name, slice_index step.candidates.items k))
+NoFit shelves wants pick step = (k : ℕ) → step.next ≤ k → k < length step.candidates.items → IsFalse
+    (fits shelves wants pick (step.name, slice_index step.candidates.items k))
 
 abbrev pub frame_of : Step → Frame
 frame_of step = record { name = step.name; next = step.next }
@@ -64,4 +65,5 @@ ComesTo shelves wants walk = (candidates : List ℕ → List ℕ) → AreTried s
 -- one node further, or at the end of the tree
 abbrev pub WentOn : List Shelf → Wants → Walk → Walk → Option (List ℕ) → Type 0
 WentOn shelves wants old new None = (new.count ≡ old.count + 1) × ComesTo shelves wants new
-WentOn shelves wants old new (Some name) = (candidates : List ℕ → List ℕ) → AreTried shelves wants candidates → (limit : ℕ) → old.count ≤ limit → HasNoPick (problem_of shelves wants candidates) limit name
+WentOn shelves wants old new (Some name) = (candidates : List ℕ → List ℕ) → AreTried shelves wants candidates → (limit : ℕ) → old.count ≤ limit
+    → HasNoPick (problem_of shelves wants candidates) limit name

@@ -12,4 +12,4 @@ mod walk;
 
 pub use error::PickError;
 pub use laws::{first_is_best, one_best, one_outcome, one_tree, some_tree, valid_are_nodes};
-pub use search::{MOST_NODES, pick};
+pub use search::{MOST_NODES, pick, pick_within};

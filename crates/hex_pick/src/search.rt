@@ -25,11 +25,20 @@ pub const MOST_NODES: u64 = 1_000_000;
 pub fn pick(alloc: Global, registry: &Registry, wants: &Wants) -> Result<Pick, PickError>
     ensures { Answers blame_of result (SaysPick registry.now wants.now MOST_NODES) }
 {
-    search(alloc, registry, wants, MOST_NODES)
+    pick_within(alloc, registry, wants, MOST_NODES)
 }
 
-// The same, with so many nodes at most before the pick.
-fn search(alloc: Global, registry: &Registry, wants: &Wants, limit: u64) -> Result<Pick, PickError>
+/// The same, with so many nodes at most before the pick, or in a tree without one.
+///
+/// # Errors
+///
+/// As those of `pick`, at this number in place of `MOST_NODES`.
+pub fn pick_within(
+    alloc: Global,
+    registry: &Registry,
+    wants: &Wants,
+    limit: u64,
+) -> Result<Pick, PickError>
     requires { limit + 1 < 2 ^ 64 }
     ensures { Answers blame_of result (SaysPick registry.now wants.now limit) }
 {

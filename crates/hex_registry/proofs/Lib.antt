@@ -17,6 +17,7 @@ pub mod OneOrder
 pub mod PathLemmas
 pub mod PickLists
 pub mod PickPlaces
+pub mod PickSearch
 pub mod ReachLemmas
 pub mod ShelfLemmas
 pub mod UsableLemmas

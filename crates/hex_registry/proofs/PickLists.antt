@@ -177,9 +177,6 @@ added_is pick p h = ap (λ (b : Bool). cond b pick (with_picked pick p)) h
 pub added_stays : (pick : List Picked) (p : Picked) → has_package pick p.0 ≡ true → adding pick p ≡ pick
 added_stays pick p h = ap (λ (b : Bool). cond b pick (with_picked pick p)) h
 
-pub added_in_order : (pick : List Picked) (p : Picked) → ArePicks pick → has_package pick p.0 ≡ false → ArePicks (with_picked pick p)
-added_in_order = decided_in_order
-
 before_without : (name : List ℕ) (t : Picked → Bool) (pick : List Picked) → IsBefore name (map (λ (q : Picked). q.0) pick)
     → IsBefore name (map (λ (q : Picked). q.0) (filter t pick))
 before_without name t [] b = tt

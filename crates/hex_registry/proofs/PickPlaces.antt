@@ -1,33 +1,11 @@
--- Where a package stands in a pick, and whether neighbours are in order.
+-- Whether neighbours are in order.
 use Rattle.std.proofs.Common.{◌≡◌, ℕ, zero, suc, ◌+◌, ◌<◌, ◌≤◌, ◌↔◌, Bool, true, false, not, cond, List, [], ◌∷◌, map, get_or, length, position, nat_lt, Option, Some, None, IsTrue, refl, sym, ap, ◌∙◌, arith, Less, Equal, Greater, Ordering}
 use native.Mathlib.Numerals.{unary_clauses}
-use Rattle.std.specs.List.{position_or_len, IsAllAdjacentAnswer}
+use Rattle.std.specs.List.{IsAllAdjacentAnswer}
 use Rattle.std.specs.Ordering.{is_lt}
-use Rattle.std.proofs.lemmas.Bool.{ltb-false}
 use Rattle.mx_base.specs.Order.{text_cmp}
 use Rattle.hex_registry.specs.Picks.{Picked, ArePicks}
 use Rattle.hex_registry.proofs.PickLists.{before_later}
-
-pub place_found : (t : Picked → Bool) (pick : List Picked) (i : ℕ) → position t pick ≡ Some i → i ≡ position_or_len t pick
-place_found t pick i e = at (nat_lt (position_or_len t pick) (length pick)) e
-  where
-    at : (b : Bool) → cond b (Some (position_or_len t pick)) None ≡ Some i → i ≡ position_or_len t pick
-    at true h = cc
-    at false h = absurd (cc)
-
-pub place_short : (t : Picked → Bool) (pick : List Picked) → position_or_len t pick ≤ length pick
-place_short t [] = omega arith
-place_short t (x ∷ xs) =
-    elim (t x) as (λ b. cond (not b) (1 + position_or_len t xs) 0 ≤ suc (length xs))
-    [ true ↦ omega arith | false ↦ (let k = place_short t xs in omega (arith, k)) ]
-
-pub place_past : (t : Picked → Bool) (pick : List Picked) → position t pick ≡ None → length pick ≡ position_or_len t pick
-place_past t pick e = at (nat_lt (position_or_len t pick) (length pick)) refl e
-  where
-    at : (b : Bool) → nat_lt (position_or_len t pick) (length pick) ≡ b → cond b (Some (position_or_len t pick)) None ≡ None
-        → length pick ≡ position_or_len t pick
-    at true is h = absurd (cc)
-    at false is h = let over = ltb-false (position_or_len t pick) (length pick) is in let under = place_short t pick in omega (arith, over, under)
 
 -- neighbours in order make picks in order
 abbrev RisesAt : List Picked → ℕ → Picked → Type 0

@@ -1,6 +1,6 @@
 -- What a pick, wants and offers say together.
-use Rattle.std.specs.Prelude.{◌≡◌, ℕ, Bool, true, false, not, ◌||◌, ◌&&◌, List, [], ◌∷◌, map, find, filter, Option, Some, None, option_map, is_some, IsTrue, bytes_eq, if◌then◌else◌}
-use Rattle.std.specs.List.{Contains}
+use Rattle.std.specs.Prelude.{◌≡◌, ℕ, ◌≤◌, Bool, true, false, not, ◌||◌, ◌&&◌, List, [], ◌∷◌, map, find, filter, length, position, Option, Some, None, Result, Ok, Err, option_map, is_some, IsTrue, bytes_eq, if◌then◌else◌}
+use Rattle.std.specs.List.{Contains, position_or_len}
 use Rattle.std.specs.Ordering.{is_lt}
 use Rattle.mx_base.specs.Order.{ArePathsInOrder, text_cmp}
 use Rattle.semver.specs.Identifiers.{parts_of}
@@ -89,3 +89,12 @@ without_package pick name = filter (λ picked. not (bytes_eq name picked.0)) pic
 -- with a package that may be picked already, and then stays as it is
 abbrev pub adding : List Picked → Picked → List Picked
 adding pick picked = if has_package pick picked.0 then pick else with_picked pick picked
+
+-- how many packages stand before the place of a name
+abbrev pub place_for : List Picked → List ℕ → ℕ
+place_for pick name = position_or_len (λ picked. not (is_lt (text_cmp picked.0 name))) pick
+
+-- where a package stands in a pick, and else where it would
+abbrev pub SaysPlace : List Picked → List ℕ → Result ℕ ℕ → Type 0
+SaysPlace pick name (Ok at) = position (λ picked. bytes_eq name picked.0) pick ≡ Some at
+SaysPlace pick name (Err at) = (position (λ picked. bytes_eq name picked.0) pick ≡ None) × (at ≡ place_for pick name) × (at ≤ length pick)

@@ -1,10 +1,10 @@
 // Reading the packages that wants come to.
 ghost use Rattle.std.specs.Prelude.{◌≡◌, [], bytes_eq, slice_get, IsFalse, IfOk, OnOk};
 ghost use Rattle.indexmap.specs.IndexSet.{insert_all};
-ghost use Rattle.mx_base.specs.Blame.{Computes};
+ghost use Rattle.mx_base.specs.Blame.{Answers, Computes, fails};
 ghost use Rattle.mx_base.specs.Layout.{is_in_build};
 ghost use Rattle.mx_base.specs.Order.{bytes_at};
-ghost use Rattle.tree_store.specs.Known.{Reads};
+ghost use Rattle.tree_store.specs.Known.{OnlyReads, Reads, Told};
 ghost use Rattle.hex_registry.specs.Blame.{blame_of};
 ghost use Rattle.hex_registry.specs.Refusals.{wire_refused};
 ghost use Rattle.hex_registry.specs.Loaded.{IsLoaded, IsMessage, SaysMessage, SaysOffer, SaysOffers, SaysStock, named_by_offer, named_by_stock, package_path, wanted_names};
@@ -36,8 +36,9 @@ impl Registry {
         store: &mut S,
         wants: &Wants,
     ) -> Result<Registry, RegistryError>
-        ensures { Reads blame_of (S.known store.old) (S.known store.new) result
-            (λ files. IsLoaded files wants.now) }
+        ensures answer { Answers blame_of result
+            (Told (S.known store.old) (λ files. IsLoaded files wants.now)) }
+        ensures reads { OnlyReads (S.known store.old) (S.known store.new) (fails blame_of result) }
     {
         let mut names = wanted_names(alloc, wants)?;
         let wanted = names.len();

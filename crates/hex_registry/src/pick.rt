@@ -1,13 +1,12 @@
 // Picks of releases.
-ghost use Rattle.std.specs.Prelude.{◌≡◌, ◌↔◌, ◌≤◌, not, [], length, IsTrue, IfSome, IfNone, OnOk, OnErr, option_map, position, bytes_eq};
-ghost use Rattle.std.specs.List.{position_or_len};
+ghost use Rattle.std.specs.Prelude.{◌≡◌, ◌↔◌, ◌≤◌, [], length, IsTrue, IfSome, IfNone, OnOk, OnErr, option_map, position, slice_get, bytes_eq};
 ghost use Rattle.std.specs.Option.{option_copied};
-ghost use Rattle.std.specs.Ordering.{is_lt};
 ghost use Rattle.mx_base.specs.Order.{text_cmp};
-ghost use Rattle.hex_registry.specs.Picks.{ArePicks, adding, has_package, picked_of, with_picked, without_package};
+ghost use Rattle.hex_registry.specs.Picks.{ArePicks, SaysPlace, adding, has_package, picked_of, place_for, with_picked, without_package};
 
 use mx_base::AppName;
 use std::alloc::{AllocError, Global};
+use std::cmp::Ordering;
 use std::marker::Model;
 
 /// A package, and the place of its release in the package's message.
@@ -53,15 +52,14 @@ impl Pick {
     }
 
     /// Adds a package with its release, where the package isn't picked. A refusal leaves the pick as it was.
-    #[tactic(auto, using(crate::proofs::PickLists::added_in_order, crate::proofs::PickLists::added_is, crate::proofs::PickLists::added_stays))]
     pub fn insert(&mut self, name: AppName, place: u64) -> Result<(), AllocError>
         ensures ok { OnOk result (self.new ≡ adding self.old (name, place)) }
         ensures err { OnErr result (self.new ≡ self.old) }
     {
-        if self.has(&name) {
-            return Ok(());
+        match searched(&self.picks, &name) {
+            Ok(_) => Ok(()),
+            Err(at) => insert_at(&mut self.picks, at, name, place),
         }
-        insert_into(&mut self.picks, name, place)
     }
 
     /// Takes a package out, if it is picked.
@@ -93,7 +91,10 @@ impl Pick {
     fn picked(&self, name: &AppName) -> Option<&Picked>
         ensures { option_copied result ≡ picked_of self.now name.now }
     {
-        self.as_slice().iter().find(|picked| name == &picked.0)
+        match self.index_of(name) {
+            Some(place) => picked_in(self.as_slice(), place),
+            None => None,
+        }
     }
 
     /// Whether the package is picked.
@@ -107,43 +108,43 @@ impl Pick {
     pub(crate) fn index_of(&self, name: &AppName) -> Option<usize>
         ensures { result ≡ position (λ picked. bytes_eq name.now picked.0) self.now }
     {
-        self.as_slice().iter().position(|picked| name == &picked.0)
+        searched(self.as_slice(), name).ok()
     }
 }
 
-#[tactic(auto, using(crate::proofs::PickLists::inserted_is))]
-fn insert_into(picks: &mut Vec<Picked>, name: AppName, place: u64) -> Result<(), AllocError>
+fn picked_in(picks: &[Picked], place: usize) -> Option<&Picked>
+    ensures { option_copied result ≡ slice_get picks.now place }
+{
+    picks.get(place)
+}
+
+// Where a package stands among packages in byte order, and else where it would stand.
+fn searched(picks: &[Picked], name: &AppName) -> Result<usize, usize>
+    requires { ArePicks picks.now }
+    ensures { SaysPlace picks.now name.now result }
+{
+    picks.binary_search_by(|picked| order_of(picked, name))
+}
+
+fn order_of(picked: &Picked, name: &AppName) -> Ordering
+    ensures { result ≡ text_cmp picked.now.0 name.now }
+{
+    picked.0.cmp(name)
+}
+
+fn insert_at(
+    picks: &mut Vec<Picked>,
+    at: usize,
+    name: AppName,
+    place: u64,
+) -> Result<(), AllocError>
+    requires within { at ≤ length picks.old.items }
+    requires place { at ≡ place_for picks.old.items name }
     ensures ok { OnOk result (picks.new.items ≡ with_picked picks.old.items (name, place)) }
     ensures err { OnErr result (picks.new.items ≡ picks.old.items) }
 {
-    let at = place_for(picks, &name);
     picks.insert(at, (name, place))?;
     Ok(())
-}
-
-// Where a package would stand: behind those with lesser names.
-#[tactic(auto, using(crate::proofs::PickPlaces::place_found, crate::proofs::PickPlaces::place_past, crate::proofs::PickPlaces::place_short))]
-fn place_for(picks: &[Picked], name: &AppName) -> usize
-    ensures place { result
-        ≡ position_or_len (λ picked. not (is_lt (text_cmp picked.0 name.now))) picks.now }
-    ensures within { result ≤ length picks.now }
-{
-    match first_from(picks, name) {
-        Some(at) => at,
-        None => picks.len(),
-    }
-}
-
-fn first_from(picks: &[Picked], name: &AppName) -> Option<usize>
-    ensures { result ≡ position (λ picked. not (is_lt (text_cmp picked.0 name.now))) picks.now }
-{
-    picks.iter().position(|picked| !is_lesser(picked, name))
-}
-
-fn is_lesser(picked: &Picked, name: &AppName) -> bool
-    ensures { result ≡ is_lt (text_cmp picked.now.0 name.now) }
-{
-    &picked.0 < name
 }
 
 fn without(picks: &mut Vec<Picked>, name: &AppName)

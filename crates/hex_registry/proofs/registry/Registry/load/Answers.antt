@@ -1,6 +1,7 @@
 use Rattle.std.proofs.Common.{◌≡◌, List, Some, Result, Err, length, slice_get, refl, sym, ap, subst, ◌∙◌, rules}
 use Rattle.std.proofs.lemmas.Result.{err_from_is_err_and}
-use Rattle.tree_store.specs.Known.{Reads}
+use Rattle.mx_base.specs.Blame.{Answers, fails}
+use Rattle.tree_store.specs.Known.{OnlyReads, Told}
 use Rattle.hex_registry.specs.Blame.{blame_of}
 use Rattle.hex_registry.specs.Loaded.{IsLoaded}
 use Rattle.hex_registry.specs.declared.error.RegistryError.{RegistryError}
@@ -14,15 +15,25 @@ reading-init g c =
     c.len-wanted.result
     refl (search rules) (search rules) (search rules)
 
-pub returns-in_err-stock : goal.returns-in_err-stock
-returns-in_err-stock g c =
+pub returns-in_err-stock-clause-answer : goal.returns-in_err-stock-clause-answer
+returns-in_err-stock-clause-answer g c =
     let at : slice_get c.reading.names.keys (length c.reading.shelves.items) ≡ Some c.in-Some.name = search rules in
     let p = err_from_is_err_and c.from_residual-in_err-stock.result c.from_residual-in_err-stock.ensures.1 in
-    subst (λ (r : Result (List Shelf) RegistryError). Reads {X = List Shelf} blame_of (g.S.Store.known c.args.store.now)
-    (g.S.Store.known c.load_stock.new.store) r (λ files. IsLoaded files c.args.wants.now)) (sym (p.1 ∙ ap Err p.2))
+    subst (λ (r : Result (List Shelf) RegistryError).
+    Answers blame_of r (Told (g.S.Store.known c.args.store.now) (λ files. IsLoaded files c.args.wants.now))) (sym (p.1 ∙ ap Err p.2))
     (refuses (g.S.Store.known c.args.store.now) (g.S.Store.known c.reading.store) _ c.args.wants.now c.reading.shelves.items c.reading.names.keys
     c.len-wanted.result c.in-Some.name _ _
-    c.reading.invariant at (search rules) c.in_err-stock.ensures)
+    c.reading.invariant at (search rules) c.in_err-stock.ensures).answer
+
+pub returns-in_err-stock-clause-reads : goal.returns-in_err-stock-clause-reads
+returns-in_err-stock-clause-reads g c =
+    let at : slice_get c.reading.names.keys (length c.reading.shelves.items) ≡ Some c.in-Some.name = search rules in
+    let p = err_from_is_err_and c.from_residual-in_err-stock.result c.from_residual-in_err-stock.ensures.1 in
+    subst (λ (r : Result (List Shelf) RegistryError).
+    OnlyReads (g.S.Store.known c.args.store.now) (g.S.Store.known c.load_stock.new.store) (fails blame_of r)) (sym (p.1 ∙ ap Err p.2))
+    (refuses (g.S.Store.known c.args.store.now) (g.S.Store.known c.reading.store) _ c.args.wants.now c.reading.shelves.items c.reading.names.keys
+    c.len-wanted.result c.in-Some.name _ _
+    c.reading.invariant at (search rules) c.in_err-stock.ensures).reads
 
 pub reading-preserved : goal.reading-preserved
 reading-preserved g c =
@@ -38,7 +49,12 @@ invariant_of-result g c = (
   tt,
 )
 
-pub returns : goal.returns
-returns g c =
-    loads (g.S.Store.known c.args.store.now) (g.S.Store.known c.reading.store) c.args.wants.now c.reading.shelves.items c.reading.names.keys
-    c.len-wanted.result c.reading.invariant (search rules)
+pub returns-clause-answer : goal.returns-clause-answer
+returns-clause-answer g c =
+    (loads (g.S.Store.known c.args.store.now) (g.S.Store.known c.reading.store) c.args.wants.now c.reading.shelves.items c.reading.names.keys
+    c.len-wanted.result c.reading.invariant (search rules)).answer
+
+pub returns-clause-reads : goal.returns-clause-reads
+returns-clause-reads g c =
+    (loads (g.S.Store.known c.args.store.now) (g.S.Store.known c.reading.store) c.args.wants.now c.reading.shelves.items c.reading.names.keys
+    c.len-wanted.result c.reading.invariant (search rules)).reads

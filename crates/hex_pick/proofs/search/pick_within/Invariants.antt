@@ -1,6 +1,6 @@
 use Rattle.std.proofs.Common.{◌+◌, ◌-◌, ◌≤◌}
 use Rattle.hex_pick.specs.Walking.{ComesTo}
-use Rattle.hex_pick.proofs.search.search.Given as goal
+use Rattle.hex_pick.proofs.search.pick_within.Given as goal
 
 abbrev pub invariant-walk : goal.invariant-walk
 invariant-walk l =
