@@ -1,5 +1,5 @@
 -- Counts that stand still at their last value.
-use Rattle.std.proofs.Common.{◌≡◌, ℕ, ◌+◌, ◌-◌, ◌^◌, ◌≤◌, min, List, [], ◌∷◌, map, refl, sym, ◌∙◌, ap, arith}
+use Rattle.std.proofs.Common.{◌≡◌, ℕ, ◌+◌, ◌-◌, ◌^◌, ◌≤◌, List, ◌∷◌, arith}
 use Rattle.partition_face.specs.declared.counts.Counts.{Counts}
 use Rattle.partition_face.specs.Counts.{both, deaths_of, raised_by, runs_of}
 

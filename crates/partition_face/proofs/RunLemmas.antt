@@ -1,9 +1,8 @@
 -- What runs do to their folders.
-use Rattle.std.proofs.Common.{◌≡◌, ℕ, false, List, [], Option, Some, None, IfSome, option_map, Result, Ok, Err, refl, sym, ◌∙◌, ap, subst}
+use Rattle.std.proofs.Common.{◌≡◌, ℕ, false, List, [], Option, Some, None, IfSome, option_map, Result, Err, refl, ◌∙◌, ap}
 use Rattle.mx_base.specs.Blame.{fails}
 use Rattle.mx_base.specs.declared.file.File.{File}
 use Rattle.mx_base.specs.Order.{AreInOrder}
-use Rattle.compile_model.specs.declared.outcome.Verdict.{Verdict}
 use Rattle.tree_store.specs.declared.holding.Holding.{Holding}
 use Rattle.tree_store.specs.declared.store.StoreFault.{StoreFault}
 use Rattle.tree_store.specs.declared.store.StoreFault.TheVariants as store
@@ -14,7 +13,6 @@ use Rattle.tree_store.specs.Holding.{only_files, with_all}
 use Rattle.tree_store.specs.Moment.Write.{Put}
 use Rattle.tree_store.proofs.FilesLemmas.{put_all_in_order}
 use Rattle.tree_store.proofs.MomentLemmas.{if_told, put_keeps_mark, stops_at_write, stops_still, told_has}
-use Rattle.partition_face.specs.declared.partition.RunFault.{RunFault}
 use Rattle.partition_face.specs.Runs.{NeverMarks, has_died, of_folder, tree_failed}
 
 abbrev has_none : Holding → Type 0

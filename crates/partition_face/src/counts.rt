@@ -10,7 +10,6 @@ pub struct Counts {
 impl Counts {
     ghost use Rattle.std.specs.Prelude.{◌≡◌};
     ghost use Rattle.partition_face.specs.Counts.{fresh};
-
     ghost use Rattle.partition_face.specs.Counts.{both};
 
     /// These and others, each up to 2^64 - 1, where it stands still.

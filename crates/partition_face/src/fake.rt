@@ -88,11 +88,7 @@ fn scribble<F: Folder>(alloc: Global, folder: &mut F) -> Result<(), StoreFault>
 }
 
 // Puts what the echo rule gives into an empty folder.
-fn echo_into<F: Folder>(
-    alloc: Global,
-    input: &Input,
-    folder: &mut F,
-) -> Result<Verdict, RunFault>
+fn echo_into<F: Folder>(alloc: Global, input: &Input, folder: &mut F) -> Result<Verdict, RunFault>
     requires needs { length input.now.needs.now ≡ length input.now.job.now.needs }
     requires named { IsNamed input.now.job.now }
     requires bare { IsBare (F.known folder.old) }

@@ -1,6 +1,7 @@
 // A maker that hands out given partitions.
-ghost use Rattle.std.specs.Prelude.{◌≡◌, ◌≤◌, IfOk, OnErr, OnOk, drop, map, take, vec_len};
+ghost use Rattle.std.specs.Prelude.{◌≡◌, ◌≤◌, IfOk, OnErr, OnOk, drop, map, nat_lt, take, vec_len};
 ghost use Rattle.std.specs.List.{All};
+ghost use Rattle.mx_base.specs.Causes.{Counted};
 ghost use Rattle.partition_face.specs.Counts.{fresh, raised_by};
 ghost use Rattle.partition_face.specs.Makers.{Stops, maker_of, new_maker};
 
@@ -44,14 +45,13 @@ impl<P: Partition + Drop> Maker for ListMaker<P> {
 
     ghost known = { λ maker. maker_of maker.stopped maker.asked maker.faults };
 
+    #[tactic(auto, using(crate::proofs::StartLemmas::starts_first))]
     fn start(&mut self, _alloc: Global, n: u32) -> Result<Vec<P>, MakerFault> {
         self.asked = self.asked.saturating_add(n as u64);
         let wanted = n as usize;
         let given = self.waiting.len().min(wanted);
         let started = take_first(&mut self.waiting, given)?;
-        if given < wanted {
-            self.faults.raise();
-        }
+        count_missing(&mut self.faults, given, wanted);
         if given == 0 && wanted > 0 {
             return Err(MakerFault::Failed);
         }
@@ -77,6 +77,15 @@ impl<P: Partition + Drop> Maker for ListMaker<P> {
 fn stands(count: u64)
     ensures { raised_by 0 count ≡ count }
 {}
+
+// Counts a fault where fewer are given than were wanted.
+fn count_missing(faults: &mut Count, given: usize, wanted: usize)
+    ensures { Counted faults.old faults.new (nat_lt given wanted) }
+{
+    if given < wanted {
+        faults.raise();
+    }
+}
 
 // Takes the first so many out.
 fn take_first<P>(waiting: &mut Vec<P>, n: usize) -> Result<Vec<P>, AllocError>
