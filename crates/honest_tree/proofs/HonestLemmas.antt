@@ -24,22 +24,26 @@ Bytes = List ℕ
 pub same_bytes : (a b : Bytes) → Some a ≡ Some b → a ≡ b
 same_bytes a b e = cc
 
-pub more_holding : (compile : Content → Outcome) (known more : List Given) (held : Holding) → ((given : Given) → Contains known given → Contains more given) → IsHonest compile known held → IsHonest compile more held
+pub more_holding : (compile : Content → Outcome) (known more : List Given) (held : Holding) →
+    ((given : Given) → Contains known given → Contains more given) → IsHonest compile known held → IsHonest compile more held
 more_holding compile known more held among honest bytes mark stands spells =
     let made = honest bytes mark stands spells in (made.0, among made.0 made.1, made.2)
 
-more_slot : (compile : Content → Outcome) (known more : List Given) (slot : Slot) → ((given : Given) → Contains known given → Contains more given) → IsHonestSlot compile known slot → IsHonestSlot compile more slot
+more_slot : (compile : Content → Outcome) (known more : List Given) (slot : Slot) → ((given : Given) → Contains known given → Contains more given) →
+    IsHonestSlot compile known slot → IsHonestSlot compile more slot
 more_slot compile known more (Here None) among honest = tt
 more_slot compile known more (Here (Some held)) among honest = more_holding compile known more held among honest
 more_slot compile known more Out among honest = tt
 
-pub more_tree : (compile : Content → Outcome) (known more : List Given) (slots : BuildKey → Slot) → ((given : Given) → Contains known given → Contains more given) → Honest compile known slots → Honest compile more slots
+pub more_tree : (compile : Content → Outcome) (known more : List Given) (slots : BuildKey → Slot) →
+    ((given : Given) → Contains known given → Contains more given) → Honest compile known slots → Honest compile more slots
 more_tree compile known more slots among honest q = more_slot compile known more (slots q) among (honest q)
 
 pub unmarked_honest : (compile : Content → Outcome) (known : List Given) (held : Holding) → held.mark ≡ None → IsHonest compile known held
 unmarked_honest compile known held none bytes mark stands spells = let clash : None ≡ Some bytes = sym none ∙ stands in cc
 
-pub unread_honest : (compile : Content → Outcome) (known : List Given) (held : Holding) (bytes : Bytes) → held.mark ≡ Some bytes → (IsSpelled bytes → ⊥) → IsHonest compile known held
+pub unread_honest : (compile : Content → Outcome) (known : List Given) (held : Holding) (bytes : Bytes) → held.mark ≡ Some bytes → (IsSpelled bytes → ⊥) →
+    IsHonest compile known held
 unread_honest compile known held bytes stands unread other mark stands' spells =
     absurd (unread (mark, subst (λ (b : Bytes). Spells b mark) (sym (same_bytes bytes other (sym stands ∙ stands'))) spells))
 
@@ -69,5 +73,7 @@ module _ (compile : Content → Outcome) (known : List Given) (given : Given) (a
   at (Begun n) = text_honest (take n bytes) (λ other says. whole_text bytes n mark other spells says)
   at (Those stays) = unmarked_honest compile known (only_files files) refl
 
-pub marking_honest : (compile : Content → Outcome) (known : List Given) (given : Given) → Contains known given → (outcome_of compile given).status ≡ 0 → (bytes : Bytes) (mark : MarkView) → Spells bytes mark → IsMarkOf given (outcome_of compile given) mark → (part : Part) → IsHonest compile known (leaves (Mark bytes) part (only_files (outcome_of compile given).files))
+pub marking_honest : (compile : Content → Outcome) (known : List Given) (given : Given) → Contains known given → (outcome_of compile given).status ≡ 0 →
+    (bytes : Bytes) (mark : MarkView) → Spells bytes mark → IsMarkOf given (outcome_of compile given) mark → (part : Part) →
+    IsHonest compile known (leaves (Mark bytes) part (only_files (outcome_of compile given).files))
 marking_honest compile known given among built bytes mark spells own part = at compile known given among built bytes mark spells own part

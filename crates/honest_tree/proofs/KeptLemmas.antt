@@ -17,7 +17,7 @@ use Rattle.staleness.proofs.DescribedLemmas.{described}
 use Rattle.tree_store.specs.declared.holding.Holding.{Holding}
 use Rattle.honest_tree.specs.Given.{Given, NoClash, content, description, outcome_of}
 use Rattle.honest_tree.specs.Honest.{IsHonest, IsMadeFrom, IsMarkOf}
-use Rattle.honest_tree.specs.KeptOf.{IsKept}
+use Rattle.honest_tree.specs.KeptOf.{IsKept, kept_with}
 use Rattle.honest_tree.proofs.HonestLemmas.{same_bytes}
 
 -- an outcome's rows and digest follow from its files
@@ -28,7 +28,8 @@ module _ (status : ℕ) (text : List ℕ) (files : List File) where
   by_files : (rows : List FileRow) (listed : rows ≡ rows_of files) → outcome_with status text files ≡ made_of rows listed (listing_digest rows) refl
   by_files rows listed = path_j' (λ (r : List FileRow) e. outcome_with status text files ≡ made_of r e (listing_digest r) refl) refl listed
 
-  by_rows : (rows : List FileRow) (listed : rows ≡ rows_of files) (digest : List ℕ) (digested : digest ≡ listing_digest rows) → made_of rows listed (listing_digest rows) refl ≡ made_of rows listed digest digested
+  by_rows : (rows : List FileRow) (listed : rows ≡ rows_of files) (digest : List ℕ) (digested : digest ≡ listing_digest rows) →
+      made_of rows listed (listing_digest rows) refl ≡ made_of rows listed digest digested
   by_rows rows listed digest digested = path_j' (λ (d : List ℕ) e. made_of rows listed (listing_digest rows) refl ≡ made_of rows listed d e) refl digested
 
 pub outcome_again : (outcome : Outcome) → outcome_with outcome.status outcome.text outcome.files ≡ outcome
@@ -43,8 +44,13 @@ one_kept held one other a b =
     let outcome : one.outcome ≡ other.outcome = a.outcome ∙ ap (λ (m : MarkView). outcome_with 0 m.text held.files) mark ∙ sym b.outcome in
     ap (λ (m : MarkView). record { mark = m; outcome = one.outcome }) mark ∙ ap (λ (o : Outcome). record { mark = other.mark; outcome = o }) outcome
 
+pub some_kept : (held : Holding) (bytes : List ℕ) (mark : MarkView) → held.mark ≡ Some bytes → Spells bytes mark → mark.outputs ≡ rows_of held.files →
+    IsKept held (kept_with mark held.files)
+some_kept held bytes mark marked read listed = record { bytes = bytes; marked = marked; read = read; listed = listed; outcome = refl }
+
 -- the needs of a mark, from their apps and digests
-needs_from : (needs : List Need) (apps : List (List ℕ)) (outcomes : List Outcome) → map (λ need. need.1) needs ≡ apps → map (λ need. need.0) needs ≡ map (λ outcome. outcome.digest) outcomes → needs ≡ need_digests apps outcomes
+needs_from : (needs : List Need) (apps : List (List ℕ)) (outcomes : List Outcome) → map (λ need. need.1) needs ≡ apps →
+    map (λ need. need.0) needs ≡ map (λ outcome. outcome.digest) outcomes → needs ≡ need_digests apps outcomes
 needs_from [] [] outcomes a d = refl
 needs_from [] (app ∷ apps) outcomes a d = cc
 needs_from (n ∷ ns) [] outcomes a d = cc
@@ -63,14 +69,17 @@ says_description mark given is =
     ∙ ap (λ (rows : List FileRow). record { options = given.job.options; sources = rows; needs = mark.needs }) is.described.sources
     ∙ ap (λ (needs : List Need). record { options = given.job.options; sources = given.job.rows; needs = needs }) (needs_from mark.needs given.job.need_apps given.needs is.described.apps is.outputs)
 
-mark_says : (given : Given) (outcome : Outcome) (mark : MarkView) → IsMarkOf given outcome mark → (said_by mark ≡ description given) × (mark.text ≡ outcome.text)
+mark_says : (given : Given) (outcome : Outcome) (mark : MarkView) → IsMarkOf given outcome mark →
+    (said_by mark ≡ description given) × (mark.text ≡ outcome.text)
 mark_says given outcome mark (inl is) = (ap said_by is, ap (λ (m : MarkView). m.text) is)
 mark_says given outcome mark (inr is) = (ap said_by is, ap (λ (m : MarkView). m.text) is)
 
 contains_more : (one : Given) (known : List Given) (given : Given) → Contains known given → Contains (one ∷ known) given
 contains_more one known given c = (suc c.0, omega (arith, c.1), c.2)
 
-pub kept_outcome : (compile : Content → Outcome) (known : List Given) (held : Holding) (kept : Kept) (given : Given) → IsHonest compile known held → IsKept held kept → NoClash (given ∷ known) → length given.needs ≡ length given.job.need_apps → matches kept.mark given.job given.needs ≡ true → kept.outcome ≡ outcome_of compile given
+pub kept_outcome : (compile : Content → Outcome) (known : List Given) (held : Holding) (kept : Kept) (given : Given) → IsHonest compile known held →
+    IsKept held kept → NoClash (given ∷ known) → length given.needs ≡ length given.job.need_apps → matches kept.mark given.job given.needs ≡ true →
+    kept.outcome ≡ outcome_of compile given
 kept_outcome compile known held kept given honest is apart each match = at (honest is.bytes kept.mark is.marked is.read)
   where
     at : (made : Given) × Contains known made × IsMadeFrom compile made held kept.mark → kept.outcome ≡ outcome_of compile given
@@ -81,3 +90,15 @@ kept_outcome compile known held kept given honest is apart each match = at (hone
         let o = outcome_of compile made in
         is.outcome ∙ ap (λ (t : List ℕ). outcome_with 0 t held.files) says.1 ∙ ap (λ (fs : List File). outcome_with 0 o.text fs) from.files
         ∙ ap (λ (n : ℕ). outcome_with n o.text o.files) (sym from.built) ∙ outcome_again o ∙ ap compile (sym one)
+
+-- the mark of an outcome lists its files
+mark_lists : (given : Given) (outcome : Outcome) (mark : MarkView) → IsMarkOf given outcome mark → mark.outputs ≡ rows_of outcome.files
+mark_lists given outcome mark (inl is) = ap (λ (m : MarkView). m.outputs) is ∙ outcome.listed
+mark_lists given outcome mark (inr is) = ap (λ (m : MarkView). m.outputs) is ∙ outcome.listed
+
+pub honest_kept : (compile : Content → Outcome) (known : List Given) (held : Holding) (bytes : List ℕ) (mark : MarkView) → IsHonest compile known held →
+    held.mark ≡ Some bytes → Spells bytes mark → IsKept held (kept_with mark held.files)
+honest_kept compile known held bytes mark honest marked read = some_kept held bytes mark marked read (at (honest bytes mark marked read))
+  where
+    at : (made : Given) × Contains known made × IsMadeFrom compile made held mark → mark.outputs ≡ rows_of held.files
+    at (made, among, from) = mark_lists made (outcome_of compile made) mark from.own ∙ ap rows_of (sym from.files)

@@ -1,15 +1,21 @@
 -- What is kept of a tree for a plan.
 use Rattle.std.specs.Prelude.{◌≡◌, ◌≢◌, ℕ, List, length, slice_get, Option, Some, None}
+use Rattle.mx_base.specs.declared.file.File.{File}
 use Rattle.mx_base.specs.Listing.{rows_of}
 use Rattle.compile_model.specs.declared.job.Job.{Job}
 use Rattle.compile_model.specs.declared.job.Plan.{Plan}
 use Rattle.compile_model.specs.Content.{outcome_with}
+use Rattle.build_manifest.specs.Mark.{MarkView}
 use Rattle.build_manifest.specs.Text.{Spells}
 use Rattle.staleness.specs.declared.kept.Kept.{Kept}
 use Rattle.tree_store.specs.declared.holding.Holding.{Holding}
 use Rattle.tree_store.specs.declared.key.BuildKey.{BuildKey}
 use Rattle.tree_store.specs.Slot.{Slot}
 use Rattle.tree_store.specs.Slot.Slot.{Here, Out}
+
+-- a mark with the outcome of these files and of its own text
+abbrev pub kept_with : MarkView → List File → Kept
+kept_with mark files = record { mark = mark; outcome = outcome_with 0 mark.text files }
 
 -- the mark reads, its output rows are the files' listing, and the outcome is that of these files with the mark's text
 pub record IsKept (held : Holding) (kept : Kept) : Type 0 where

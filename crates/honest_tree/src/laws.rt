@@ -1,5 +1,6 @@
 // What follows from honest marks.
 ghost use Rattle.std.specs.Prelude.{◌≡◌, ◌≢◌, ◌++◌, ◌∷◌, [], ℕ, List, Some, None, Contains, IsTrue, length};
+ghost use Rattle.mx_base.specs.Listing.{rows_of};
 ghost use Rattle.compile_model.specs.declared.outcome.Outcome.{Outcome};
 ghost use Rattle.compile_model.specs.Content.{Content};
 ghost use Rattle.build_manifest.specs.Mark.{MarkView};
@@ -14,7 +15,7 @@ ghost use Rattle.tree_store.specs.Moment.Write.{Mark};
 ghost use Rattle.tree_store.specs.Slot.{Slot};
 ghost use Rattle.honest_tree.specs.Given.{Given, NoClash, outcome_of};
 ghost use Rattle.honest_tree.specs.Honest.{Honest, IsHonest, IsMarkOf};
-ghost use Rattle.honest_tree.specs.KeptOf.{IsKept};
+ghost use Rattle.honest_tree.specs.KeptOf.{IsKept, kept_with};
 
 /// What is honest for some inputs is honest for more.
 pub fn honest_for_more()
@@ -47,10 +48,21 @@ pub fn marking_is_honest()
         (leaves (Mark bytes) part (only_files (outcome_of compile given).files)) }
 {}
 
-/// Nothing or one thing is kept of a build.
+/// Nothing or one thing is kept of a build, and one where its mark reads and has the listing of its files.
 pub fn one_kept()
-    ensures { (held : Holding) (one other : Kept) → IsKept held one → IsKept held other
+    ensures one { (held : Holding) (one other : Kept) → IsKept held one → IsKept held other
         → one ≡ other }
+    ensures some { (held : Holding) (bytes : List ℕ) (mark : MarkView)
+        → held.mark ≡ Some bytes → Spells bytes mark → mark.outputs ≡ rows_of held.files
+        → IsKept held (kept_with mark held.files) }
+{}
+
+/// An honest folder whose mark reads is kept.
+pub fn honest_is_kept()
+    ensures { (compile : Content → Outcome) (known : List Given) (held : Holding)
+        (bytes : List ℕ) (mark : MarkView) → IsHonest compile known held
+        → held.mark ≡ Some bytes → Spells bytes mark
+        → IsKept held (kept_with mark held.files) }
 {}
 
 /// What is kept of an honest folder, where its mark matches an input of its own, has that input's outcome, as

@@ -11,7 +11,7 @@ use std::{fs, str};
 use tree_host::{HostFolder, HostStore};
 use tree_store::{Folder, Store, StoreFault};
 
-fn folder_of(rt: HostRuntime, alloc: Global, root: &str) -> Result<HostFolder<HostRuntime>, Fail> {
+pub(crate) fn folder_of(rt: HostRuntime, alloc: Global, root: &str) -> Result<HostFolder<HostRuntime>, Fail> {
     let mut store = HostStore::new(rt, alloc, root)?;
     let (env, app) = (name(alloc, "dev")?, name(alloc, "a")?);
     told(store.folder(alloc, &env, &app))

@@ -6,6 +6,8 @@ mod folder_tests;
 #[cfg(test)]
 mod given;
 #[cfg(test)]
+mod mark_tests;
+#[cfg(test)]
 mod nested_tests;
 #[cfg(test)]
 mod sink_tests;

@@ -2,6 +2,10 @@
 #![tactic(auto)]
 
 #[cfg(test)]
+mod build_tests;
+#[cfg(test)]
+mod partition_tests;
+#[cfg(test)]
 mod row_tests;
 #[cfg(test)]
 mod sink_tests;

@@ -1,5 +1,5 @@
 -- Counts that stand still at their last value.
-use Rattle.std.proofs.Common.{◌≡◌, ℕ, ◌+◌, ◌-◌, ◌^◌, ◌≤◌, min, List, [], ◌∷◌, map, refl, sym, ◌∙◌, ap, arith}
+use Rattle.std.proofs.Common.{◌≡◌, ℕ, ◌+◌, ◌-◌, ◌^◌, ◌≤◌, List, ◌∷◌, arith}
 use Rattle.partition_face.specs.declared.counts.Counts.{Counts}
 use Rattle.partition_face.specs.Counts.{both, deaths_of, raised_by, runs_of}
 
@@ -13,5 +13,6 @@ raised_none count few = omega (arith, few)
 pub runs_more : (counts more : Counts) (rest : List Counts) → raised_by (runs_of rest) (both counts more).runs ≡ raised_by (runs_of (more ∷ rest)) counts.runs
 runs_more counts more rest = raised_twice more.runs (runs_of rest) counts.runs
 
-pub deaths_more : (counts more : Counts) (rest : List Counts) → raised_by (deaths_of rest) (both counts more).deaths ≡ raised_by (deaths_of (more ∷ rest)) counts.deaths
+pub deaths_more : (counts more : Counts) (rest : List Counts) →
+    raised_by (deaths_of rest) (both counts more).deaths ≡ raised_by (deaths_of (more ∷ rest)) counts.deaths
 deaths_more counts more rest = raised_twice more.deaths (deaths_of rest) counts.deaths

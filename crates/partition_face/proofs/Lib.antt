@@ -1,2 +1,2 @@
 pub mod CountLemmas
-pub mod RunLemmas
+pub mod StartLemmas

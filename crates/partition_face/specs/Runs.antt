@@ -1,5 +1,5 @@
 -- What a run of a partition does.
-use Rattle.std.specs.Prelude.{◌≡◌, Bool, true, false, Option, Some, None, Result, Ok, Err}
+use Rattle.std.specs.Prelude.{◌≡◌, Bool, true, false, Some, None, Result, Ok, Err}
 use Rattle.compile_model.specs.declared.outcome.Outcome.{Outcome}
 use Rattle.compile_model.specs.declared.outcome.Verdict.{Verdict}
 use Rattle.tree_store.specs.declared.store.StoreFault.{StoreFault}

@@ -9,9 +9,7 @@ pub struct Counts {
 
 impl Counts {
     ghost use Rattle.std.specs.Prelude.{◌≡◌};
-    ghost use Rattle.partition_face.specs.Counts.{fresh};
-
-    ghost use Rattle.partition_face.specs.Counts.{both};
+    ghost use Rattle.partition_face.specs.Counts.{both, fresh, raised_by};
 
     /// These and others, each up to 2^64 - 1, where it stands still.
     pub fn plus(self, more: Counts) -> Counts
@@ -22,6 +20,12 @@ impl Counts {
             deaths: self.deaths.saturating_add(more.deaths),
         }
     }
+
+    // No count is past its last value.
+    pub(crate) fn stand(self)
+        ensures runs { raised_by 0 self.runs ≡ self.runs }
+        ensures deaths { raised_by 0 self.deaths ≡ self.deaths }
+    {}
 
     /// Nothing counted.
     pub fn new() -> Counts

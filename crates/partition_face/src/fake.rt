@@ -1,22 +1,20 @@
-// A partition in memory.
-ghost use Rattle.std.specs.Prelude.{◌≡◌, IfErr, IfOk, IfSome, false, length};
+// A partition in memory that may die.
+ghost use Rattle.std.specs.Prelude.{◌≡◌};
 ghost use Rattle.mx_base.specs.Blame.{fails};
 ghost use Rattle.mx_base.specs.Causes.{Counted};
-ghost use Rattle.compile_model.specs.Content.{content_of};
 ghost use Rattle.compile_model.specs.Echo.{echo_failed_is_bare, echo_files_in_order, echo_nothing_is_empty, echo_of};
-ghost use Rattle.compile_model.specs.Planned.{IsNamed};
 ghost use Rattle.tree_store.specs.Blame.{blame_of};
 ghost use Rattle.tree_store.specs.FolderKnown.{IsBare};
 ghost use Rattle.partition_face.specs.Counts.{fresh};
-ghost use Rattle.partition_face.specs.declared.partition.RunFault.TheVariants.{OutOfMemory};
-ghost use Rattle.partition_face.specs.Runs.{IsVerdictOf, NeverMarks, has_died, tree_failed};
+ghost use Rattle.partition_face.specs.Runs.{NeverMarks};
 
 use crate::counts::Counts;
+use crate::echo::echo_into;
 use crate::partition::{Partition, RunFault};
-use compile_model::{Compiler, EchoCompiler, Input, Meaning, Outcome, Verdict};
+use compile_model::{Input, Meaning, Verdict};
 use mx_base::RelPath;
 use std::alloc::Global;
-use tree_store::{Folder, StoreFault, put_files};
+use tree_store::{Folder, StoreFault};
 
 /// Follows the echo rule, and is honest. It dies at the runs of a list, numbered from 1, after it wrote a file
 /// `scribble`.
@@ -85,46 +83,4 @@ fn scribble<F: Folder>(alloc: Global, folder: &mut F) -> Result<(), StoreFault>
     let path = RelPath::root(alloc).child(alloc, "scribble")?;
     folder.put(alloc, &path, b"scribble")?;
     Ok(())
-}
-
-// Puts what the echo rule gives into an empty folder.
-fn echo_into<F: Folder>(
-    alloc: Global,
-    input: &Input,
-    folder: &mut F,
-) -> Result<Verdict, RunFault>
-    requires needs { length input.now.needs.now ≡ length input.now.job.now.needs }
-    requires named { IsNamed input.now.job.now }
-    requires bare { IsBare (F.known folder.old) }
-    ensures meaning { IfOk result (λ verdict. IfSome (F.known folder.old).held
-        (λ _. IsVerdictOf (echo_of (content_of input.now.job.now input.now.needs.now))
-        (F.known folder.new) verdict)) }
-    ensures unmarked { NeverMarks (F.known folder.old) (F.known folder.new) }
-    ensures tree { Counted (F.known folder.old).faults (F.known folder.new).faults
-        (tree_failed result) }
-    ensures lives { has_died result ≡ false }
-{
-    let outcome = echoed(alloc, input)?;
-    let Outcome {
-        status,
-        text,
-        files,
-        ..
-    } = outcome;
-    put_files(alloc, files.as_slice(), folder)?;
-    Ok(Verdict { status, text })
-}
-
-// The echo compiler never dies.
-fn echoed(alloc: Global, input: &Input) -> Result<Outcome, RunFault>
-    requires needs { length input.now.needs.now ≡ length input.now.job.now.needs }
-    requires named { IsNamed input.now.job.now }
-    ensures meaning { IfOk result (λ outcome. outcome
-        ≡ echo_of (content_of input.now.job.now input.now.needs.now)) }
-    ensures memory { IfErr result (λ fault. fault ≡ OutOfMemory) }
-{
-    match EchoCompiler.compile(alloc, input) {
-        Ok(outcome) => Ok(outcome),
-        Err(_) => Err(RunFault::OutOfMemory),
-    }
 }

@@ -4,12 +4,16 @@
 #![tactic(auto)]
 
 mod counts;
+mod echo;
+mod echo_maker;
 mod fake;
 mod list_maker;
 mod maker;
 mod partition;
 
 pub use counts::Counts;
+pub use echo::EchoPartition;
+pub use echo_maker::EchoMaker;
 pub use fake::FakePartition;
 pub use list_maker::ListMaker;
 pub use maker::{Maker, MakerFault};

@@ -4,8 +4,10 @@ use Rattle.partition_face.proofs.list_maker.ListMakerMaker.stop.Given as goal
 
 abbrev pub invariant-loop-partition : goal.invariant-loop-partition
 invariant-loop-partition g l = record {
-  runs : raised_by (runs_of (map g.P.Partition.counted l.partition-iterator.rest.items)) l.self.stopped.runs ≡ raised_by (runs_of (map g.P.Partition.counted l.fn.partitions.items)) l.fn.self.stopped.runs;
-  deaths : raised_by (deaths_of (map g.P.Partition.counted l.partition-iterator.rest.items)) l.self.stopped.deaths ≡ raised_by (deaths_of (map g.P.Partition.counted l.fn.partitions.items)) l.fn.self.stopped.deaths;
+  runs : raised_by (runs_of (map g.P.Partition.counted l.partition-iterator.rest.items)) l.self.stopped.runs ≡
+      raised_by (runs_of (map g.P.Partition.counted l.fn.partitions.items)) l.fn.self.stopped.runs;
+  deaths : raised_by (deaths_of (map g.P.Partition.counted l.partition-iterator.rest.items)) l.self.stopped.deaths ≡
+      raised_by (deaths_of (map g.P.Partition.counted l.fn.partitions.items)) l.fn.self.stopped.deaths;
   asked : l.self.asked ≡ l.fn.self.asked;
-  faults : l.self.faults ≡ l.fn.self.faults;
+  plan : l.self.plan ≡ l.fn.self.plan;
 }
