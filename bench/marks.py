@@ -9,33 +9,13 @@ which has the same bytes and refuses them for their length.
 """
 import hashlib
 import os
-import subprocess
 import sys
 import tempfile
-import time
+
+from lines import asked, asked_alone, timed
 
 BLOCK = bytes(range(250)) * 4
 BLOCKS = 200000
-
-
-def timed(words, text=b""):
-    begin = time.monotonic()
-    child = subprocess.run(words, input=text, stdout=subprocess.PIPE)
-    spent = time.monotonic() - begin
-    if child.returncode != 0:
-        sys.exit("%s: status %d" % (words[0], child.returncode))
-    return spent, child.stdout.decode()
-
-
-def asked(kind, fields, wanted):
-    """The time of a line, the fastest of three."""
-    each = []
-    for _ in range(3):
-        spent, answer = timed([program], ("%s %s\n" % (kind, fields)).encode())
-        if not answer.startswith(wanted):
-            sys.exit("%s: %r" % (kind, answer[:200]))
-        each.append(spent)
-    return min(each)
 
 
 def digests():
@@ -43,8 +23,8 @@ def digests():
     digest = hashlib.sha256(BLOCK * BLOCKS).hexdigest()
     row = "%s %d a\n" % (digest, len(BLOCK) * BLOCKS)
     listing = hashlib.sha256(row.encode()).hexdigest()
-    made = asked("name", bytes_, "refused - TooLong")
-    listed = asked("listing", "61 " + bytes_, "ok %s %s" % (listing, row.encode().hex())) - made
+    made = asked(program, "name", bytes_, "refused - TooLong")
+    listed = asked(program, "listing", "61 " + bytes_, "ok %s %s" % (listing, row.encode().hex())) - made
     with tempfile.NamedTemporaryFile() as file:
         file.write(BLOCK * BLOCKS)
         file.flush()
@@ -64,7 +44,7 @@ def marks(counts):
     print("\n| sources | seconds | microseconds a source |\n|---|---|---|")
     for count in counts:
         text = mark(count).encode().hex()
-        spent = asked("mark", text, "ok ") - asked("name", text, "refused - TooLong")
+        spent = asked_alone(program, "mark", text, "ok ")
         each.append(spent / count)
         print("| %d | %.3f | %.2f |" % (count, spent, 1e6 * spent / count))
     print("\ngrowth: %.2f" % (each[-1] / each[0]))

@@ -1,5 +1,5 @@
 -- What is found in a folder.
-use Rattle.std.proofs.Common.{◌≡◌, ℕ, eqb, filter, ◌∷◌, length, Bool, true, false, not, cond, List, Option, Some, None, option_and_then, Ok, Err, IfSome, IsTrue, IsFalse, refl, sym, ◌∙◌, ap, subst, codes, bytes_eq, ◌&&◌, ◌||◌, []}
+use Rattle.std.proofs.Common.{◌≡◌, ℕ, eqb, filter, ◌∷◌, length, Bool, true, false, not, List, Option, Some, None, Ok, Err, IfSome, IsTrue, IsFalse, refl, sym, ◌∙◌, ap, subst, codes, bytes_eq, ◌&&◌, ◌||◌, []}
 use Rattle.std.proofs.lemmas.Bool.{eqb-true, eqb-false}
 use Rattle.std.proofs.lemmas.List.{nil_from_length}
 use Rattle.mx_base.specs.Blame.Blame.{Input}

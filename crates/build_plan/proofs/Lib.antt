@@ -4,6 +4,7 @@ pub mod KeptLemmas
 pub mod LineLemmas
 pub mod ListLemmas
 pub mod ManagerLemmas
+pub mod NameLemmas
 pub mod NeedLemmas
 pub mod OneOrder
 pub mod OnePlan

@@ -15,7 +15,6 @@ use Rattle.compiler_drive.specs.Command.{command}
 use Rattle.dep_options.specs.declared.decl.Manager.{Manager}
 use Rattle.dep_options.specs.declared.decl.Manager.TheVariants.{Mix, Rebar3, Make}
 use Rattle.dep_rows.specs.declared.row.Row.{Row}
-use Rattle.project_file.specs.declared.settings.Settings.{Settings}
 use Rattle.project_file.specs.Files.{has_file, manager_by_files}
 use Rattle.build_plan.specs.declared.post.Post.{Post}
 use Rattle.build_plan.specs.Dependencies.{version_by}

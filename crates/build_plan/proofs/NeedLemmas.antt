@@ -1,5 +1,5 @@
 -- Rows, and the graph of what their winners need.
-use Rattle.std.proofs.Common.{◌≡◌, ℕ, zero, suc, ◌+◌, ◌<◌, ◌≤◌, Bool, true, false, ◌&&◌, cond, eqb, List, [], ◌∷◌, ◌++◌, length, get_or, take, map, filter, filter_map, All, refl, sym, ◌∙◌, ap, ap₂, subst, arith, Option, Some, None, append-nil}
+use Rattle.std.proofs.Common.{◌≡◌, ℕ, zero, suc, ◌+◌, ◌<◌, ◌≤◌, Bool, true, false, ◌&&◌, cond, eqb, List, [], ◌∷◌, ◌++◌, length, get_or, take, map, filter, filter_map, All, refl, sym, ◌∙◌, ap, ap₂, arith, Option, Some, None, append-nil}
 use Rattle.std.specs.List.{position, slice_get, cons_option}
 use Rattle.std.specs.Option.{option_map, option_and_then}
 use Rattle.std.specs.Prelude.{nat_eq}

@@ -10,7 +10,7 @@ use Rattle.project_file.specs.declared.project.Project.{Project}
 use Rattle.project_file.specs.declared.settings.Settings.{Settings}
 use Rattle.project_file.specs.Files.{AreSettings, IsLoaded}
 use Rattle.build_plan.specs.declared.error.PlanError.{PlanError}
-use Rattle.build_plan.specs.Plan.{IsPlan, IsPlanOf}
+use Rattle.build_plan.specs.Plan.{Build, IsPlan, IsPlanOf}
 use Rattle.build_plan.specs.ChildLaws.{OneProject}
 use Rattle.build_plan.proofs.OneOrder.{jobs_one, schedule_one}
 use Rattle.build_plan.proofs.OneRoot.{rows_one, together_one}
@@ -46,9 +46,9 @@ one_plan settings one files env target answer other plan also =
     (becomes_one (AreSettings files) settings_answer (settings files)) (λ set. settings_on one files env target set) answer other
     (staged plan) (staged also)
 
-pub one_plan_of : OneSettings → OneProject → (files : List File) (root : List Decl) (env target : List ℕ) (answer other : Result (List Job) PlanError)
-    → IsPlanOf files root env target answer → IsPlanOf files root env target other → answer ≡ other
-one_plan_of settings one files root env target answer other plan also =
-    then_one (Becomes (AreSettings files) settings_answer) (FromDecls files env target root)
-    (becomes_one (AreSettings files) settings_answer (settings files)) (λ set. decls_on one files env target set root) answer other
+pub one_plan_of : OneSettings → OneProject → (files : List File) (root : List Decl) (build : Build) (answer other : Result (List Job) PlanError)
+    → IsPlanOf files root build answer → IsPlanOf files root build other → answer ≡ other
+one_plan_of settings one files root build answer other plan also =
+    then_one (Becomes (AreSettings files) settings_answer) (FromDecls files build.env build.target root)
+    (becomes_one (AreSettings files) settings_answer (settings files)) (λ set. decls_on one files build.env build.target set root) answer other
     (staged_of plan) (staged_of also)

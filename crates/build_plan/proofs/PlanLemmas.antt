@@ -14,7 +14,7 @@ use Rattle.build_plan.specs.declared.error.PlanError.TheVariants as refused
 use Rattle.build_plan.specs.declared.found.Found.{Found}
 use Rattle.build_plan.specs.Found.{IsFound}
 use Rattle.build_plan.specs.Dependencies.{AreVersions}
-use Rattle.build_plan.specs.Plan.{Converge, IsPlan, IsPlanOf}
+use Rattle.build_plan.specs.Plan.{Converge, IsPlan, IsPlanOf, build_of}
 use Rattle.build_plan.specs.Plan.IsPlan.{settings as root_settings, no_project as by_no_project, project as by_project, of_root as by_root}
 use Rattle.build_plan.specs.Plan.IsPlanOf.{settings as by_settings, dependency as by_dependency, too_many as by_too_many, diverged as by_diverged, cycle as by_cycle, too_large as by_too_large, planned as by_planned}
 use Rattle.build_plan.specs.Stages.{SetsUp, HasRoot, ListsRows, LivesTogether, LiveWith, MakesJobs, Schedules, Then}
@@ -36,17 +36,17 @@ module _ (files : List File) (env target : List ℕ) where
   root_refused settings error set why = absurd why
 
   module _ (root : List Decl) where
-    settings_refused_of : (error : PlanError) → SetsUp files (Err error) → IsPlanOf files root env target (Err error)
+    settings_refused_of : (error : PlanError) → SetsUp files (Err error) → IsPlanOf files root (build_of env target) (Err error)
     settings_refused_of (refused.Settings error) are = by_settings are
     settings_refused_of error are = absurd are
 
     module _ (settings : Settings) (set : AreSettings files (Ok settings)) where
-      pub rows_refused : {error : PlanError} → ListsRows files root (Err error) → IsPlanOf files root env target (Err error)
+      pub rows_refused : {error : PlanError} → ListsRows files root (Err error) → IsPlanOf files root (build_of env target) (Err error)
       rows_refused (meets met) = by_dependency settings set met
       rows_refused (passes many) = by_too_many settings set many
 
       pub diverged : {listed : Listed} {error : PlanError} → ListsRows files root (Ok listed) → (versions : List (Option Parts))
-          → AreVersions files listed.rows listed.winners versions → LiveWith listed versions (Err error) → IsPlanOf files root env target (Err error)
+          → AreVersions files listed.rows listed.winners versions → LiveWith listed versions (Err error) → IsPlanOf files root (build_of env target) (Err error)
       diverged (lists listed are few) versions known (diverges divergences apart some told) =
           by_diverged settings listed versions divergences set (record { rows = are; few = few; known = known }) apart some told
 
@@ -60,7 +60,7 @@ module _ (files : List File) (env target : List ℕ) where
       }
 
       pub jobs_made : (rows : List Row) {answer : Result (List Job) PlanError} → Converge files root rows
-          → Then (Schedules settings rows env target) (MakesJobs files) answer → IsPlanOf files root env target answer
+          → Then (Schedules settings rows env target) (MakesJobs files) answer → IsPlanOf files root (build_of env target) answer
       jobs_made rows live (stops (circles places nodes reached around)) = by_cycle settings rows places nodes set live reached around
       jobs_made rows live (goes_on _ (orders places order reached is_order) (passes_size jobs job first fit large)) =
           by_too_large (record { settings = settings; target = target; rows = rows; places = places; order = order }) jobs job
@@ -84,33 +84,33 @@ if_root_refused (Some files) env target settings error set why = root_refused fi
 
 pub if_root : (told : Option (List File)) (env target : List ℕ) (settings : Settings) (root : Project) (answer : Result (List Job) PlanError)
     → IfSome told (λ files. SetsUp files (Ok settings)) → IfSome told (λ files. HasRoot files (Ok root))
-    → IfSome told (λ files. AreSettings files (Ok settings) → IsPlanOf files root.decls env target answer)
+    → IfSome told (λ files. AreSettings files (Ok settings) → IsPlanOf files root.decls (build_of env target) answer)
     → IfSome told (λ files. IsPlan files env target answer)
 if_root None env target settings root answer set loaded says = tt
 if_root (Some files) env target settings root answer set loaded says = by_root root loaded (says set)
 
 pub if_settings_refused_of : (told : Option (List File)) (root : List Decl) (env target : List ℕ) (error : PlanError)
-    → IfSome told (λ files. SetsUp files (Err error)) → IfSome told (λ files. IsPlanOf files root env target (Err error))
+    → IfSome told (λ files. SetsUp files (Err error)) → IfSome told (λ files. IsPlanOf files root (build_of env target) (Err error))
 if_settings_refused_of None root env target error are = tt
 if_settings_refused_of (Some files) root env target error are = settings_refused_of files env target root error are
 
 pub if_set : (told : Option (List File)) (root : List Decl) (env target : List ℕ) (settings : Settings) (answer : Result (List Job) PlanError)
     → IfSome told (λ files. SetsUp files (Ok settings))
-    → IfSome told (λ files. AreSettings files (Ok settings) → IsPlanOf files root env target answer)
-    → IfSome told (λ files. IsPlanOf files root env target answer)
+    → IfSome told (λ files. AreSettings files (Ok settings) → IsPlanOf files root (build_of env target) answer)
+    → IfSome told (λ files. IsPlanOf files root (build_of env target) answer)
 if_set None root env target settings answer set says = tt
 if_set (Some files) root env target settings answer set says = says set
 
 module _ (env target : List ℕ) (settings : Settings) (root : List Decl) where
   pub if_rows_refused : (told : Option (List File)) (error : PlanError) → IfSome told (λ files. ListsRows files root (Err error))
-      → IfSome told (λ files. AreSettings files (Ok settings) → IsPlanOf files root env target (Err error))
+      → IfSome told (λ files. AreSettings files (Ok settings) → IsPlanOf files root (build_of env target) (Err error))
   if_rows_refused None error why = tt
   if_rows_refused (Some files) error why = λ set. rows_refused files env target root settings set why
 
   pub if_diverged : (told : Option (List File)) (listed : Listed) (found : List Found) (error : PlanError)
       → IfSome told (λ files. ListsRows files root (Ok listed)) → IfSome told (λ files. All (IsFound files) found)
       → ((files : List File) → All (IsFound files) found → LivesTogether files listed (Err error))
-      → IfSome told (λ files. AreSettings files (Ok settings) → IsPlanOf files root env target (Err error))
+      → IfSome told (λ files. AreSettings files (Ok settings) → IsPlanOf files root (build_of env target) (Err error))
   if_diverged None listed found error are meant why = tt
   if_diverged (Some files) listed found error are meant why = λ set.
       let live = why files meant in diverged files env target root settings set are live.versions live.known live.together
@@ -119,7 +119,7 @@ module _ (env target : List ℕ) (settings : Settings) (root : List Decl) where
       → IfSome told (λ files. ListsRows files root (Ok listed)) → IfSome told (λ files. All (IsFound files) found)
       → ((files : List File) → All (IsFound files) found → LivesTogether files listed (Ok live))
       → IfSome told (λ files. Then (Schedules settings listed.rows env target) (MakesJobs files) answer)
-      → IfSome told (λ files. AreSettings files (Ok settings) → IsPlanOf files root env target answer)
+      → IfSome told (λ files. AreSettings files (Ok settings) → IsPlanOf files root (build_of env target) answer)
   if_jobs None listed live found answer are meant together made = tt
   if_jobs (Some files) listed live found answer are meant together made = λ set.
       let live = together files meant in

@@ -1,14 +1,13 @@
 -- What holds of the jobs of a plan.
-use Rattle.std.proofs.Common.{◌≡◌, ◌≢◌, ℕ, zero, suc, ◌+◌, ◌-◌, ◌<◌, ◌≤◌, ◌⊎◌, ◌↔◌, inl, inr, Bool, true, false, cond, List, [], ◌∷◌, length, get_or, filter, filter_map, All, AllPairs, Contains, IsTrue, refl, sym, ◌∙◌, ap, ap₂, subst, arith, bytes_eq, eq-eqb, eqb-true, Option, Some}
+use Rattle.std.proofs.Common.{◌≡◌, ◌≢◌, ℕ, zero, suc, ◌+◌, ◌-◌, ◌<◌, ◌≤◌, ◌↔◌, inl, inr, Bool, true, false, List, [], ◌∷◌, length, get_or, filter, filter_map, All, AllPairs, Contains, IsTrue, refl, sym, ◌∙◌, ap, subst, arith, bytes_eq, eq-eqb, eqb-true, Some}
 use Rattle.std.specs.Prelude.{nat_eq}
-use Rattle.std.specs.List.{position, slice_get, cons_option}
+use Rattle.std.specs.List.{position, slice_get}
 use Rattle.std.specs.Option.{option_map, option_and_then}
 use Rattle.std.proofs.lemmas.Bool.{both_ways, cases_order, and_parts, not-true}
 use Rattle.std.proofs.lemmas.List.Elements.{Contains-get_or}
 use Rattle.std.proofs.lemmas.Option.{slice_get_within, slice_get-get_or, get_or_from_slice_get}
 use Rattle.compile_model.specs.declared.job.Job.{Job}
 use Rattle.compile_model.specs.Planned.{ArePlanned, IsSound, NeedsStand, app_at, most_jobs, most_sent, sent_size}
-use Rattle.dep_order.specs.Listing.{IsOrderOf}
 use Rattle.dep_order.specs.Reach.{Reaches, Direct, Further}
 use Rattle.dep_order.proofs.Listings.{order_apart}
 use Rattle.dep_order.proofs.Reaching.{reached_before}

@@ -1,5 +1,5 @@
 -- What stands at a place of the order.
-use Rattle.std.proofs.Common.{◌≡◌, ◌↔◌, ℕ, ◌+◌, ◌<◌, List, [], ◌∷◌, ◌++◌, length, get_or, take, filter_map, All, Contains, refl, sym, ◌∙◌, ap, ap₂, subst, arith, eqb-true, Option, Some}
+use Rattle.std.proofs.Common.{◌≡◌, ◌↔◌, ℕ, ◌+◌, ◌<◌, List, [], ◌∷◌, ◌++◌, length, get_or, take, filter_map, All, Contains, refl, sym, ◌∙◌, ap, subst, arith, eqb-true, Option, Some}
 use Rattle.std.specs.List.{AllZip, slice_get, position, cons_option}
 use Rattle.std.specs.Prelude.{nat_eq}
 use Rattle.std.proofs.lemmas.List.{take_more}
@@ -13,7 +13,6 @@ use Rattle.dep_order.proofs.Listings.{order_apart, order_has_places}
 use Rattle.dep_order.proofs.Reaching.{reached_before}
 use Rattle.dep_rows.specs.declared.row.Row.{Row}
 use Rattle.dep_rows.specs.Listed.{Listed}
-use Rattle.dep_rows.specs.Rows.{IsWinner}
 use Rattle.project_file.specs.declared.settings.Settings.{Settings}
 use Rattle.build_plan.specs.declared.found.Found.{Found}
 use Rattle.build_plan.specs.declared.post.Post.{Post}

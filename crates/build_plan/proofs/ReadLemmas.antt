@@ -1,10 +1,9 @@
 -- Calls that only read.
-use Rattle.std.proofs.Common.{◌≡◌, ℕ, Bool, false, List, Option, Result, Ok, Err, refl, sym, ◌∙◌, ap, subst}
+use Rattle.std.proofs.Common.{◌≡◌, ℕ, Bool, false, Result, Ok, Err, refl, sym, ◌∙◌, ap, subst}
 use Rattle.std.specs.Result.{IsErrAnd}
 use Rattle.mx_base.specs.Blame.{Blame, AnswersBy}
 use Rattle.mx_base.specs.Blame.Blame.{Input}
 use Rattle.mx_base.specs.Causes.{Counted}
-use Rattle.mx_base.specs.declared.file.File.{File}
 use Rattle.tree_store.specs.Known.{Known, OnlyReads}
 use Rattle.build_plan.specs.Kept.{MadeOver, made_over}
 

@@ -1,5 +1,5 @@
 -- Places in order, and what is found among them.
-use Rattle.std.proofs.Common.{◌≡◌, ◌≢◌, ℕ, zero, suc, ◌+◌, ◌<◌, ◌≤◌, inl, inr, Bool, true, false, eqb, List, [], ◌∷◌, length, get_or, set, take, AllPairs, Contains, refl, sym, ◌∙◌, ap, subst, arith, eq-eqb, eqb-true, Option, Some, None, Ok, Err, cond}
+use Rattle.std.proofs.Common.{◌≡◌, ◌≢◌, ℕ, zero, suc, ◌<◌, ◌≤◌, inl, inr, Bool, true, false, eqb, List, [], ◌∷◌, length, get_or, AllPairs, Contains, refl, sym, ◌∙◌, ap, subst, arith, eq-eqb, eqb-true, Option, Some, None, Ok, Err}
 use Rattle.std.specs.List.{AllZip, slice_get, position}
 use Rattle.std.specs.List.Sorted.{IsBinarySearchResult}
 use Rattle.std.specs.Ordering.{nat_cmp}

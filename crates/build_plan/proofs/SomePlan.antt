@@ -11,7 +11,7 @@ use Rattle.project_file.specs.declared.settings.Settings.{Settings}
 use Rattle.project_file.specs.Files.{AreSettings, IsLoaded, manifest_at}
 use Rattle.build_plan.specs.declared.error.PlanError.{PlanError}
 use Rattle.build_plan.specs.declared.error.PlanError.TheVariants as refused
-use Rattle.build_plan.specs.Plan.{IsPlan, IsPlanOf}
+use Rattle.build_plan.specs.Plan.{Build, IsPlan, IsPlanOf, build_of}
 use Rattle.build_plan.specs.Plan.IsPlan.{settings as root_settings, no_project as by_no_project, project as by_project, of_root as by_root}
 use Rattle.build_plan.specs.Plan.IsPlanOf.{settings as by_settings}
 use Rattle.build_plan.specs.Stages.{ListsRows, LivesTogether, MakesJobs, Schedules, Then}
@@ -44,24 +44,24 @@ module _ (files : List File) (env target : List ℕ) where
 
   module _ (root : List Decl) where
     settings_refused_of : (error : PlanError) (said : Result Settings SettingsError) → AreSettings files said → Err error ≡ settings_answer said
-        → IsPlanOf files root env target (Err error)
+        → IsPlanOf files root (build_of env target) (Err error)
     settings_refused_of error (Ok set) are is = cc
     settings_refused_of error (Err why) are is =
-        subst (λ (e : PlanError). IsPlanOf files root env target (Err e)) (sym (same_err error (refused.Settings why) is)) (by_settings are)
+        subst (λ (e : PlanError). IsPlanOf files root (build_of env target) (Err e)) (sym (same_err error (refused.Settings why) is)) (by_settings are)
 
     plan_of_rows : (set : Settings) → AreSettings files (Ok set) → (listed : Listed) → ListsRows files root (Ok listed)
-        → {answer : Result (List Job) PlanError} → FromRows files set env target listed answer → IsPlanOf files root env target answer
+        → {answer : Result (List Job) PlanError} → FromRows files set env target listed answer → IsPlanOf files root (build_of env target) answer
     plan_of_rows set are listed lists_them (stops apart) = diverged files env target root set are lists_them apart.versions apart.known apart.together
     plan_of_rows set are listed lists_them (goes_on live together made) =
         jobs_made files env target root set are listed.rows
         (live_rows files env target root set are lists_them together.versions together.known together.together) made
 
     plan_of_decls : (set : Settings) → AreSettings files (Ok set) → {answer : Result (List Job) PlanError}
-        → FromDecls files env target root set answer → IsPlanOf files root env target answer
+        → FromDecls files env target root set answer → IsPlanOf files root (build_of env target) answer
     plan_of_decls set are (stops why) = rows_refused files env target root set are why
     plan_of_decls set are (goes_on listed lists_them next) = plan_of_rows set are listed lists_them next
 
-    plan_of_root : {answer : Result (List Job) PlanError} → FromRoot files root env target answer → IsPlanOf files root env target answer
+    plan_of_root : {answer : Result (List Job) PlanError} → FromRoot files root env target answer → IsPlanOf files root (build_of env target) answer
     plan_of_root (stops {error = error} (said, are, is)) = settings_refused_of error said are is
     plan_of_root (goes_on set (said, are, is) next) = plan_of_decls set (settings_known set said are is) next
 
@@ -118,11 +118,11 @@ some_plan settings some files env target =
     in
     (found.0, plan_of files env target found.1)
 
-pub some_plan_of : SomeSettings → SomeProject → (files : List File) (root : List Decl) (env target : List ℕ)
-    → (answer : Result (List Job) PlanError) × IsPlanOf files root env target answer
-some_plan_of settings some files root env target =
+pub some_plan_of : SomeSettings → SomeProject → (files : List File) (root : List Decl) (build : Build)
+    → (answer : Result (List Job) PlanError) × IsPlanOf files root build answer
+some_plan_of settings some files root build =
     let found =
-    then_some (Becomes (AreSettings files) settings_answer) (FromDecls files env target root)
-    (becomes_some (AreSettings files) settings_answer (settings files)) (λ set is. some_from_decls some files env target set root)
+    then_some (Becomes (AreSettings files) settings_answer) (FromDecls files build.env build.target root)
+    (becomes_some (AreSettings files) settings_answer (settings files)) (λ set is. some_from_decls some files build.env build.target set root)
     in
-    (found.0, plan_of_root files env target root found.1)
+    (found.0, plan_of_root files build.env build.target root found.1)

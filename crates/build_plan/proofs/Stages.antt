@@ -1,5 +1,5 @@
 -- A plan is met in stages.
-use Rattle.std.proofs.Common.{◌≡◌, ℕ, List, [], Option, Some, None, Result, Ok, Err, refl, sym, subst}
+use Rattle.std.proofs.Common.{ℕ, List, [], Option, Some, None, Result, Ok, Err, refl, sym, subst}
 use Rattle.mx_base.specs.declared.file.File.{File}
 use Rattle.compile_model.specs.declared.job.Job.{Job}
 use Rattle.dep_options.specs.declared.decl.Decl.{Decl}
@@ -13,7 +13,7 @@ use Rattle.project_file.specs.Files.{IsLoaded, AreSettings, manifest_at}
 use Rattle.build_plan.specs.declared.error.PlanError.{PlanError}
 use Rattle.build_plan.specs.declared.error.PlanError.TheVariants as refused
 use Rattle.build_plan.specs.Jobs.{Schedule}
-use Rattle.build_plan.specs.Plan.{Converge, IsPlan, IsPlanOf, IsSchedule}
+use Rattle.build_plan.specs.Plan.{Build, Converge, IsPlan, IsPlanOf, IsSchedule, build_of}
 use Rattle.build_plan.specs.Plan.IsPlan.{settings as root_settings, no_project, project, of_root}
 use Rattle.build_plan.specs.Plan.IsPlanOf.{settings, dependency, too_many, diverged, cycle, too_large, planned}
 use Rattle.build_plan.specs.Stages.{ListsRows, LivesTogether, MakesJobs, Schedules, Then}
@@ -62,42 +62,43 @@ module _ (files : List File) (root : List Decl) (env target : List ℕ) where
       (goes_on listed (lists listed converge.listed.rows converge.listed.few)
       (goes_on listed (record { versions = converge.versions; known = converge.listed.known; together = lives converge.together }) next))
 
-  schedule_of : (schedule : Schedule) → IsSchedule files root env target schedule → Schedules schedule.settings schedule.rows env target (Ok schedule)
+  schedule_of : (schedule : Schedule) → IsSchedule files root (build_of env target) schedule
+      → Schedules schedule.settings schedule.rows env target (Ok schedule)
   schedule_of schedule is =
       subst (λ (t : List ℕ). Schedules schedule.settings schedule.rows env target (Ok (record schedule { target = t }))) (sym is.aimed)
       (orders schedule.places schedule.order is.reached is.ordered)
 
-  from_schedule : (schedule : Schedule) {answer : Result (List Job) PlanError} → IsSchedule files root env target schedule
+  from_schedule : (schedule : Schedule) {answer : Result (List Job) PlanError} → IsSchedule files root (build_of env target) schedule
       → MakesJobs files schedule answer → FromRoot files root env target answer
   from_schedule schedule is made = from_rows schedule.settings schedule.rows is.set is.converge (goes_on schedule (schedule_of schedule is) made)
 
-pub staged_of : {files : List File} {root : List Decl} {env target : List ℕ} {answer : Result (List Job) PlanError}
-    → IsPlanOf files root env target answer → FromRoot files root env target answer
+pub staged_of : {files : List File} {root : List Decl} {build : Build} {answer : Result (List Job) PlanError}
+    → IsPlanOf files root build answer → FromRoot files root build.env build.target answer
 staged_of (settings {error = error} said) = stops (Err error, said, refl)
-staged_of {files = files} {root = root} {env = env} {target = target} (dependency set is met) =
-    from_decls files root env target set is (stops (meets met))
-staged_of {files = files} {root = root} {env = env} {target = target} (too_many set is many) =
-    from_decls files root env target set is (stops (passes many))
-staged_of {files = files} {root = root} {env = env} {target = target} (diverged set listed versions divergences is are apart some said) =
-    from_decls files root env target set is
+staged_of {files = files} {root = root} {build = build} (dependency set is met) =
+    from_decls files root build.env build.target set is (stops (meets met))
+staged_of {files = files} {root = root} {build = build} (too_many set is many) =
+    from_decls files root build.env build.target set is (stops (passes many))
+staged_of {files = files} {root = root} {build = build} (diverged set listed versions divergences is are apart some said) =
+    from_decls files root build.env build.target set is
     (goes_on listed (lists listed are.rows are.few)
     (stops (record { versions = versions; known = are.known; together = diverges divergences apart some said })))
-staged_of {files = files} {root = root} {env = env} {target = target} (cycle set rows places nodes is converge reached around) =
-    from_rows files root env target set rows is converge (stops (circles places nodes reached around))
-staged_of {files = files} {root = root} {env = env} {target = target} (too_large schedule jobs job is first fit large) =
-    from_schedule files root env target schedule is (passes_size jobs job first fit large)
-staged_of {files = files} {root = root} {env = env} {target = target} (planned schedule is first whole fit) =
-    from_schedule files root env target schedule is (makes first whole fit)
+staged_of {files = files} {root = root} {build = build} (cycle set rows places nodes is converge reached around) =
+    from_rows files root build.env build.target set rows is converge (stops (circles places nodes reached around))
+staged_of {files = files} {root = root} {build = build} (too_large schedule jobs job is first fit large) =
+    from_schedule files root build.env build.target schedule is (passes_size jobs job first fit large)
+staged_of {files = files} {root = root} {build = build} (planned schedule is first whole fit) =
+    from_schedule files root build.env build.target schedule is (makes first whole fit)
 
 -- what is met over the root's declarations is met over the files
 of_files : {files : List File} {env target : List ℕ} {answer : Result (List Job) PlanError} (root : Project) → IsLoaded files [] (Ok (Some root))
     → FromRoot files root.decls env target answer → FromFiles files env target answer
-of_files root loaded (stops why) = stops why
-of_files root loaded (goes_on set is next) = goes_on set is (goes_on root (Ok (Some root), loaded, refl) next)
+of_files root reads (stops why) = stops why
+of_files root reads (goes_on set is next) = goes_on set is (goes_on root (Ok (Some root), reads, refl) next)
 
 pub staged : {files : List File} {env target : List ℕ} {answer : Result (List Job) PlanError} → IsPlan files env target answer
     → FromFiles files env target answer
 staged (root_settings {error = error} said) = stops (Err error, said, refl)
 staged (no_project set said none) = goes_on set (Ok set, said, refl) (stops (Ok None, none, refl))
 staged (project set {fault = fault} said why) = goes_on set (Ok set, said, refl) (stops (Err fault, why, refl))
-staged (of_root root loaded plan) = of_files root loaded (staged_of plan)
+staged (of_root root reads plan) = of_files root reads (staged_of plan)

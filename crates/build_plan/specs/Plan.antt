@@ -39,33 +39,41 @@ pub record Converge (files : List File) (root : List Decl) (rows : List Row) : T
   pub listed : AreListed files root (record { rows = rows; winners = winners }) versions
   pub together : NoneDiverges rows winners versions
 
--- what the jobs of root declarations are made of in an environment for a target
-pub record IsSchedule (files : List File) (root : List Decl) (env target : List ℕ) (schedule : Schedule) : Type 0 where
+-- what is built: an environment for a target
+pub record Build : Type 0 where
+  pub env : List ℕ
+  pub target : List ℕ
+
+abbrev pub build_of : List ℕ → List ℕ → Build
+build_of env target = record { env = env; target = target }
+
+-- what the jobs of a build are made of over root declarations
+pub record IsSchedule (files : List File) (root : List Decl) (build : Build) (schedule : Schedule) : Type 0 where
   pub set : AreSettings files (Ok schedule.settings)
-  pub aimed : schedule.target ≡ target
+  pub aimed : schedule.target ≡ build.target
   pub converge : Converge files root schedule.rows
-  pub reached : AreReached schedule.rows env target schedule.places
-  pub ordered : IsOrderOf (graph_of schedule.rows target schedule.places) schedule.order
+  pub reached : AreReached schedule.rows build.env build.target schedule.places
+  pub ordered : IsOrderOf (graph_of schedule.rows build.target schedule.places) schedule.order
 
 -- what is met first over these root declarations: a refusal of the settings, of a dependency or of the number of rows, then
 -- all divergences, a cycle, and the first app past a limit; else the jobs in converged order
-pub data IsPlanOf (files : List File) (root : List Decl) (env target : List ℕ) : Result (List Job) PlanError → Type 0 where
-  settings : {error : SettingsError} → AreSettings files (Err error) → IsPlanOf files root env target (Err (refused.Settings error))
+pub data IsPlanOf (files : List File) (root : List Decl) (build : Build) : Result (List Job) PlanError → Type 0 where
+  settings : {error : SettingsError} → AreSettings files (Err error) → IsPlanOf files root build (Err (refused.Settings error))
   dependency : (settings : Settings) {error : PlanError} → AreSettings files (Ok settings) → Meets (AreChildren files) root error
-      → IsPlanOf files root env target (Err error)
+      → IsPlanOf files root build (Err error)
   too_many : (settings : Settings) → AreSettings files (Ok settings) → PassesLimit (AreChildren files) root
-      → IsPlanOf files root env target (Err refused.TooManyRows)
+      → IsPlanOf files root build (Err refused.TooManyRows)
   diverged : (settings : Settings) (listed : Listed) (versions : List (Option Parts)) (divergences : List Divergence) {lines : List DivergedLine}
       → AreSettings files (Ok settings) → AreListed files root listed versions → AreDivergences listed.rows listed.winners versions divergences
-      → 0 < length divergences → AreLines listed.rows divergences lines → IsPlanOf files root env target (Err (refused.Diverged lines))
+      → 0 < length divergences → AreLines listed.rows divergences lines → IsPlanOf files root build (Err (refused.Diverged lines))
   cycle : (settings : Settings) (rows : List Row) (places nodes : List ℕ) → AreSettings files (Ok settings) → Converge files root rows
-      → AreReached rows env target places → IsCycleOf (graph_of rows target places) nodes
-      → IsPlanOf files root env target (Err (refused.Cycle (apps_of rows places nodes)))
-  too_large : (schedule : Schedule) (jobs : List Job) (job : Job) → IsSchedule files root env target schedule
+      → AreReached rows build.env build.target places → IsCycleOf (graph_of rows build.target places) nodes
+      → IsPlanOf files root build (Err (refused.Cycle (apps_of rows places nodes)))
+  too_large : (schedule : Schedule) (jobs : List Job) (job : Job) → IsSchedule files root build schedule
       → AreFirstJobs files schedule (jobs ++ job ∷ []) → AllFit jobs → IsTrue (is_too_large jobs job)
-      → IsPlanOf files root env target (Err (refused.TooLarge job.app))
-  planned : (schedule : Schedule) {jobs : List Job} → IsSchedule files root env target schedule → AreFirstJobs files schedule jobs
-      → length jobs ≡ length schedule.order → AllFit jobs → IsPlanOf files root env target (Ok jobs)
+      → IsPlanOf files root build (Err (refused.TooLarge job.app))
+  planned : (schedule : Schedule) {jobs : List Job} → IsSchedule files root build schedule → AreFirstJobs files schedule jobs
+      → length jobs ≡ length schedule.order → AllFit jobs → IsPlanOf files root build (Ok jobs)
 
 -- what is met first: a refusal of the settings, of the root, and then what is met over the root's declarations
 pub data IsPlan (files : List File) (env target : List ℕ) : Result (List Job) PlanError → Type 0 where
@@ -73,5 +81,5 @@ pub data IsPlan (files : List File) (env target : List ℕ) : Result (List Job) 
   no_project : (settings : Settings) → AreSettings files (Ok settings) → IsLoaded files [] (Ok None) → IsPlan files env target (Err refused.NoProject)
   project : (settings : Settings) {fault : ProjectError} → AreSettings files (Ok settings) → IsLoaded files [] (Err fault)
       → IsPlan files env target (Err (refused.Project (manifest_at []) fault))
-  of_root : (root : Project) {answer : Result (List Job) PlanError} → IsLoaded files [] (Ok (Some root)) → IsPlanOf files root.decls env target answer
-      → IsPlan files env target answer
+  of_root : (root : Project) {answer : Result (List Job) PlanError} → IsLoaded files [] (Ok (Some root))
+      → IsPlanOf files root.decls (build_of env target) answer → IsPlan files env target answer

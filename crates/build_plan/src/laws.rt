@@ -3,7 +3,7 @@ ghost use Rattle.std.specs.Prelude.{◌≡◌, ℕ, List, Result};
 ghost use Rattle.mx_base.specs.declared.file.File.{File};
 ghost use Rattle.dep_options.specs.declared.decl.Decl.{Decl};
 ghost use Rattle.compile_model.specs.declared.job.Job.{Job};
-ghost use Rattle.build_plan.specs.Plan.{IsPlan, IsPlanOf};
+ghost use Rattle.build_plan.specs.Plan.{Build, IsPlan, IsPlanOf};
 ghost use Rattle.build_plan.specs.declared.error.PlanError.{PlanError};
 
 use project_file::{one_project, one_settings, some_project, some_settings};
@@ -29,10 +29,9 @@ pub fn some_plan()
 
 /// The same of any root declarations: one plan, or one refusal.
 pub fn one_plan_of()
-    ensures { (files : List File) (root : List Decl) (env target : List ℕ)
+    ensures { (files : List File) (root : List Decl) (build : Build)
         (one other : Result (List Job) PlanError)
-        → IsPlanOf files root env target one → IsPlanOf files root env target other
-        → one ≡ other }
+        → IsPlanOf files root build one → IsPlanOf files root build other → one ≡ other }
 {
     one_settings();
     one_project();
@@ -40,8 +39,8 @@ pub fn one_plan_of()
 
 /// And a plan or a refusal.
 pub fn some_plan_of()
-    ensures { (files : List File) (root : List Decl) (env target : List ℕ)
-        → (answer : Result (List Job) PlanError) × IsPlanOf files root env target answer }
+    ensures { (files : List File) (root : List Decl) (build : Build)
+        → (answer : Result (List Job) PlanError) × IsPlanOf files root build answer }
 {
     some_settings();
     some_project();

@@ -1,6 +1,6 @@
 // What the apps that are reached need directly, for a target.
 ghost use Rattle.std.specs.Prelude.{◌≡◌, ◌==◌, ◌<◌, ◌++◌, [], ◌∷◌, ℕ, length, replicate, IfOk, OnOk, IfNone, IfSome, IsFalse, slice_index, if◌then◌else◌, nat_eq, false};
-ghost use Rattle.std.specs.List.{All, AllPairs};
+ghost use Rattle.std.specs.List.{AllPairs};
 ghost use Rattle.mx_base.specs.Blame.{AnswersBy, fails, is_outside};
 ghost use Rattle.mx_base.specs.Blame.Blame.{Input};
 ghost use Rattle.dep_order.specs.Graph.{needs_of};

@@ -11,7 +11,7 @@ ghost use Rattle.project_file.specs.Files.{AreSettings};
 ghost use Rattle.build_plan.specs.Blame.{blame_of};
 ghost use Rattle.build_plan.specs.Found.{AreFoundFor, IsFound};
 ghost use Rattle.build_plan.specs.Jobs.{AllFit};
-ghost use Rattle.build_plan.specs.Plan.{IsPlan, IsPlanOf};
+ghost use Rattle.build_plan.specs.Plan.{IsPlan, IsPlanOf, build_of};
 ghost use Rattle.build_plan.specs.Stages.{LiveWith, LivesTogether, MakesJobs, Schedules, Then};
 
 use crate::dependencies::dependencies;
@@ -26,7 +26,7 @@ use compile_model::{Job, Jobs, Plan};
 use converger::{ConvergeError, Converged, converge, divergences};
 use dep_options::Decl;
 use dep_rows::Rows;
-use mx_base::{AppName, build_name};
+use mx_base::{AppName, NameError, build_name};
 use project_file::Settings;
 use semver::Version;
 use std::alloc::{AllocError, Global};
@@ -77,7 +77,8 @@ pub fn plan_of<S: Store>(
     ensures planned { IfOk result (λ plan. ArePlanned plan.jobs) }
     ensures fit { IfOk result (λ plan. AllFit plan.jobs) }
     ensures answer { AnswersBy (λ plan. plan.jobs) blame_of result
-        (Told (S.known store.old) (λ files. IsPlanOf files root.now env.now target.now)) }
+        (Told (S.known store.old)
+        (λ files. IsPlanOf files root.now (build_of env.now target.now))) }
     // Nothing is written.
     ensures reads { OnlyReads (S.known store.old) (S.known store.new) (fails blame_of result) }
 {
@@ -98,7 +99,7 @@ fn planned<S: Store>(
     ensures name { IfOk result (λ plan. plan.env ≡ build_name env.now target.now) }
     ensures answer { AnswersBy (λ plan. plan.jobs) blame_of result (Told (S.known store.old)
         (λ files answer. AreSettings files (Ok settings.now)
-        → IsPlanOf files root.now env.now target.now answer)) }
+        → IsPlanOf files root.now (build_of env.now target.now) answer)) }
     ensures planned { IfOk result (λ plan. ArePlanned plan.jobs) }
     ensures fit { IfOk result (λ plan. AllFit plan.jobs) }
     ensures reads { OnlyReads (S.known store.old) (S.known store.new) (fails blame_of result) }
@@ -111,15 +112,17 @@ fn planned<S: Store>(
     })
 }
 
-/// The name of the build, which is short enough.
+/// The name of the build, which has one.
 fn name_of(alloc: Global, env: &AppName, target: &AppName) -> Result<AppName, AllocError>
     requires { HasBuildName env.now target.now }
     ensures { IfOk result (λ name. name ≡ build_name env.now target.now) }
 {
     match build_name(alloc, env, target) {
         Ok(name) => Ok(name),
-        // The name isn't too long, so memory ran out.
-        Err(_) => Err(AllocError),
+        Err(NameError::OutOfMemory) => Err(AllocError),
+        Err(NameError::Empty) => unreachable!(),
+        Err(NameError::TooLong) => unreachable!(),
+        Err(NameError::BadByte { .. }) => unreachable!(),
     }
 }
 
@@ -134,7 +137,7 @@ fn jobs_of<S: Store>(
 ) -> Result<Vec<Job>, PlanError>
     ensures answer { AnswersBy (λ jobs. jobs.items) blame_of result (Told (S.known store.old)
         (λ files answer. AreSettings files (Ok settings.now)
-        → IsPlanOf files root.now env.now target.now answer)) }
+        → IsPlanOf files root.now (build_of env.now target.now) answer)) }
     ensures planned { IfOk result (λ jobs. ArePlanned jobs.items) }
     ensures fit { IfOk result (λ jobs. AllFit jobs.items) }
     ensures reads { OnlyReads (S.known store.old) (S.known store.new) (fails blame_of result) }

@@ -1,6 +1,6 @@
 // How a dependency is compiled.
 ghost use Rattle.std.specs.Prelude.{◌≡◌, IfOk};
-ghost use Rattle.build_plan.specs.Recipes.{IsRecipe, how_among, manager_among};
+ghost use Rattle.build_plan.specs.Recipes.{IsRecipe, manager_among};
 
 use crate::options::options_text;
 use crate::post::Post;

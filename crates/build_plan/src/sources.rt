@@ -1,5 +1,5 @@
 // The source files of a dependency.
-ghost use Rattle.std.specs.Prelude.{◌≡◌, ◌≤◌, length, codes, IfOk, IfSome, IsFalse};
+ghost use Rattle.std.specs.Prelude.{◌≡◌, ◌≤◌, length, IfOk, IfSome, IsFalse};
 ghost use Rattle.mx_base.specs.Blame.{fails};
 ghost use Rattle.mx_base.specs.Order.{bytes_at};
 ghost use Rattle.mx_base.specs.Path.{child_of};

@@ -45,9 +45,9 @@ impl<T: Drop> From<AllocFailed<T>> for StoreFault {
 }
 
 /// The files of a project, and its builds, of which some are out as folders. Folders need not be
-/// `Drop`, so code over any store can't let one go: it gives each back. They may cross threads.
+/// `Drop`, so code over any store can't let one go: it gives each back.
 pub trait Store {
-    type F: Folder + Send;
+    type F: Folder;
 
     /// Its files and builds, and what failed so far. The counts never fall.
     ghost known: { Self → Known };
@@ -97,12 +97,7 @@ pub trait Store {
         ensures reads { OnlyReads (known self.old) (known self.new) (fails blame_of result) };
 
     /// Hands out the folder of a build, which is then out.
-    fn folder(
-        &mut self,
-        alloc: Global,
-        env: &AppName,
-        app: &AppName,
-    ) -> Result<Self::F, StoreFault>
+    fn folder(&mut self, alloc: Global, env: &AppName, app: &AppName) -> Result<Self::F, StoreFault>
         requires { (known self.old).slot (record { env = env.now; app = app.now }) ≡ Out → ⊥ }
         ensures folder { IfOk result (λ folder. IsLent (record { env = env.now; app = app.now })
             ((known self.old).slot (record { env = env.now; app = app.now }))

@@ -1,4 +1,4 @@
-use Rattle.std.proofs.Common.{◌≡◌, List, Option, IfSome, All, sym, ◌∙◌, ap, subst}
+use Rattle.std.proofs.Common.{List, Option, IfSome, All, sym, subst}
 use Rattle.std.proofs.lemmas.Result.{err_from_is_err_and}
 use Rattle.mx_base.specs.Blame.{is_outside}
 use Rattle.mx_base.specs.Causes.{Counted}
@@ -7,7 +7,7 @@ use Rattle.build_plan.specs.Blame.{blame_of}
 use Rattle.build_plan.specs.Found.{IsFound}
 use Rattle.build_plan.specs.Kept.{RefusesWinner}
 use Rattle.build_plan.specs.Refusals.{of_rows}
-use Rattle.build_plan.proofs.ReadLemmas.{made_reads, made_reference, made_sources, read_before}
+use Rattle.build_plan.proofs.ReadLemmas.{made_reads, made_reference, made_sources}
 use Rattle.build_plan.proofs.WinnerLemmas.{if_lists, if_refuses, refused_later, rows_blamed}
 use Rattle.build_plan.proofs.dependencies.take_stock.Goals as goal
 

@@ -1,16 +1,15 @@
-use Rattle.std.proofs.Common.{◌≡◌, List, Option, IfSome, All, Result, Ok, Err, sym, subst, Vec}
+use Rattle.std.proofs.Common.{List, Option, IfSome, All, Ok, sym, subst, Vec}
 use Rattle.std.proofs.lemmas.Result.{err_from_is_err_and}
 use Rattle.mx_base.specs.declared.file.File.{File}
 use Rattle.std.specs.declared.alloc.Global.{Global}
 use Rattle.compile_model.specs.declared.job.Job.{Job}
 use Rattle.dep_rows.specs.Listed.{Listed}
-use Rattle.build_plan.specs.declared.error.PlanError.{PlanError}
 use Rattle.build_plan.specs.declared.found.Found.{Found}
 use Rattle.build_plan.specs.Blame.{blame_of}
 use Rattle.build_plan.specs.Found.{IsFound}
 use Rattle.project_file.specs.Files.{AreSettings}
-use Rattle.build_plan.specs.Plan.{IsPlanOf}
-use Rattle.build_plan.specs.Stages.{ListsRows, LivesTogether, MakesJobs, Schedules, Then}
+use Rattle.build_plan.specs.Plan.{IsPlanOf, build_of}
+use Rattle.build_plan.specs.Stages.{MakesJobs, Schedules, Then}
 use Rattle.build_plan.proofs.PlanLemmas.{if_rows_refused, if_diverged, if_jobs}
 use Rattle.build_plan.proofs.ReadLemmas.{answers_by_as, same_sources}
 use Rattle.build_plan.proofs.planning.jobs_of.Goals as goal
@@ -48,7 +47,7 @@ returns-clause-answer g c =
     let are = c.in_ok-all.ensures.answer in
     answers_by_as (λ (jobs : Vec Job Global). jobs.items) blame_of
     (λ answer. IfSome (g.S.Store.known c.dependencies.new.store).sources (λ files. Then (Schedules settings live.rows env target) (MakesJobs files) answer))
-    (λ answer. IfSome told (λ files. AreSettings files (Ok settings) → IsPlanOf files root env target answer))
+    (λ answer. IfSome told (λ files. AreSettings files (Ok settings) → IsPlanOf files root (build_of env target) answer))
     c.jobs_for.result
     (λ answer made.
     if_jobs env target settings root told listed live c.in_ok-all.all.found.items answer are c.in_ok-all.ensures.found

@@ -5,7 +5,7 @@ use Rattle.compile_model.specs.declared.job.Plan.{Plan}
 use Rattle.dep_options.specs.declared.decl.Decl.{Decl}
 use Rattle.project_file.specs.Files.{AreSettings}
 use Rattle.build_plan.specs.Blame.{blame_of}
-use Rattle.build_plan.specs.Plan.{IsPlan, IsPlanOf}
+use Rattle.build_plan.specs.Plan.{IsPlan, IsPlanOf, build_of}
 use Rattle.build_plan.specs.Stages.{HasRoot}
 use Rattle.build_plan.proofs.PlanLemmas.{if_settings_refused, if_root_refused, if_root}
 use Rattle.build_plan.proofs.ReadLemmas.{answers_by_as, read_before, same_sources}
@@ -39,12 +39,12 @@ returns-clause-answer g c =
     c.in_ok-root.ensures.answer in
     let after = same_sources (read_before c.in_ok-settings.ensures.reads c.in_ok-root.ensures.reads) in
     answers_by_as (λ (plan : Plan). plan.jobs) blame_of
-    (λ answer. IfSome seen (λ files. AreSettings files (Ok settings) → IsPlanOf files c.as_slice.result.now env target answer))
+    (λ answer. IfSome seen (λ files. AreSettings files (Ok settings) → IsPlanOf files c.as_slice.result.now (build_of env target) answer))
     (λ answer. IfSome told (λ files. IsPlan files env target answer))
     c.planned.result
     (λ answer made.
     if_root told env target settings root answer c.in_ok-settings.ensures.answer loaded
-    (subst (λ (o : Option (List File)). IfSome o (λ files. AreSettings files (Ok settings) → IsPlanOf files root.decls env target answer)) after
-    (subst (λ (decls : List Decl). IfSome seen (λ files. AreSettings files (Ok settings) → IsPlanOf files decls env target answer))
+    (subst (λ (o : Option (List File)). IfSome o (λ files. AreSettings files (Ok settings) → IsPlanOf files root.decls (build_of env target) answer)) after
+    (subst (λ (decls : List Decl). IfSome seen (λ files. AreSettings files (Ok settings) → IsPlanOf files decls (build_of env target) answer))
     c.as_slice.ensures made)))
     c.planned.ensures.answer

@@ -4,7 +4,7 @@ use Rattle.mx_base.specs.declared.file.File.{File}
 use Rattle.compile_model.specs.declared.job.Plan.{Plan}
 use Rattle.project_file.specs.Files.{AreSettings}
 use Rattle.build_plan.specs.Blame.{blame_of}
-use Rattle.build_plan.specs.Plan.{IsPlanOf}
+use Rattle.build_plan.specs.Plan.{IsPlanOf, build_of}
 use Rattle.build_plan.proofs.PlanLemmas.{if_settings_refused_of, if_set}
 use Rattle.build_plan.proofs.ReadLemmas.{answers_by_as, same_sources}
 use Rattle.build_plan.proofs.planning.plan_of.Goals as goal
@@ -25,11 +25,11 @@ returns-clause-answer g c =
     let settings = c.in_ok-settings.settings in
     answers_by_as (λ (plan : Plan). plan.jobs) blame_of
     (λ answer. IfSome (g.S.Store.known c.settings.new.store).sources
-    (λ files. AreSettings files (Ok settings) → IsPlanOf files root env target answer))
-    (λ answer. IfSome told (λ files. IsPlanOf files root env target answer))
+    (λ files. AreSettings files (Ok settings) → IsPlanOf files root (build_of env target) answer))
+    (λ answer. IfSome told (λ files. IsPlanOf files root (build_of env target) answer))
     c.planned.result
     (λ answer made.
     if_set told root env target settings answer c.in_ok-settings.ensures.answer
-    (subst (λ (o : Option (List File)). IfSome o (λ files. AreSettings files (Ok settings) → IsPlanOf files root env target answer))
+    (subst (λ (o : Option (List File)). IfSome o (λ files. AreSettings files (Ok settings) → IsPlanOf files root (build_of env target) answer))
     (same_sources c.in_ok-settings.ensures.reads) made))
     c.planned.ensures.answer

@@ -1,8 +1,8 @@
-use Rattle.std.proofs.Common.{List, IfSome, Ok, Err, sym, subst}
+use Rattle.std.proofs.Common.{List, IfSome, Ok, sym, subst}
 use Rattle.std.proofs.lemmas.Result.{err_from_is_err_and}
 use Rattle.compile_model.specs.declared.job.Job.{Job}
 use Rattle.project_file.specs.Files.{AreSettings}
-use Rattle.build_plan.specs.Plan.{IsPlanOf}
+use Rattle.build_plan.specs.Plan.{IsPlanOf, build_of}
 use Rattle.build_plan.proofs.planning.planned.Goals as goal
 
 pub returns-in_err-jobs-clause-answer : goal.returns-in_err-jobs-clause-answer
@@ -14,4 +14,4 @@ pub returns-clause-answer : goal.returns-clause-answer
 returns-clause-answer g c =
     let told = (g.S.Store.known c.args.store.now).sources in
     subst (λ (all : List Job). IfSome told (λ files. AreSettings files (Ok c.args.settings.now)
-    → IsPlanOf files c.args.root.now c.args.env.now c.args.target.now (Ok all))) (sym c.from_vec.ensures) c.in_ok-jobs.ensures.answer
+    → IsPlanOf files c.args.root.now (build_of c.args.env.now c.args.target.now) (Ok all))) (sym c.from_vec.ensures) c.in_ok-jobs.ensures.answer

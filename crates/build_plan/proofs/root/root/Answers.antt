@@ -1,4 +1,4 @@
-use Rattle.std.proofs.Common.{◌≡◌, List, [], Err, IfSome, ◌∙◌, ap, subst}
+use Rattle.std.proofs.Common.{◌≡◌, [], Err, IfSome, ◌∙◌, ap, subst}
 use Rattle.mx_base.specs.Blame.Blame.{Input}
 use Rattle.project_file.specs.Blame.{project_blame}
 use Rattle.project_file.specs.Files.{IsLoaded, manifest_at}

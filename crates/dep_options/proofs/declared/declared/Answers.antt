@@ -17,8 +17,7 @@ invariant_of-result c =
 pub returns : goal.returns
 returns c =
     let made = decl_of c.args.base.now c.args.app c.args.requirement (named c.args.options.now) in
-    rw
-    (
+    rw (
       c.in_ok-environments.ensures,
       c.in_ok-targets.ensures,
       c.in_ok-environment.ensures,
