@@ -7,11 +7,12 @@ use Rattle.compile_model.specs.Content.{Content}
 use Rattle.tree_store.specs.declared.key.BuildKey.{BuildKey}
 use Rattle.tree_store.specs.Known.{Known}
 use Rattle.tree_store.specs.Slot.{Slot}
+use Rattle.build_plan.specs.Plan.{Build, build_of}
 use Rattle.mix_main.specs.declared.command.Command.{Command}
 use Rattle.mix_main.specs.declared.command.Command.TheVariants as command
 use Rattle.mix_main.specs.declared.command.WordsError.{WordsError}
 use Rattle.mix_main.specs.declared.command.WordsError.TheVariants as why
-use Rattle.mix_main.specs.Compile.{Build, Compiles, IsPlanFor, MayStand, Stands, Works, build_of}
+use Rattle.mix_main.specs.Compile.{Compiles, IsPlanFor, MayStand, Stands, Works}
 use Rattle.mix_main.specs.Compile.Compiles.{refused, unread, unplanned, planned}
 use Rattle.mix_main.specs.Compile.MayStand.{part, begun}
 use Rattle.mix_main.specs.Compile.Stands.{part as some, begun as first}

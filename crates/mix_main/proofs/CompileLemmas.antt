@@ -16,14 +16,14 @@ use Rattle.tree_store.specs.Known.{Known, OnlyReads, Told}
 use Rattle.tree_store.specs.Slot.{Slot}
 use Rattle.build_plan.specs.Blame.{blame_of}
 use Rattle.build_plan.specs.declared.error.PlanError.{PlanError}
-use Rattle.build_plan.specs.Plan.{IsPlan}
+use Rattle.build_plan.specs.Plan.{Build, IsPlan}
 use Rattle.mix_report.specs.Report.{report}
 use Rattle.mix_main.specs.declared.status.Status.{Status}
 use Rattle.mix_main.specs.declared.answer.Answer.{Answer}
 use Rattle.mix_main.specs.declared.answer.Stop.{Stop}
 use Rattle.mix_main.specs.declared.answer.Stop.TheVariants as stop
 use Rattle.mix_main.specs.Answer.{Fails, reply_in}
-use Rattle.mix_main.specs.Compile.{Build, Builds, Compiles, status_by}
+use Rattle.mix_main.specs.Compile.{Builds, Compiles, status_by}
 use Rattle.mix_main.specs.Compile.Builds.{built, read_fault, tree_fault, no_memory}
 use Rattle.mix_main.specs.Compile.Compiles.{refused, unread, unplanned}
 use Rattle.mix_main.specs.Filling.{filled_by, BeginsEnv}

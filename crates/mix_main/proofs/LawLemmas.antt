@@ -9,12 +9,12 @@ use Rattle.compile_model.specs.declared.outcome.Outcome.{Outcome}
 use Rattle.compile_model.specs.Content.{Content}
 use Rattle.tree_store.specs.Known.{Known, Told}
 use Rattle.build_plan.specs.declared.error.PlanError.{PlanError}
-use Rattle.build_plan.specs.Plan.{IsPlan}
+use Rattle.build_plan.specs.Plan.{IsPlan, build_of}
 use Rattle.mix_main.specs.declared.command.Command.{Command}
 use Rattle.mix_main.specs.declared.command.Command.TheVariants as command
 use Rattle.mix_main.specs.declared.command.WordsError.{WordsError}
 use Rattle.mix_main.specs.declared.status.Status.{Status}
-use Rattle.mix_main.specs.Compile.{Built, Builds, Compiles, IsPlanFor, build_of}
+use Rattle.mix_main.specs.Compile.{Built, Builds, Compiles, IsPlanFor}
 use Rattle.mix_main.specs.Compile.Builds.{built, read_fault, tree_fault, died, no_memory}
 use Rattle.mix_main.specs.Compile.Compiles.{refused, unread, unplanned, planned}
 use Rattle.mix_main.specs.Ends.{Comes, Says}

@@ -30,6 +30,10 @@ pub on_err : {T E : Type 0} (r : Result T E) (P : Type 0) → P → OnErr r P
 on_err (Ok x) P holds = tt
 on_err (Err e) P holds = holds
 
+pub map_err : {T E : Type 0} (r : Result T E) (P Q : Type 0) → (P → Q) → OnErr r P → OnErr r Q
+map_err (Ok x) P Q step holds = tt
+map_err (Err e) P Q step holds = step holds
+
 here_same : (a b : Option Holding) → Here a ≡ Here b → a ≡ b
 here_same a b e = cc
 

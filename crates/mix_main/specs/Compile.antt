@@ -15,7 +15,7 @@ use Rattle.tree_store.specs.Known.{Known, Told}
 use Rattle.tree_store.specs.Slot.{Slot}
 use Rattle.build_plan.specs.Blame.{blame_of}
 use Rattle.build_plan.specs.declared.error.PlanError.{PlanError}
-use Rattle.build_plan.specs.Plan.{IsPlan}
+use Rattle.build_plan.specs.Plan.{Build, IsPlan}
 use Rattle.mix_report.specs.Report.{report, is_failed}
 use Rattle.mix_main.specs.declared.status.Status.{Status}
 use Rattle.mix_main.specs.declared.status.Status.TheVariants.{Done, SomeFailed, ReadFault, TreeFault, Died, OutOfMemory}
@@ -24,14 +24,6 @@ use Rattle.mix_main.specs.Reply.{Reply}
 use Rattle.mix_main.specs.Texts.{read_fault_line, tree_fault_line, died_line, memory_line, refusal_line}
 use Rattle.mix_main.specs.Tree.{ClearsEnv, EachLeavesPart, FillsPartly, LeavesTree, StaysElsewhere}
 use Rattle.mix_main.specs.World.{Calm, Passage}
-
--- what is built: an environment for a target
-pub record Build : Type 0 where
-  pub env : List ℕ
-  pub target : List ℕ
-
-abbrev pub build_of : List ℕ → List ℕ → Build
-build_of env target = record { env = env; target = target }
 
 -- 1 where a job failed
 abbrev pub status_by : List Fate → Status

@@ -5,12 +5,13 @@ use Rattle.mx_base.specs.Causes.{Rose}
 use Rattle.mx_base.specs.Sink.{Sunk, with_bytes}
 use Rattle.compile_model.specs.declared.outcome.Outcome.{Outcome}
 use Rattle.compile_model.specs.Content.{Content}
+use Rattle.build_plan.specs.Plan.{build_of}
 use Rattle.mix_main.specs.declared.command.Command.{Command}
 use Rattle.mix_main.specs.declared.command.Command.TheVariants as command
 use Rattle.mix_main.specs.declared.command.WordsError.TheVariants as why
 use Rattle.mix_main.specs.declared.status.Status.{Status}
 use Rattle.mix_main.specs.declared.status.Status.TheVariants.{BadWords, OutOfMemory, WriteFault}
-use Rattle.mix_main.specs.Compile.{Compiles, build_of}
+use Rattle.mix_main.specs.Compile.{Compiles}
 use Rattle.mix_main.specs.Help.{Helps}
 use Rattle.mix_main.specs.Reply.{Reply}
 use Rattle.mix_main.specs.Texts.{bad_words_line, memory_line}

@@ -2,8 +2,9 @@
 ghost use Rattle.std.specs.Prelude.{◌≡◌, map, string_bytes};
 ghost use Rattle.mx_base.specs.BuildName.{HasBuildName, build_name, host};
 ghost use Rattle.tree_store.specs.Slot.{AllHere};
+ghost use Rattle.build_plan.specs.Plan.{build_of};
 ghost use Rattle.mix_main.specs.Answer.{reply_in, status_in, text_in};
-ghost use Rattle.mix_main.specs.Compile.{Compiles, MayStand, build_of};
+ghost use Rattle.mix_main.specs.Compile.{Compiles, MayStand};
 ghost use Rattle.mix_main.specs.Ends.{Comes, Does, Ends, IsNamed, Misread, Says};
 ghost use Rattle.mix_main.specs.Tree.{StaysElsewhere};
 ghost use Rattle.mix_main.specs.Words.{dev};
@@ -70,6 +71,7 @@ pub fn plain_compile<S: Store, C: Compiler, K: Sink>(
 }
 
 // What the words come to.
+#[tactic(auto, using(crate::proofs::CallLemmas::asks_named))]
 fn answer<S: Store, C: Compiler>(
     alloc: Global,
     words: &[String],

@@ -1,11 +1,13 @@
 // The command `deps.compile`.
 ghost use Rattle.std.specs.Prelude.{◌≡◌, length, IfOk, OnOk};
+ghost use Rattle.std.specs.List.{list_any};
 ghost use Rattle.mx_base.specs.BuildName.{HasBuildName};
 ghost use Rattle.compile_model.specs.Planned.{ArePlanned};
 ghost use Rattle.tree_store.specs.declared.key.BuildKey.{BuildKey};
 ghost use Rattle.tree_store.specs.Slot.{AllHere};
+ghost use Rattle.build_plan.specs.Plan.{build_of};
 ghost use Rattle.mix_main.specs.Answer.{Fails, reply_in};
-ghost use Rattle.mix_main.specs.Compile.{Builds, Compiles, Stands, build_of, status_by};
+ghost use Rattle.mix_main.specs.Compile.{Builds, Compiles, Stands, status_by};
 ghost use Rattle.mix_main.specs.Filling.{BeginsEnv, filled_by};
 ghost use Rattle.mix_main.specs.Tree.{StaysElsewhere};
 ghost use Rattle.mix_main.specs.World.{Keeps, passage_of, site_of};
@@ -98,11 +100,17 @@ fn finish<S: Store>(
 fn status_by(fates: &[Fate]) -> Status
     ensures { result ≡ status_by fates.now }
 {
-    if fates.iter().any(|fate| is_failed(fate)) {
+    if any_failed(fates) {
         Status::SomeFailed
     } else {
         Status::Done
     }
+}
+
+fn any_failed(fates: &[Fate]) -> bool
+    ensures { result ≡ list_any is_failed fates.now }
+{
+    fates.iter().any(|fate| is_failed(fate))
 }
 
 fn is_failed(fate: &Fate) -> bool

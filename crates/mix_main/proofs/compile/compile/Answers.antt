@@ -1,5 +1,5 @@
 use Rattle.std.proofs.Common.{refl}
-use Rattle.mix_main.specs.Compile.{build_of}
+use Rattle.build_plan.specs.Plan.{build_of}
 use Rattle.mix_main.specs.Compile.Compiles.{planned}
 use Rattle.mix_main.proofs.CompileLemmas.{only_read, refuse_ends}
 use Rattle.mix_main.proofs.compile.compile.Goals as goal
