@@ -1,5 +1,5 @@
 -- What stands after a call, however it ended.
-use Rattle.std.proofs.Common.{◌≡◌, ℕ, Bool, true, false, cond, List, [], ◌∷◌, Result, Ok, Err, codes, bytes_eq, ap, arith, subst, sym}
+use Rattle.std.proofs.Common.{◌≡◌, ℕ, Bool, true, false, cond, List, [], ◌∷◌, Ok, Err, codes, bytes_eq, ap, arith, subst, sym}
 use Rattle.mx_base.specs.BuildName.{HasBuildName, build_name, host}
 use Rattle.compile_model.specs.declared.job.Plan.{Plan}
 use Rattle.compile_model.specs.declared.outcome.Outcome.{Outcome}
@@ -10,13 +10,12 @@ use Rattle.tree_store.specs.Slot.{Slot}
 use Rattle.build_plan.specs.Plan.{Build, build_of}
 use Rattle.mix_main.specs.declared.command.Command.{Command}
 use Rattle.mix_main.specs.declared.command.Command.TheVariants as command
-use Rattle.mix_main.specs.declared.command.WordsError.{WordsError}
 use Rattle.mix_main.specs.declared.command.WordsError.TheVariants as why
 use Rattle.mix_main.specs.Compile.{Compiles, IsPlanFor, MayStand, Stands, Works}
 use Rattle.mix_main.specs.Compile.Compiles.{refused, unread, unplanned, planned}
 use Rattle.mix_main.specs.Compile.MayStand.{part, begun}
 use Rattle.mix_main.specs.Compile.Stands.{part as some, begun as first}
-use Rattle.mix_main.specs.Ends.{Comes, Does, IsNamed, Misread}
+use Rattle.mix_main.specs.Ends.{Comes, IsNamed, Misread}
 use Rattle.mix_main.specs.Ends.Comes.{refused as misread, asked, unread as unheard}
 use Rattle.mix_main.specs.Ends.Misread.{bad_words, no_memory as unsaid}
 use Rattle.mix_main.specs.Help.{Helps}

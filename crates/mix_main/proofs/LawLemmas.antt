@@ -20,7 +20,7 @@ use Rattle.mix_main.specs.Compile.Compiles.{refused, unread, unplanned, planned}
 use Rattle.mix_main.specs.Ends.{Comes, Says}
 use Rattle.mix_main.specs.Ends.Comes.{refused as misread, asked, unread as unheard}
 use Rattle.mix_main.specs.Ends.Says.{said, cut}
-use Rattle.mix_main.specs.Laws.{BadWordsChangeNothing, Compiling, EndsBuilt, EndsRefused, NoneRose, PlansAreBuilt, RefusedFilesAreRefused, RefusedFilesLeaveTheTree}
+use Rattle.mix_main.specs.Laws.{BadWordsChangeNothing, EndsBuilt, EndsRefused, NoneRose, PlansAreBuilt, RefusedFilesAreRefused, RefusedFilesLeaveTheTree}
 use Rattle.mix_main.specs.Laws.EndsBuilt.{built as ends_built, no_memory as built_unsaid}
 use Rattle.mix_main.specs.Laws.EndsRefused.{refused as ends_refused, no_memory as refused_unsaid}
 use Rattle.mix_main.specs.Reply.{Reply, reply_of}

@@ -1,13 +1,10 @@
 -- What stands in a build after an error.
-use Rattle.std.proofs.Common.{◌≡◌, ◌⊎◌, inl, inr, ℕ, suc, ◌+◌, ◌<◌, Bool, true, false, not, ◌&&◌, cond, Option, Some, None, option_map, List, [], ◌∷◌, ◌++◌, length, get_or, take, drop, filter, map, bytes_eq, refl, sym, ◌∙◌, ap, subst, drop-cons, Result, Ok, Err, OnErr}
-use Rattle.std.proofs.lemmas.List.{append-nil, take-append-drop, take_more}
+use Rattle.std.proofs.Common.{◌≡◌, ◌⊎◌, inl, inr, ℕ, suc, ◌<◌, Bool, true, false, not, cond, Option, Some, None, option_map, List, [], ◌∷◌, length, get_or, take, drop, map, bytes_eq, refl, sym, ◌∙◌, ap, subst, drop-cons, Result, Ok, Err, OnErr}
+use Rattle.std.proofs.lemmas.List.{append-nil}
 use Rattle.std.proofs.Math.Seq.{take-length}
-use Rattle.std.specs.declared.cmp.Ordering.{Ordering}
-use Rattle.std.specs.declared.cmp.Ordering.TheVariants.{Less}
-use Rattle.std.specs.Ordering.{match_ordering, is_eq}
 use Rattle.std.specs.List.{AllByRecursion, list_any}
 use Rattle.mx_base.specs.declared.file.File.{File}
-use Rattle.mx_base.specs.Order.{text_cmp, IsBefore, AreInOrder, paths_of}
+use Rattle.mx_base.specs.Order.{AreInOrder}
 use Rattle.compile_model.specs.declared.job.Job.{Job}
 use Rattle.compile_model.specs.declared.outcome.Fate.{Fate}
 use Rattle.compile_model.specs.declared.outcome.Fate.TheVariants.{Built, Failed, Skipped}
@@ -21,7 +18,7 @@ use Rattle.tree_store.specs.Slot.Slot.{Here, Out}
 use Rattle.tree_store.proofs.FilesLemmas.{put_all_in_order}
 use Rattle.tree_store.proofs.OrderLemmas.{same_name}
 use Rattle.tree_store.proofs.StoreLemmas.{one_key}
-use Rattle.mix_main.specs.Tree.{is_same_text, is_in_env, files_of, app_files, ClearsEnv, LeavesTree, cut_file, begun, IsEmpty, FillsPartly}
+use Rattle.mix_main.specs.Tree.{is_same_text, is_in_env, files_of, app_files, ClearsEnv, LeavesTree, begun, IsEmpty, FillsPartly}
 use Rattle.mix_main.specs.Filling.{jobs_differ, filled_once, filled_by, BeginsHeld, BeginsSlot, BeginsEnv}
 use Rattle.mix_main.proofs.TreeLemmas.{own_app, either, both, not_true, not_same, emptied_twice, filled_emptied}
 

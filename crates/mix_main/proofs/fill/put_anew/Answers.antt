@@ -1,7 +1,5 @@
-use Rattle.std.proofs.Common.{ap, ◌∙◌}
-use Rattle.tree_store.specs.FolderKnown.{FolderKnown}
 use Rattle.tree_store.proofs.MomentLemmas.{unmarked_after}
-use Rattle.mix_main.proofs.PutLemmas.{anew_begins, put_unmarked, unmark_begins}
+use Rattle.mix_main.proofs.PutLemmas.{unmark_begins}
 use Rattle.mix_main.proofs.StandLemmas.{on_err}
 use Rattle.mix_main.proofs.fill.put_anew.Goals as goal
 
