@@ -16,21 +16,22 @@ use Rattle.tree_store.specs.Known.{Known, OnlyReads, Told}
 use Rattle.tree_store.specs.Slot.{Slot}
 use Rattle.build_plan.specs.Blame.{blame_of}
 use Rattle.build_plan.specs.declared.error.PlanError.{PlanError}
-use Rattle.build_plan.specs.Plan.{IsPlan}
+use Rattle.build_plan.specs.Plan.{Build, IsPlan}
 use Rattle.mix_report.specs.Report.{report}
 use Rattle.mix_main.specs.declared.status.Status.{Status}
 use Rattle.mix_main.specs.declared.answer.Answer.{Answer}
 use Rattle.mix_main.specs.declared.answer.Stop.{Stop}
 use Rattle.mix_main.specs.declared.answer.Stop.TheVariants as stop
-use Rattle.mix_main.specs.Answer.{Fails, status_in, text_in}
+use Rattle.mix_main.specs.Answer.{Fails, reply_in}
 use Rattle.mix_main.specs.Compile.{Builds, Compiles, status_by}
 use Rattle.mix_main.specs.Compile.Builds.{built, read_fault, tree_fault, no_memory}
 use Rattle.mix_main.specs.Compile.Compiles.{refused, unread, unplanned}
 use Rattle.mix_main.specs.Filling.{filled_by, BeginsEnv}
 use Rattle.mix_main.specs.Refusal.{TellsError}
 use Rattle.mix_main.specs.Refusal.TellsError.{told, read, no_memory as untold}
+use Rattle.mix_main.specs.Reply.{reply_of}
 use Rattle.mix_main.specs.Tree.{ClearsEnv, FillsPartly, LeavesTree}
-use Rattle.mix_main.specs.World.{site_of}
+use Rattle.mix_main.specs.World.{passage_of, site_of}
 use Rattle.mix_main.proofs.ApartLemmas.{planned_differ}
 use Rattle.mix_main.proofs.StandLemmas.{cleared_empty, cleared_filled}
 use Rattle.mix_main.proofs.TreeLemmas.{leaves_tree}
@@ -46,13 +47,15 @@ not_outside Outside differs = absurd (differs refl)
 not_outside Memory differs = refl
 
 -- there is no plan
-pub refuse_ends : (compile : Content → Outcome) (env target : List ℕ) (error : PlanError) (old new : Known) (deaths : ℕ) (status : Status) (text : List ℕ) → (blame_of error ≡ Input → Told old (λ files. IsPlan files env target) (Err error)) → OnlyReads old new (is_outside (blame_of error)) → TellsError error status text → Compiles compile env target (site_of old deaths) (site_of new deaths) status text
-refuse_ends compile env target error old new deaths status text first reads (told is ended line) =
+pub refuse_ends : (compile : Content → Outcome) (build : Build) (error : PlanError) (old new : Known) (deaths : ℕ) (status : Status) (text : List ℕ)
+    → (blame_of error ≡ Input → Told old (λ files. IsPlan files build.env build.target) (Err error)) → OnlyReads old new (is_outside (blame_of error))
+    → TellsError error status text → Compiles compile build (passage_of (site_of old deaths) (site_of new deaths)) (reply_of status text)
+refuse_ends compile build error old new deaths status text first reads (told is ended line) =
     refused error (record { refusal = is; first = first is; line = line; ended = ended; same = ap (λ (s : Known). site_of s deaths) (only_read old new _ reads (ap is_outside is)) })
-refuse_ends compile env target error old new deaths status text first reads (read is ended line) =
+refuse_ends compile build error old new deaths status text first reads (read is ended line) =
     let failed : OnlyReads old new true = subst (λ (e : PlanError). OnlyReads old new (is_outside (blame_of e))) is reads in
     unread (failed.cause.rose refl) (ap (λ (s : Known). s.slot) failed.same) ended line
-refuse_ends compile env target error old new deaths status text first reads (untold quiet ended line) =
+refuse_ends compile build error old new deaths status text first reads (untold quiet ended line) =
     unplanned (ap (λ (s : Known). site_of s deaths) (only_read old new _ reads (not_outside (blame_of error) quiet))) ended line
 
 module _ (compile : Content → Outcome) (law : (content : Content) → AreInOrder (compile content).files) (env : List ℕ) (jobs : List Job) (fates fates' : List Fate) (planned : ArePlanned jobs) (fs : fates' ≡ fates) (is : fates ≡ seq compile jobs) where
@@ -77,7 +80,7 @@ module _ (compile : Content → Outcome) (law : (content : Content) → AreInOrd
       ClearsEnv env old.slot mid.slot → mid.faults ≡ old.faults → mid.returned ≡ old.returned → after ≡ deaths →
       IfOk result (λ answer. answer.status ≡ status_by fates') → IfOk result (λ answer. answer.text.items ≡ report jobs fates') →
       OnOk result ((q : BuildKey) → new.slot q ≡ filled_by env q jobs fates' (mid.slot q)) → Fails result mid new →
-      Builds compile env jobs (site_of old deaths) (site_of new after) (status_in result) (text_in result)
+      Builds compile (record { env = env; jobs = jobs }) (passage_of (site_of old deaths) (site_of new after)) (reply_in result)
   finish_ends (Ok answer) old mid new deaths after clears faults returned died status text filled fails =
       built (record {
         tree = built_tree old.slot mid.slot new.slot clears filled;

@@ -1,10 +1,9 @@
 -- Parts of what builds held.
-use Rattle.std.proofs.Common.{◌≡◌, Bool, true, false, ◌&&◌, cond, Option, Some, None, List, [], ◌∷◌, ℕ, filter, Result, Ok, Err, option_map, refl, sym, ◌∙◌, ap, subst}
+use Rattle.std.proofs.Common.{◌≡◌, Bool, true, false, ◌&&◌, cond, Option, Some, None, List, [], ◌∷◌, ℕ, filter, option_map, refl, sym, ◌∙◌, ap, subst}
 use Rattle.mx_base.specs.declared.file.File.{File}
 use Rattle.tree_store.specs.declared.holding.Holding.{Holding}
 use Rattle.tree_store.specs.declared.key.BuildKey.{BuildKey}
-use Rattle.tree_store.specs.declared.store.StoreFault.{StoreFault}
-use Rattle.tree_store.specs.FolderKnown.{FolderKnown, IsStopped, Writes}
+use Rattle.tree_store.specs.FolderKnown.{FolderKnown, IsStopped}
 use Rattle.tree_store.specs.FolderKnown.IsStopped.{begun, not_begun}
 use Rattle.tree_store.specs.Holding.{nothing}
 use Rattle.tree_store.specs.Key.{is_same_build}

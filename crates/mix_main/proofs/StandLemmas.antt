@@ -1,13 +1,10 @@
 -- What stands in a build after an error.
-use Rattle.std.proofs.Common.{◌≡◌, ◌⊎◌, inl, inr, ℕ, suc, ◌+◌, ◌<◌, Bool, true, false, not, ◌&&◌, cond, Option, Some, None, option_map, List, [], ◌∷◌, ◌++◌, length, get_or, take, drop, filter, map, bytes_eq, refl, sym, ◌∙◌, ap, subst, drop-cons, Result, Ok, Err, OnErr}
-use Rattle.std.proofs.lemmas.List.{append-nil, take-append-drop, take_more}
+use Rattle.std.proofs.Common.{◌≡◌, ◌⊎◌, inl, inr, ℕ, suc, ◌<◌, Bool, true, false, not, cond, Option, Some, None, option_map, List, [], ◌∷◌, length, get_or, take, drop, map, bytes_eq, refl, sym, ◌∙◌, ap, subst, drop-cons, Result, Ok, Err, OnErr}
+use Rattle.std.proofs.lemmas.List.{append-nil}
 use Rattle.std.proofs.Math.Seq.{take-length}
-use Rattle.std.specs.declared.cmp.Ordering.{Ordering}
-use Rattle.std.specs.declared.cmp.Ordering.TheVariants.{Less}
-use Rattle.std.specs.Ordering.{match_ordering, is_eq}
 use Rattle.std.specs.List.{AllByRecursion, list_any}
 use Rattle.mx_base.specs.declared.file.File.{File}
-use Rattle.mx_base.specs.Order.{text_cmp, IsBefore, AreInOrder, paths_of}
+use Rattle.mx_base.specs.Order.{AreInOrder}
 use Rattle.compile_model.specs.declared.job.Job.{Job}
 use Rattle.compile_model.specs.declared.outcome.Fate.{Fate}
 use Rattle.compile_model.specs.declared.outcome.Fate.TheVariants.{Built, Failed, Skipped}
@@ -21,7 +18,7 @@ use Rattle.tree_store.specs.Slot.Slot.{Here, Out}
 use Rattle.tree_store.proofs.FilesLemmas.{put_all_in_order}
 use Rattle.tree_store.proofs.OrderLemmas.{same_name}
 use Rattle.tree_store.proofs.StoreLemmas.{one_key}
-use Rattle.mix_main.specs.Tree.{is_same_text, is_in_env, files_of, app_files, ClearsEnv, LeavesTree, cut_file, begun, IsEmpty, FillsPartly}
+use Rattle.mix_main.specs.Tree.{is_same_text, is_in_env, files_of, app_files, ClearsEnv, LeavesTree, begun, IsEmpty, FillsPartly}
 use Rattle.mix_main.specs.Filling.{jobs_differ, filled_once, filled_by, BeginsHeld, BeginsSlot, BeginsEnv}
 use Rattle.mix_main.proofs.TreeLemmas.{own_app, either, both, not_true, not_same, emptied_twice, filled_emptied}
 
@@ -29,6 +26,10 @@ use Rattle.mix_main.proofs.TreeLemmas.{own_app, either, both, not_true, not_same
 pub on_err : {T E : Type 0} (r : Result T E) (P : Type 0) → P → OnErr r P
 on_err (Ok x) P holds = tt
 on_err (Err e) P holds = holds
+
+pub map_err : {T E : Type 0} (r : Result T E) (P Q : Type 0) → (P → Q) → OnErr r P → OnErr r Q
+map_err (Ok x) P Q step holds = tt
+map_err (Err e) P Q step holds = step holds
 
 here_same : (a b : Option Holding) → Here a ≡ Here b → a ≡ b
 here_same a b e = cc

@@ -11,6 +11,7 @@ use Rattle.mix_main.specs.declared.answer.Stop.{Stop}
 use Rattle.mix_main.specs.declared.answer.Stop.TheVariants as stop
 use Rattle.mix_main.specs.declared.status.Status.{Status}
 use Rattle.mix_main.specs.declared.status.Status.TheVariants.{ReadFault, TreeFault, Died, OutOfMemory}
+use Rattle.mix_main.specs.Reply.{Reply}
 use Rattle.mix_main.specs.Texts.{read_fault_line, tree_fault_line, died_line, memory_line}
 
 abbrev pub stop_of_store : StoreFault → Stop
@@ -46,6 +47,10 @@ status_in (Err stop) = stop_status stop
 abbrev pub text_in : Result Answer Stop → List ℕ
 text_in (Ok answer) = answer.text.items
 text_in (Err stop) = stop_line stop
+
+-- both
+abbrev pub reply_in : Result Answer Stop → Reply
+reply_in result = record { status = status_in result; text = text_in result }
 
 -- a step on the tree ends: what was counted where it failed
 abbrev pub Fails : {T : Type 0} → Result T Stop → Known → Known → Type 0

@@ -6,6 +6,7 @@ pub mod Filling
 pub mod Help
 pub mod Laws
 pub mod Refusal
+pub mod Reply
 pub mod Status
 pub mod Texts
 pub mod Tree

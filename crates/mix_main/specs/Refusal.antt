@@ -1,6 +1,6 @@
 -- What is said of a plan that can't be had.
 use Rattle.std.specs.Prelude.{◌≡◌, ℕ, List}
-use Rattle.mx_base.specs.Blame.Blame.{Input, Outside, Memory}
+use Rattle.mx_base.specs.Blame.Blame.{Input, Outside}
 use Rattle.build_plan.specs.Blame.{blame_of}
 use Rattle.build_plan.specs.declared.error.PlanError.{PlanError}
 use Rattle.build_plan.specs.declared.error.PlanError.TheVariants as plan

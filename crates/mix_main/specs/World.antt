@@ -20,6 +20,14 @@ site_of store deaths = record { store = store; deaths = deaths }
 abbrev pub world_of : Known → ℕ → Sunk → World
 world_of store deaths sink = record { site = site_of store deaths; sink = sink }
 
+-- a site before and after
+pub record Passage : Type 0 where
+  pub old : Site
+  pub new : Site
+
+abbrev pub passage_of : Site → Site → Passage
+passage_of old new = record { old = old; new = new }
+
 -- nothing failed where the command works
 pub record Calm (old new : Site) : Type 0 where
   pub reads : new.store.faults ≡ old.store.faults

@@ -2,15 +2,16 @@
 ghost use Rattle.std.specs.Prelude.{◌≡◌, map, string_bytes};
 ghost use Rattle.mx_base.specs.BuildName.{HasBuildName, build_name, host};
 ghost use Rattle.tree_store.specs.Slot.{AllHere};
-ghost use Rattle.mix_main.specs.Answer.{status_in, text_in};
+ghost use Rattle.build_plan.specs.Plan.{build_of};
+ghost use Rattle.mix_main.specs.Answer.{reply_in, status_in, text_in};
 ghost use Rattle.mix_main.specs.Compile.{Compiles, MayStand};
-ghost use Rattle.mix_main.specs.Ends.{Comes, Does, Ends, EndsBy, IsNamed, Misread, Says};
+ghost use Rattle.mix_main.specs.Ends.{Comes, Does, Ends, IsNamed, Misread, Says};
 ghost use Rattle.mix_main.specs.Tree.{StaysElsewhere};
 ghost use Rattle.mix_main.specs.Words.{dev};
-ghost use Rattle.mix_main.specs.World.{Keeps, Site, site_of, world_of};
+ghost use Rattle.mix_main.specs.World.{Keeps, Site, passage_of, site_of, world_of};
 
 use crate::answer::{Answer, Stop};
-use crate::command::{Command, WordsError, read_words};
+use crate::command::{Command, WordsError, name, read_words};
 use crate::compile::compile;
 use crate::help::help;
 use crate::status::Status;
@@ -33,10 +34,11 @@ pub fn run<S: Store, C: Compiler, K: Sink>(
     out: &mut K,
 ) -> Status
     requires { AllHere (S.known store.old).slot }
-    ensures ends { Ends C.compile_of (map (λ word. string_bytes word) words.now)
+    ensures ends { Ends (Comes C.compile_of (map (λ word. string_bytes word) words.now))
         (world_of (S.known store.old) (C.deaths compiler.old) (K.known out.old))
         (world_of (S.known store.new) (C.deaths compiler.new) (K.known out.new)) result }
-    ensures stands { MayStand C.compile_of dev host (S.known store.old) (S.known store.new) }
+    ensures stands { MayStand C.compile_of (build_of dev host) (S.known store.old)
+        (S.known store.new) }
     ensures elsewhere { StaysElsewhere dev (S.known store.old).slot (S.known store.new).slot }
     ensures keeps { Keeps (S.known store.old) (S.known store.new) }
 {
@@ -55,10 +57,10 @@ pub fn plain_compile<S: Store, C: Compiler, K: Sink>(
 ) -> Status
     requires here { AllHere (S.known store.old).slot }
     requires named { HasBuildName env.now target.now }
-    ensures ends { EndsBy (Compiles C.compile_of env.now target.now)
+    ensures ends { Ends (Compiles C.compile_of (build_of env.now target.now))
         (world_of (S.known store.old) (C.deaths compiler.old) (K.known out.old))
         (world_of (S.known store.new) (C.deaths compiler.new) (K.known out.new)) result }
-    ensures stands { MayStand C.compile_of env.now target.now (S.known store.old)
+    ensures stands { MayStand C.compile_of (build_of env.now target.now) (S.known store.old)
         (S.known store.new) }
     ensures elsewhere { StaysElsewhere (build_name env.now target.now) (S.known store.old).slot
         (S.known store.new).slot }
@@ -69,6 +71,7 @@ pub fn plain_compile<S: Store, C: Compiler, K: Sink>(
 }
 
 // What the words come to.
+#[tactic(auto, using(crate::proofs::CallLemmas::asks_named))]
 fn answer<S: Store, C: Compiler>(
     alloc: Global,
     words: &[String],
@@ -77,8 +80,8 @@ fn answer<S: Store, C: Compiler>(
 ) -> Result<Answer, Stop>
     requires { AllHere (S.known store.old).slot }
     ensures comes { Comes C.compile_of (map (λ word. string_bytes word) words.now)
-        (site_of (S.known store.old) (C.deaths compiler.old))
-        (site_of (S.known store.new) (C.deaths compiler.new)) (status_in result) (text_in result) }
+        (passage_of (site_of (S.known store.old) (C.deaths compiler.old))
+        (site_of (S.known store.new) (C.deaths compiler.new))) (reply_in result) }
     ensures keeps { Keeps (S.known store.old) (S.known store.new) }
 {
     match read_words(alloc, words) {
@@ -98,8 +101,8 @@ fn answer_to<S: Store, C: Compiler>(
     requires here { AllHere (S.known store.old).slot }
     requires named { IsNamed command.now }
     ensures does { Does C.compile_of command.now
-        (site_of (S.known store.old) (C.deaths compiler.old))
-        (site_of (S.known store.new) (C.deaths compiler.new)) (status_in result) (text_in result) }
+        (passage_of (site_of (S.known store.old) (C.deaths compiler.old))
+        (site_of (S.known store.new) (C.deaths compiler.new))) (reply_in result) }
     ensures keeps { Keeps (S.known store.old) (S.known store.new) }
 {
     match command {
@@ -117,21 +120,18 @@ fn compile_here<S: Store, C: Compiler>(
 ) -> Result<Answer, Stop>
     requires here { AllHere (S.known store.old).slot }
     requires named { HasBuildName env.now host }
-    ensures ends { Compiles C.compile_of env.now host
-        (site_of (S.known store.old) (C.deaths compiler.old))
-        (site_of (S.known store.new) (C.deaths compiler.new)) (status_in result) (text_in result) }
+    ensures ends { Compiles C.compile_of (build_of env.now host)
+        (passage_of (site_of (S.known store.old) (C.deaths compiler.old))
+        (site_of (S.known store.new) (C.deaths compiler.new))) (reply_in result) }
     ensures keeps { Keeps (S.known store.old) (S.known store.new) }
 {
-    match AppName::of(alloc, HOST.as_bytes()) {
-        Ok(target) => compile(alloc, env, &target, store, compiler),
-        // `host` is a name, so memory ran out.
-        Err(_) => Err(Stop::Memory),
-    }
+    let target = name(alloc, HOST.as_bytes())?;
+    compile(alloc, env, &target, store, compiler)
 }
 
 // The place of the first word that fits no command.
 fn misread(alloc: Global, at: u64) -> Result<Answer, Stop>
-    ensures { (site : Site) → Misread at site site (status_in result) (text_in result) }
+    ensures { (site : Site) → Misread at (passage_of site site) (reply_in result) }
 {
     let mut text = Vec::from_slice(alloc, b"mixc: bad words at ")?;
     push_decimal(alloc, &mut text, at)?;
@@ -144,8 +144,7 @@ fn misread(alloc: Global, at: u64) -> Result<Answer, Stop>
 
 // Writes the text of an answer, with which its status goes.
 fn say<K: Sink>(out: &mut K, answer: &Result<Answer, Stop>) -> Status
-    ensures { Says (status_in answer.now) (text_in answer.now) (K.known out.old) (K.known out.new)
-        result }
+    ensures { Says (reply_in answer.now) (K.known out.old) (K.known out.new) result }
 {
     match out.write(text_in(answer)) {
         Ok(()) => status_in(answer),

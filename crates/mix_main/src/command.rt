@@ -1,11 +1,12 @@
 // The commands, and the words that name them.
-ghost use Rattle.std.specs.Prelude.{◌≡◌, map, string_bytes, Ok};
+ghost use Rattle.std.specs.Prelude.{◌≡◌, map, string_bytes, Ok, IfOk, IsTrue};
+ghost use Rattle.mx_base.specs.AppName.{is_app_name};
 ghost use Rattle.mx_base.specs.Blame.{Answers};
 ghost use Rattle.mix_main.specs.Blame.{blame_of};
 ghost use Rattle.mix_main.specs.Words.{command_of, alone, dev};
 
-use mx_base::AppName;
-use std::alloc::Global;
+use mx_base::{AppName, NameError};
+use std::alloc::{AllocError, Global};
 
 /// What the program can be asked for.
 #[derive(Drop)]
@@ -48,9 +49,23 @@ fn compile_alone(alloc: Global, rest: &[String]) -> Result<Command, WordsError>
     ensures { Answers blame_of result (λ answer. answer
         ≡ alone (Command.Compile dev) (map (λ word. string_bytes word) rest.now)) }
 {
-    match AppName::of(alloc, b"dev") {
+    match name(alloc, b"dev") {
         Ok(env) => alone(Command::Compile { env }, rest),
-        Err(_) => Err(WordsError::OutOfMemory),
+        Err(AllocError) => Err(WordsError::OutOfMemory),
+    }
+}
+
+/// The name that a text spells which is one.
+pub(crate) fn name(alloc: Global, text: &[u8]) -> Result<AppName, AllocError>
+    requires { IsTrue (is_app_name text.now) }
+    ensures { IfOk result (λ name. name ≡ text.now) }
+{
+    match AppName::of(alloc, text) {
+        Ok(name) => Ok(name),
+        Err(NameError::OutOfMemory) => Err(AllocError),
+        Err(NameError::Empty) => unreachable!(),
+        Err(NameError::TooLong) => unreachable!(),
+        Err(NameError::BadByte { .. }) => unreachable!(),
     }
 }
 

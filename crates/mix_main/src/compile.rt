@@ -1,14 +1,16 @@
 // The command `deps.compile`.
 ghost use Rattle.std.specs.Prelude.{◌≡◌, length, IfOk, OnOk};
+ghost use Rattle.std.specs.List.{list_any};
 ghost use Rattle.mx_base.specs.BuildName.{HasBuildName};
 ghost use Rattle.compile_model.specs.Planned.{ArePlanned};
 ghost use Rattle.tree_store.specs.declared.key.BuildKey.{BuildKey};
 ghost use Rattle.tree_store.specs.Slot.{AllHere};
-ghost use Rattle.mix_main.specs.Answer.{Fails, status_in, text_in};
+ghost use Rattle.build_plan.specs.Plan.{build_of};
+ghost use Rattle.mix_main.specs.Answer.{Fails, reply_in};
 ghost use Rattle.mix_main.specs.Compile.{Builds, Compiles, Stands, status_by};
 ghost use Rattle.mix_main.specs.Filling.{BeginsEnv, filled_by};
 ghost use Rattle.mix_main.specs.Tree.{StaysElsewhere};
-ghost use Rattle.mix_main.specs.World.{Keeps, site_of};
+ghost use Rattle.mix_main.specs.World.{Keeps, passage_of, site_of};
 ghost use Rattle.mix_report.specs.Report.{report, is_failed};
 
 use crate::answer::{Answer, Stop};
@@ -33,9 +35,9 @@ pub(crate) fn compile<S: Store, C: Compiler>(
 ) -> Result<Answer, Stop>
     requires here { AllHere (S.known store.old).slot }
     requires named { HasBuildName env.now target.now }
-    ensures ends { Compiles C.compile_of env.now target.now
-        (site_of (S.known store.old) (C.deaths compiler.old))
-        (site_of (S.known store.new) (C.deaths compiler.new)) (status_in result) (text_in result) }
+    ensures ends { Compiles C.compile_of (build_of env.now target.now)
+        (passage_of (site_of (S.known store.old) (C.deaths compiler.old))
+        (site_of (S.known store.new) (C.deaths compiler.new))) (reply_in result) }
     ensures keeps { Keeps (S.known store.old) (S.known store.new) }
 {
     match plan(alloc, store, env, target) {
@@ -53,24 +55,22 @@ fn build<S: Store, C: Compiler>(
 ) -> Result<Answer, Stop>
     requires here { AllHere (S.known store.old).slot }
     requires planned { ArePlanned plan.now.jobs }
-    ensures ends { Builds C.compile_of plan.now.env plan.now.jobs
-        (site_of (S.known store.old) (C.deaths compiler.old))
-        (site_of (S.known store.new) (C.deaths compiler.new)) (status_in result) (text_in result) }
-    ensures stands { Stands C.compile_of plan.now.env plan.now.jobs (S.known store.old).slot
-        (S.known store.new).slot }
+    ensures ends { Builds C.compile_of plan.now
+        (passage_of (site_of (S.known store.old) (C.deaths compiler.old))
+        (site_of (S.known store.new) (C.deaths compiler.new))) (reply_in result) }
+    ensures stands { Stands C.compile_of plan.now (S.known store.old).slot (S.known store.new).slot }
     ensures elsewhere { StaysElsewhere plan.now.env (S.known store.old).slot
         (S.known store.new).slot }
     ensures keeps { Keeps (S.known store.old) (S.known store.new) }
 {
     clear_env(alloc, &plan.env, store)?;
     let fates = seq_build(alloc, plan, compiler)?;
-    finish(alloc, &plan.env, plan, &fates, store)
+    finish(alloc, plan, &fates, store)
 }
 
 // Puts what was built into an empty environment, and reports it.
 fn finish<S: Store>(
     alloc: Global,
-    env: &AppName,
     plan: &Plan,
     fates: &[Fate],
     store: &mut S,
@@ -81,14 +81,15 @@ fn finish<S: Store>(
     ensures report { IfOk result (λ answer. answer.text.items
         ≡ report plan.now.jobs fates.now) }
     ensures filled { OnOk result ((q : BuildKey) → (S.known store.new).slot q
-        ≡ filled_by env.now q plan.now.jobs fates.now ((S.known store.old).slot q)) }
-    ensures begun { BeginsEnv env.now plan.now.jobs fates.now
+        ≡ filled_by plan.now.env q plan.now.jobs fates.now ((S.known store.old).slot q)) }
+    ensures begun { BeginsEnv plan.now.env plan.now.jobs fates.now
         (S.known store.old).slot (S.known store.new).slot }
-    ensures elsewhere { StaysElsewhere env.now (S.known store.old).slot (S.known store.new).slot }
+    ensures elsewhere { StaysElsewhere plan.now.env (S.known store.old).slot
+        (S.known store.new).slot }
     ensures keeps { Keeps (S.known store.old) (S.known store.new) }
     ensures fails { Fails result (S.known store.old) (S.known store.new) }
 {
-    fill_env(alloc, env, plan.jobs.as_slice(), fates, store)?;
+    fill_env(alloc, &plan.env, plan.jobs.as_slice(), fates, store)?;
     let text = report(alloc, plan, fates)?;
     Ok(Answer {
         status: status_by(fates),
@@ -99,11 +100,17 @@ fn finish<S: Store>(
 fn status_by(fates: &[Fate]) -> Status
     ensures { result ≡ status_by fates.now }
 {
-    if fates.iter().any(|fate| is_failed(fate)) {
+    if any_failed(fates) {
         Status::SomeFailed
     } else {
         Status::Done
     }
+}
+
+fn any_failed(fates: &[Fate]) -> bool
+    ensures { result ≡ list_any is_failed fates.now }
+{
+    fates.iter().any(|fate| is_failed(fate))
 }
 
 fn is_failed(fate: &Fate) -> bool

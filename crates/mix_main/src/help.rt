@@ -1,7 +1,7 @@
 // The command `help`.
-ghost use Rattle.mix_main.specs.Answer.{status_in, text_in};
+ghost use Rattle.mix_main.specs.Answer.{reply_in};
 ghost use Rattle.mix_main.specs.Help.{Helps};
-ghost use Rattle.mix_main.specs.World.{Site};
+ghost use Rattle.mix_main.specs.World.{Site, passage_of};
 
 use crate::answer::{Answer, Stop};
 use crate::status::Status;
@@ -9,7 +9,7 @@ use std::alloc::Global;
 
 /// The names of the commands, one a line.
 pub(crate) fn help(alloc: Global) -> Result<Answer, Stop>
-    ensures { (site : Site) → Helps site site (status_in result) (text_in result) }
+    ensures { (site : Site) → Helps (passage_of site site) (reply_in result) }
 {
     Ok(Answer {
         status: Status::Done,

@@ -1,14 +1,8 @@
 use Rattle.std.proofs.Common.{Err, sym, ◌∙◌, ap}
-use Rattle.std.specs.Prelude.{map, string_bytes}
 use Rattle.mix_main.specs.declared.command.WordsError.{WordsError}
 use Rattle.mix_main.specs.Blame.{blame_of}
 use Rattle.mix_main.specs.Ends.Comes.{refused, asked}
-use Rattle.mix_main.proofs.CallLemmas.{asks_named}
 use Rattle.mix_main.proofs.call.answer.Goals as goal
-
-pub answer_to-requires-clause-named : goal.answer_to-requires-clause-named
-answer_to-requires-clause-named g c =
-    asks_named (map (λ word. string_bytes word) c.args.words.now) c.in-Ok.command (sym c.in-Ok.ensures)
 
 pub returns-in-Ok-clause-comes : goal.returns-in-Ok-clause-comes
 returns-in-Ok-clause-comes g c = asked c.in-Ok.command (sym c.in-Ok.ensures) c.answer_to.ensures.does

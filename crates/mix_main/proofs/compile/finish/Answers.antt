@@ -8,12 +8,12 @@ pub returns-in_err-text-clause-begun : goal.returns-in_err-text-clause-begun
 returns-in_err-text-clause-begun g c =
     let old = (g.S.Store.known c.args.store.now).slot in
     let new = (g.S.Store.known c.fill_env.new.store).slot in
-    subst (λ (jobs : List Job). BeginsEnv c.args.env.now jobs c.args.fates.now old new) c.as_slice.ensures
-    (filled_begins c.args.env.now c.as_slice.result.now c.args.fates.now old new c.in_ok-fill_env.ensures.filled)
+    subst (λ (jobs : List Job). BeginsEnv c.args.plan.now.env jobs c.args.fates.now old new) c.as_slice.ensures
+    (filled_begins c.args.plan.now.env c.as_slice.result.now c.args.fates.now old new c.in_ok-fill_env.ensures.filled)
 
 pub returns-clause-begun : goal.returns-clause-begun
 returns-clause-begun g c =
     let old = (g.S.Store.known c.args.store.now).slot in
     let new = (g.S.Store.known c.fill_env.new.store).slot in
-    subst (λ (jobs : List Job). BeginsEnv c.args.env.now jobs c.args.fates.now old new) c.as_slice.ensures
-    (filled_begins c.args.env.now c.as_slice.result.now c.args.fates.now old new c.in_ok-fill_env.ensures.filled)
+    subst (λ (jobs : List Job). BeginsEnv c.args.plan.now.env jobs c.args.fates.now old new) c.as_slice.ensures
+    (filled_begins c.args.plan.now.env c.as_slice.result.now c.args.fates.now old new c.in_ok-fill_env.ensures.filled)

@@ -1,4 +1,4 @@
-use Rattle.std.proofs.Common.{◌≡◌, None, drop, take, option_map}
+use Rattle.std.proofs.Common.{◌≡◌, drop, take, option_map}
 use Rattle.mx_base.specs.Order.{AreInOrder}
 use Rattle.tree_store.specs.FolderKnown.{IsUnmarked}
 use Rattle.tree_store.specs.Holding.{nothing, only_files, with_all}
