@@ -15,7 +15,7 @@ use Rattle.hex_pick.specs.Walking.{FirstFit, NoFit}
 use Rattle.hex_pick.specs.declared.walk.Step.{Step}
 use Rattle.hex_pick.proofs.Moves.{Advances}
 
-all_both : {A : Type 0} (f g : A → Bool) (xs : List A) → list_all (λ x. f x && g x) xs ≡ (list_all f xs && list_all g xs)
+pub all_both : {A : Type 0} (f g : A → Bool) (xs : List A) → list_all (λ x. f x && g x) xs ≡ (list_all f xs && list_all g xs)
 all_both f g [] = refl
 all_both f g (x ∷ xs) = ap (λ (b : Bool). (f x && g x) && b) (all_both f g xs) ∙ four (f x) (g x) (list_all f xs) (list_all g xs)
   where

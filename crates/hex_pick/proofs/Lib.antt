@@ -9,4 +9,6 @@ pub mod Ends
 pub mod FirstValid
 pub mod Uniqueness
 pub mod FitLemmas
+pub mod FitBeside
+pub mod AskedLemmas
 pub mod WalkLemmas

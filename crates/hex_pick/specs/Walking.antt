@@ -34,6 +34,11 @@ abbrev pub NoFit : List Shelf → Wants → List Picked → Step → Type 0
 NoFit shelves wants pick step = (k : ℕ) → step.next ≤ k → k < length step.candidates.items → IsFalse
     (fits shelves wants pick (step.name, slice_index step.candidates.items k))
 
+-- the first candidate that fits, or none
+abbrev pub SaysFit : List Shelf → Wants → List Picked → Step → Option ℕ → Type 0
+SaysFit shelves wants pick step None = NoFit shelves wants pick step
+SaysFit shelves wants pick step (Some at) = FirstFit shelves wants pick step at
+
 abbrev pub frame_of : Step → Frame
 frame_of step = record { name = step.name; next = step.next }
 

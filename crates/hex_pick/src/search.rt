@@ -53,7 +53,7 @@ pub fn pick_within(
             return Err(PickError::TooManyNodes);
         }
         let step = first_step(alloc, registry, wants, name)?;
-        if let Some(package) = walk.goes_on(registry, wants, step)? {
+        if let Some(package) = walk.goes_on(alloc, registry, wants, step)? {
             return Err(PickError::NoPick { package });
         }
     }

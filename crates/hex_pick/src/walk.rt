@@ -1,12 +1,13 @@
 // Where a search stands, and its moves.
-ghost use Rattle.std.specs.Prelude.{◌≡◌, ◌<◌, ◌≤◌, ◌+◌, ◌^◌, ◌∷◌, ◌++◌, [], Some, IfSome, IfNone, IfOk, OnOk, length, slice_index, unwrap_or, nat_lt};
-ghost use Rattle.hex_pick.specs.Walking.{FirstFit, NoFit, Stands, WentOn, adding, stepped};
-ghost use Rattle.hex_registry.specs.Picks.{without_package};
+ghost use Rattle.std.specs.Prelude.{◌≡◌, ◌<◌, ◌≤◌, ◌+◌, ◌^◌, ◌∷◌, ◌++◌, [], Some, IfSome, IfNone, IfOk, OnOk, length, map, slice_index, unwrap_or, nat_lt};
+ghost use Rattle.hex_pick.specs.Fitting.{demands_on};
+ghost use Rattle.hex_pick.specs.Walking.{SaysFit, Stands, WentOn, adding, stepped};
+ghost use Rattle.hex_registry.specs.Picks.{ArePicks, without_package};
 
-use crate::fitting::fits;
-use hex_registry::{Pick, Registry, Wants};
+use crate::fitting::{demands_on, fits};
+use hex_registry::{Demand, Pick, Registry, Wants};
 use mx_base::AppName;
-use std::alloc::AllocError;
+use std::alloc::{AllocError, Global};
 
 /// A decision: a package, its candidates in their order, and which of them is tried next.
 #[derive(Drop)]
@@ -30,6 +31,7 @@ impl Walk {
     /// answers the package of the first dead end.
     pub(crate) fn goes_on(
         &mut self,
+        alloc: Global,
         registry: &Registry,
         wants: &Wants,
         step: Step,
@@ -40,7 +42,7 @@ impl Walk {
     {
         let mut step = step;
         'back: loop {
-            if let Some(at) = first_fit(registry, wants, &self.pick, &step) {
+            if let Some(at) = next_fit(alloc, registry, wants, &self.pick, &step)? {
                 self.decides(step, at)?;
                 return Ok(None);
             }
@@ -99,12 +101,41 @@ impl Walk {
 }
 
 // The place of the first candidate that fits, from the step's next on.
-fn first_fit(registry: &Registry, wants: &Wants, pick: &Pick, step: &Step) -> Option<usize>
-    ensures found { IfSome result (FirstFit registry.now wants.now pick.now step.now) }
-    ensures none { IfNone result (NoFit registry.now wants.now pick.now step.now) }
+fn next_fit(
+    alloc: Global,
+    registry: &Registry,
+    wants: &Wants,
+    pick: &Pick,
+    step: &Step,
+) -> Result<Option<usize>, AllocError>
+    ensures { IfOk result (SaysFit registry.now wants.now pick.now step.now) }
+{
+    let asked = demands_on(alloc, registry, wants, pick, &step.name)?;
+    Ok(first_fit(registry, wants, pick, &asked, step))
+}
+
+// The same, by what is asked of the step's package.
+fn first_fit(
+    registry: &Registry,
+    wants: &Wants,
+    pick: &Pick,
+    asked: &[&Demand],
+    step: &Step,
+) -> Option<usize>
+    requires asked { map (λ demand. demand.now) asked.now
+        ≡ demands_on registry.now wants.now pick.now step.now.name }
+    requires in_order { ArePicks pick.now }
+    ensures { SaysFit registry.now wants.now pick.now step.now result }
 {
     for at in step.next..step.candidates.len() {
-        if fits(registry, wants, pick, &step.name, step.candidates[at]) {
+        if fits(
+            registry,
+            wants,
+            pick,
+            asked,
+            &step.name,
+            step.candidates[at],
+        ) {
             return Some(at);
         }
     }

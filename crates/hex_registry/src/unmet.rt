@@ -146,7 +146,8 @@ fn want_refuses(name: &AppName, offer: &Offer, want: &Want) -> bool
     name == &want.package && !want_takes(offer, want)
 }
 
-fn demand_refuses(overridden: &Names, name: &AppName, offer: &Offer, demand: &Demand) -> bool
+/// Whether the demand is in force on the package and isn't met by its release.
+pub fn demand_refuses(overridden: &Names, name: &AppName, offer: &Offer, demand: &Demand) -> bool
     ensures { result ≡ demand_refuses overridden.now name.now offer.now demand.now }
 {
     name == &demand.package && !demand_takes(overridden, offer, demand)
