@@ -48,7 +48,13 @@ fn push_registry(
     say(out, "ok")?;
     for package in packages.split(' ') {
         write!(out, " {package}:")?;
-        push_candidates(alloc, out, registry, wants, &app_name(alloc, package.as_bytes())?)?;
+        push_candidates(
+            alloc,
+            out,
+            registry,
+            wants,
+            &app_name(alloc, package.as_bytes())?,
+        )?;
         say(out, ";")?;
     }
     Ok(())
@@ -202,7 +208,10 @@ fn pick_of(alloc: Global, text: &str) -> Result<Pick, Fault> {
     let mut picks = Vec::new(alloc);
     for entry in text.split_terminator(';') {
         let (name, place) = two(entry)?;
-        picks.push((app_name(alloc, name.as_bytes())?, u64::from(number_of(place)?)))?;
+        picks.push((
+            app_name(alloc, name.as_bytes())?,
+            u64::from(number_of(place)?),
+        ))?;
     }
     Pick::of(picks).ok_or(Fault::Form)
 }
