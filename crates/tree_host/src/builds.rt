@@ -14,6 +14,7 @@ use std::{fs, io};
 
 // The outputs and the marks, in the folder of an environment's builds.
 const OUTPUTS: &str = "lib";
+
 const MARKS: &str = "marks";
 
 /// The folder of an environment's builds.

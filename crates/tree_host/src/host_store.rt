@@ -15,8 +15,8 @@ use mx_base::{AppName, Bytes, Count, RelPath};
 use std::alloc::{AllocError, Global};
 use std::collections::BTreeSet;
 use std::fs::Files;
-use std::path::{Path, PathBuf};
 use std::io;
+use std::path::{Path, PathBuf};
 use tree_store::{BuildKey, Store, StoreFault};
 
 /// A project's folder in the real file system, with the outputs of an app below `_build/ENV/lib/APP` and its mark

@@ -13,11 +13,7 @@ use std::alloc::Global;
 
 /// Writes files into a folder that has no mark, one after another. After an error the first of them are
 /// written, and of the next one perhaps a part.
-pub fn put_files<F: Folder>(
-    alloc: Global,
-    files: &[File],
-    folder: &mut F,
-) -> Result<(), StoreFault>
+pub fn put_files<F: Folder>(alloc: Global, files: &[File], folder: &mut F) -> Result<(), StoreFault>
     requires { IsUnmarked (F.known folder.old) }
     ensures held { OnOk result ((F.known folder.new).held
         ≡ option_map (with_all files.now) (F.known folder.old).held) }

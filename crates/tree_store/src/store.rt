@@ -97,12 +97,7 @@ pub trait Store {
         ensures reads { OnlyReads (known self.old) (known self.new) (fails blame_of result) };
 
     /// Hands out the folder of a build, which is then out.
-    fn folder(
-        &mut self,
-        alloc: Global,
-        env: &AppName,
-        app: &AppName,
-    ) -> Result<Self::F, StoreFault>
+    fn folder(&mut self, alloc: Global, env: &AppName, app: &AppName) -> Result<Self::F, StoreFault>
         requires { (known self.old).slot (record { env = env.now; app = app.now }) ≡ Out → ⊥ }
         ensures folder { IfOk result (λ folder. IsLent (record { env = env.now; app = app.now })
             ((known self.old).slot (record { env = env.now; app = app.now }))
