@@ -1,5 +1,5 @@
 -- Honest folders.
-use Rattle.std.proofs.Common.{◌≡◌, ◌⊎◌, inl, inr, ℕ, List, [], ◌∷◌, ◌++◌, length, take, drop, Option, Some, None, Contains, refl, sym, ◌∙◌, ap, subst}
+use Rattle.std.proofs.Common.{◌≡◌, ℕ, List, [], ◌++◌, take, drop, Some, None, Contains, refl, sym, ◌∙◌, ap, subst}
 use Rattle.std.proofs.lemmas.List.{take-append-drop, append-nil}
 use Rattle.mx_base.specs.declared.file.File.{File}
 use Rattle.compile_model.specs.declared.outcome.Outcome.{Outcome}
@@ -16,7 +16,7 @@ use Rattle.tree_store.specs.Moment.Part.{Whole, Untouched, Gone, Begun, Those}
 use Rattle.tree_store.specs.Slot.{Slot}
 use Rattle.tree_store.specs.Slot.Slot.{Here, Out}
 use Rattle.honest_tree.specs.Given.{Given, outcome_of}
-use Rattle.honest_tree.specs.Honest.{Honest, IsHonest, IsHonestSlot, IsMadeFrom, IsMarkOf}
+use Rattle.honest_tree.specs.Honest.{Honest, IsHonest, IsHonestSlot, IsMarkOf}
 
 abbrev Bytes : Type 0
 Bytes = List ℕ
@@ -51,11 +51,13 @@ unread_honest compile known held bytes stands unread other mark stands' spells =
 whole_text : (bytes : Bytes) (n : ℕ) (mark other : MarkView) → Spells bytes mark → Spells (take n bytes) other → take n bytes ≡ bytes
 whole_text bytes n mark other spells begun =
     let parts : take n bytes ++ drop n bytes ≡ bytes = take-append-drop n bytes in
-    let rest : drop n bytes ≡ [] = no_mark_begins_another (take n bytes) (drop n bytes) other mark begun (subst (λ (b : Bytes). Spells b mark) (sym parts) spells) in
+    let rest : drop n bytes ≡ [] =
+    no_mark_begins_another (take n bytes) (drop n bytes) other mark begun (subst (λ (b : Bytes). Spells b mark) (sym parts) spells) in
     sym (append-nil (take n bytes)) ∙ ap (λ (b : Bytes). take n bytes ++ b) (sym rest) ∙ parts
 
 -- files of an outcome with a text that is its mark's, or none
-module _ (compile : Content → Outcome) (known : List Given) (given : Given) (among : Contains known given) (built : (outcome_of compile given).status ≡ 0) (bytes : Bytes) (mark : MarkView) (spells : Spells bytes mark) (own : IsMarkOf given (outcome_of compile given) mark) where
+module _ (compile : Content → Outcome) (known : List Given) (given : Given) (among : Contains known given) (built : (outcome_of compile given).status ≡ 0)
+    (bytes : Bytes) (mark : MarkView) (spells : Spells bytes mark) (own : IsMarkOf given (outcome_of compile given) mark) where
   abbrev files : List File
   files = (outcome_of compile given).files
 

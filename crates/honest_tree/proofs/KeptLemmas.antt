@@ -1,12 +1,11 @@
 -- What is kept of honest folders.
-use Rattle.std.proofs.Common.{◌≡◌, ◌⊎◌, inl, inr, ℕ, suc, true, List, [], ◌∷◌, length, map, Option, Some, Contains, refl, sym, ◌∙◌, ap, subst, arith}
+use Rattle.std.proofs.Common.{◌≡◌, inl, inr, ℕ, suc, true, List, [], ◌∷◌, length, map, Some, Contains, refl, sym, ◌∙◌, ap, subst, arith}
 use Rattle.std.proofs.Math.Path.{path_j'}
 use Rattle.mx_base.specs.declared.file.File.{File}
 use Rattle.mx_base.specs.declared.row.FileRow.{FileRow}
 use Rattle.mx_base.specs.Listing.{listing_digest, rows_of}
 use Rattle.compile_model.specs.declared.outcome.Outcome.{Outcome}
 use Rattle.compile_model.specs.Content.{Content, outcome_with}
-use Rattle.build_manifest.specs.declared.description.Description.{Description}
 use Rattle.build_manifest.specs.Description.{need_digests, said_by}
 use Rattle.build_manifest.specs.Mark.{MarkView, Need}
 use Rattle.build_manifest.specs.Text.{Spells}
@@ -23,7 +22,8 @@ use Rattle.honest_tree.proofs.HonestLemmas.{same_bytes}
 -- an outcome's rows and digest follow from its files
 module _ (status : ℕ) (text : List ℕ) (files : List File) where
   abbrev made_of : (rows : List FileRow) → rows ≡ rows_of files → (digest : List ℕ) → digest ≡ listing_digest rows → Outcome
-  made_of rows listed digest digested = record { status = status; text = text; files = files; rows = rows; digest = digest; listed = listed; digested = digested }
+  made_of rows listed digest digested =
+      record { status = status; text = text; files = files; rows = rows; digest = digest; listed = listed; digested = digested }
 
   by_files : (rows : List FileRow) (listed : rows ≡ rows_of files) → outcome_with status text files ≡ made_of rows listed (listing_digest rows) refl
   by_files rows listed = path_j' (λ (r : List FileRow) e. outcome_with status text files ≡ made_of r e (listing_digest r) refl) refl listed
@@ -60,14 +60,16 @@ needs_from (n ∷ ns) (app ∷ apps) (o ∷ os) a d =
     let digest : n.0 ≡ o.digest = cc in
     let rest : map (λ (need : Need). need.1) ns ≡ apps = cc in
     let others : map (λ (need : Need). need.0) ns ≡ map (λ (outcome : Outcome). outcome.digest) os = cc in
-    ap (λ (t : List ℕ). (n.0, t) ∷ ns) own ∙ ap (λ (t : List ℕ). (t, app) ∷ ns) digest ∙ ap (λ (more : List Need). (o.digest, app) ∷ more) (needs_from ns apps os rest others)
+    ap (λ (t : List ℕ). (n.0, t) ∷ ns) own ∙ ap (λ (t : List ℕ). (t, app) ∷ ns) digest
+    ∙ ap (λ (more : List Need). (o.digest, app) ∷ more) (needs_from ns apps os rest others)
 
 -- a mark that describes an input says its description
 says_description : (mark : MarkView) (given : Given) → Describes mark given.job given.needs → said_by mark ≡ description given
 says_description mark given is =
     ap (λ (t : List ℕ). record { options = t; sources = mark.sources; needs = mark.needs }) is.described.options
     ∙ ap (λ (rows : List FileRow). record { options = given.job.options; sources = rows; needs = mark.needs }) is.described.sources
-    ∙ ap (λ (needs : List Need). record { options = given.job.options; sources = given.job.rows; needs = needs }) (needs_from mark.needs given.job.need_apps given.needs is.described.apps is.outputs)
+    ∙ ap (λ (needs : List Need). record { options = given.job.options; sources = given.job.rows; needs = needs })
+    (needs_from mark.needs given.job.need_apps given.needs is.described.apps is.outputs)
 
 mark_says : (given : Given) (outcome : Outcome) (mark : MarkView) → IsMarkOf given outcome mark →
     (said_by mark ≡ description given) × (mark.text ≡ outcome.text)
@@ -85,7 +87,8 @@ kept_outcome compile known held kept given honest is apart each match = at (hone
     at : (made : Given) × Contains known made × IsMadeFrom compile made held kept.mark → kept.outcome ≡ outcome_of compile given
     at (made, among, from) =
         let says = mark_says made (outcome_of compile made) kept.mark from.own in
-        let same : description given ≡ description made = sym (says_description kept.mark given ((described kept.mark given.job given.needs each).0 match)) ∙ says.0 in
+        let same : description given ≡ description made =
+        sym (says_description kept.mark given ((described kept.mark given.job given.needs each).0 match)) ∙ says.0 in
         let one : content given ≡ content made = apart given made (0, omega arith, refl) (contains_more given known made among) same in
         let o = outcome_of compile made in
         is.outcome ∙ ap (λ (t : List ℕ). outcome_with 0 t held.files) says.1 ∙ ap (λ (fs : List File). outcome_with 0 o.text fs) from.files

@@ -1,5 +1,5 @@
 -- What is compiled, and what it means.
-use Rattle.std.specs.Prelude.{◌≡◌, ◌≢◌, List, Contains, length}
+use Rattle.std.specs.Prelude.{◌≡◌, List, Contains}
 use Rattle.compile_model.specs.declared.job.Job.{Job}
 use Rattle.compile_model.specs.declared.outcome.Outcome.{Outcome}
 use Rattle.compile_model.specs.Content.{Content, content_of}

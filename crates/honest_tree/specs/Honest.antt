@@ -1,5 +1,5 @@
 -- Trees whose marks tell what they were made from.
-use Rattle.std.specs.Prelude.{◌≡◌, ◌⊎◌, ℕ, List, Option, Some, None, Contains}
+use Rattle.std.specs.Prelude.{◌≡◌, ◌⊎◌, ℕ, List, Some, None, Contains}
 use Rattle.compile_model.specs.declared.outcome.Outcome.{Outcome}
 use Rattle.compile_model.specs.Content.{Content}
 use Rattle.build_manifest.specs.declared.mark.MarkFormat.TheVariants.{One}

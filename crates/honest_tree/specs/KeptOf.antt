@@ -1,5 +1,5 @@
 -- What is kept of a tree for a plan.
-use Rattle.std.specs.Prelude.{◌≡◌, ◌≢◌, ℕ, List, length, slice_get, Option, Some, None}
+use Rattle.std.specs.Prelude.{◌≡◌, ℕ, List, length, slice_get, Option, Some, None}
 use Rattle.mx_base.specs.declared.file.File.{File}
 use Rattle.mx_base.specs.Listing.{rows_of}
 use Rattle.compile_model.specs.declared.job.Job.{Job}

@@ -7,5 +7,6 @@
 mod laws;
 
 pub use laws::{
-    honest_for_more, honest_is_kept, kept_is_the_outcome, marking_is_honest, one_kept, unread_is_honest,
+    honest_for_more, honest_is_kept, kept_is_the_outcome, marking_is_honest, one_kept,
+    unread_is_honest,
 };

@@ -11,7 +11,11 @@ use std::{fs, str};
 use tree_host::{HostFolder, HostStore};
 use tree_store::{Folder, Store, StoreFault};
 
-pub(crate) fn folder_of(rt: HostRuntime, alloc: Global, root: &str) -> Result<HostFolder<HostRuntime>, Fail> {
+pub(crate) fn folder_of(
+    rt: HostRuntime,
+    alloc: Global,
+    root: &str,
+) -> Result<HostFolder<HostRuntime>, Fail> {
     let mut store = HostStore::new(rt, alloc, root)?;
     let (env, app) = (name(alloc, "dev")?, name(alloc, "a")?);
     told(store.folder(alloc, &env, &app))
@@ -77,11 +81,7 @@ fn a_folder_is_cleared_but_for_what_links_lead_to(rt: HostRuntime) -> Result<(),
 }
 
 #[tactic(auto, using(tree_store::proofs::MomentLemmas::writes_key))]
-fn put_anew<F: Folder>(
-    alloc: Global,
-    folder: &mut F,
-    file: &RelPath,
-) -> Result<(), StoreFault>
+fn put_anew<F: Folder>(alloc: Global, folder: &mut F, file: &RelPath) -> Result<(), StoreFault>
     ensures { (F.known folder.new).key ≡ (F.known folder.old).key }
 {
     folder.unmark(alloc)?;

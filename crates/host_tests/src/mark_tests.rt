@@ -12,7 +12,11 @@ use tree_store::{Folder, Store};
 // The mark of outputs that no files and no needs gave, of 59 bytes.
 const MARK: &str = "mark 1\noptions 1\nx\nsources 0\nneeds 0\noutputs 0\ntext 0\n\nend\n";
 
-fn is_read_back(alloc: Global, folder: &mut HostFolder<HostRuntime>, bytes: &[u8]) -> Result<bool, Fail> {
+fn is_read_back(
+    alloc: Global,
+    folder: &mut HostFolder<HostRuntime>,
+    bytes: &[u8],
+) -> Result<bool, Fail> {
     let found = told(folder.read_mark(alloc))?;
     Ok(found.is_some_and(|mark: Bytes| mark.as_slice() == bytes))
 }
@@ -45,7 +49,10 @@ fn a_mark_leaves_the_files_as_they_are(rt: HostRuntime) -> Result<(), Fail> {
         return Err(Fail::new("other files"));
     }
     told(folder.unmark(alloc))?;
-    same(fs::read_to_string(&rt, "beside/_build/dev/lib/a/x")?.as_str(), "x")
+    same(
+        fs::read_to_string(&rt, "beside/_build/dev/lib/a/x")?.as_str(),
+        "x",
+    )
 }
 
 // A folder in its place is no mark that could be read, taken away or written.

@@ -146,7 +146,11 @@ fn a_store_lists_apps_that_have_files(rt: HostRuntime) -> Result<(), Fail> {
 #[test]
 fn a_store_lists_what_has_a_mark_alone(rt: HostRuntime) -> Result<(), Fail> {
     let alloc = rt.alloc();
-    write_files(rt, "marks/_build", &["dev/lib/a/z", "dev/marks/b", "test/marks/a", "-/marks/a"])?;
+    write_files(
+        rt,
+        "marks/_build",
+        &["dev/lib/a/z", "dev/marks/b", "test/marks/a", "-/marks/a"],
+    )?;
     fs::create_dir_all(&rt, "marks/_build/none/lib/a")?;
     fs::create_dir_all(&rt, "marks/_build/none/marks/a")?;
     let mut text = String::new(alloc);

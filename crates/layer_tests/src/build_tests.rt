@@ -92,8 +92,13 @@ fn an_older_mark_stands_where_the_next_fails(rt: HostRuntime) -> Result<(), Fail
             "store's call {store_fails}, folder's call {folder_fails}"
         );
     }
-    let mut store: ConstStore =
-        MemStore::new(alloc, Contents::new(alloc), NoFaults, NoFaults, NoFaults);
+    let mut store: ConstStore = MemStore::new(
+        alloc,
+        Contents::new(alloc),
+        NoFaults,
+        NoFaults,
+        NoFaults,
+    );
     assert!(rt; marked(alloc, &mut store, &name) == Ok((6, 1, 1)));
     Ok(())
 }

@@ -7,7 +7,8 @@ ghost use Rattle.partition_face.specs.Counts.{CanRun};
 use compile_model::{How, Input, Job, Origin, Verdict};
 use mx_base::{AppName, Bytes, FaultPlan, Files, ListOf, Listing, RelPath, Text};
 use partition_face::{
-    Counts, EchoMaker, EchoPartition, FakePartition, ListMaker, Maker, MakerFault, Partition, RunFault,
+    Counts, EchoMaker, EchoPartition, FakePartition, ListMaker, Maker, MakerFault, Partition,
+    RunFault,
 };
 use std::alloc::{AllocError, Global};
 use std::test::Fail;
@@ -112,12 +113,10 @@ fn started<M: Maker>(alloc: Global, maker: &mut M, n: u32) -> Result<usize, Make
 #[test]
 fn a_maker_starts_as_many_as_it_has(rt: HostRuntime) -> Result<(), Fail> {
     let alloc = rt.alloc();
-    let mut partitions = Vec::new(alloc);
-    for _ in 0..4 {
-        partitions.push(EchoPartition::new())?;
-    }
+    let partitions = vec![in alloc; EchoPartition::new(), EchoPartition::new()]?;
     let mut maker = ListMaker::new(partitions, failing_at(alloc, 2)?);
-    for wanted in [Ok(1), Err(MakerFault::Failed), Ok(1), Ok(1), Ok(1), Err(MakerFault::Failed)] {
+    let failed = Err(MakerFault::Failed);
+    for wanted in [Ok(1), failed, Ok(1), failed] {
         assert!(rt; started(alloc, &mut maker, 1) == wanted);
     }
     assert!(rt; started(alloc, &mut maker, 0) == Ok(0));
