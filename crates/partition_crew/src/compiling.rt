@@ -52,6 +52,7 @@ pub(crate) fn compile_into<P: Partition, F: Folder>(
 }
 
 // Takes the mark away, and then all files.
+#[tactic(auto, using(crate::proofs::Courses::touches_write, tree_store::proofs::MomentLemmas::unmarked_after))]
 fn empty<F: Folder>(alloc: Global, folder: &mut F) -> Result<(), StoreFault>
     ensures emptied { OnOk result (Wrote emptied (F.known folder.old) (F.known folder.new)) }
     ensures stops { StopsIn (IsAsBefore (F.known folder.old).held) (F.known folder.old)
@@ -94,6 +95,7 @@ fn settle<F: Folder>(
 }
 
 // Writes the mark of an input beside the files that the run left.
+#[tactic(auto, using(crate::proofs::Courses::touches_look))]
 fn finish<F: Folder>(
     alloc: Global,
     input: &Input<'_>,
@@ -104,7 +106,7 @@ fn finish<F: Folder>(
     requires apart { AppsDiffer input.now.job.now.need_apps }
     requires needs { length input.now.needs.now ≡ length input.now.job.now.needs }
     requires unmarked { IsUnmarked (F.known folder.old) }
-    ensures compiled { IfOk result (λ twin. (twin.event.status ≡ 0) × IsCompiled
+    ensures compiled { IfOk result (λ twin. IsCompiled
         (given_by input.now.job.now input.now.needs.now) twin (F.known folder.old)
         (F.known folder.new)) }
     ensures outcome { IfOk result (λ twin. IfSome (F.known folder.old).held (λ held.
@@ -151,6 +153,7 @@ fn mark_text(alloc: Global, input: &Input<'_>, outcome: &Outcome) -> Result<Byte
 }
 
 // Removes what the run left.
+#[tactic(auto, using(crate::proofs::Courses::touches_write))]
 fn fail<F: Folder>(
     alloc: Global,
     status: u32,
