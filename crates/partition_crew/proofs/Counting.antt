@@ -1,9 +1,8 @@
 -- Counts of faults, runs and deaths.
-use Rattle.std.proofs.Common.{◌≡◌, ℕ, ◌+◌, Bool, true, false, Result, Ok, Err, cond, ◌==◌, refl, sym, ◌∙◌, ap, subst, arith}
+use Rattle.std.proofs.Common.{◌≡◌, ℕ, ◌+◌, Bool, true, false, Ok, Err, cond, ◌==◌, refl, subst, arith}
 use Rattle.mx_base.specs.Blame.{fails}
 use Rattle.mx_base.specs.Causes.{Counted}
 use Rattle.compile_model.specs.declared.outcome.Twin.{Twin}
-use Rattle.compile_model.specs.declared.outcome.Verdict.{Verdict}
 use Rattle.tree_store.specs.declared.store.StoreFault.{StoreFault}
 use Rattle.tree_store.specs.declared.store.StoreFault.TheVariants as store
 use Rattle.tree_store.specs.Blame.{blame_of}

@@ -1,10 +1,10 @@
 -- What is written into a folder, one call after another.
-use Rattle.std.proofs.Common.{◌≡◌, ◌⊎◌, inl, inr, ℕ, Bool, true, false, List, [], ◌∷◌, ◌++◌, Option, Some, None, IfSome, OnOk, option_map, Result, Ok, Err, refl, sym, ◌∙◌, ap, subst, append_assoc}
+use Rattle.std.proofs.Common.{◌≡◌, ℕ, Bool, false, List, [], ◌∷◌, ◌++◌, Option, Some, None, IfSome, OnOk, option_map, Result, Ok, Err, refl, sym, ◌∙◌, ap, subst, append_assoc}
 use Rattle.mx_base.specs.Blame.{fails}
 use Rattle.tree_store.specs.declared.holding.Holding.{Holding}
 use Rattle.tree_store.specs.declared.store.StoreFault.{StoreFault}
 use Rattle.tree_store.specs.Blame.{blame_of}
-use Rattle.tree_store.specs.FolderKnown.{FolderKnown, IsBare, IsUnmarked, Looks, Writes, written}
+use Rattle.tree_store.specs.FolderKnown.{FolderKnown, IsBare, Looks, Writes, written}
 use Rattle.tree_store.specs.Holding.{nothing}
 use Rattle.tree_store.specs.Moment.{Write, Moment, IsImage, after_all, after_moments, leaves}
 use Rattle.tree_store.specs.Moment.Write.{Unmark, Clear}

@@ -23,7 +23,7 @@ use Rattle.partition_face.specs.declared.partition.RunFault.{RunFault}
 use Rattle.partition_face.specs.declared.partition.RunFault.TheVariants as run
 use Rattle.partition_face.specs.Runs.{IsVerdictOf, NeverMarks}
 use Rattle.partition_crew.specs.declared.worked.Worked.TheVariants.{Finished, Failed}
-use Rattle.partition_crew.specs.Work.{HasWorked, IsCompiled, IsDone, IsMeant, IsTwinOf, Settles, Wrote, emptied, outcome_by, whole, worked_of}
+use Rattle.partition_crew.specs.Work.{HasWorked, IsCompiled, IsDone, IsMeant, IsTwinOf, Wrote, emptied, outcome_by, whole, worked_of}
 use Rattle.partition_crew.specs.Work.Settles.{built, failed}
 use Rattle.partition_crew.proofs.Courses.{course_of, emptied_holds, looks_still, wrote_one}
 use Rattle.partition_crew.proofs.Stopping.{stops_marking}
@@ -121,7 +121,7 @@ pub compiled_marked : (given : Given) (text : List ℕ) (outcome : Outcome) (twi
 compiled_marked given text outcome twin bytes a m b looks status own spells event fate is =
     let wrote : Wrote (whole (Mark bytes) ∷ []) a b = wrote_one (Mark bytes) a b (is ∙ ap (written (Mark bytes) Whole b.faults) (looks_still a m looks)) in
     let files : IfSome a.held (λ held. held.files ≡ twin.event.files) =
-        if_told a.held (λ held here. ap (λ (o : Outcome). o.files) (sym (event ∙ told_has (λ h. outcome ≡ outcome_with 0 text h.files) a.held held here own))) in
+    if_told a.held (λ held here. ap (λ (o : Outcome). o.files) (sym (event ∙ told_has (λ h. outcome ≡ outcome_with 0 text h.files) a.held held here own))) in
     record {
       last = Mark bytes;
       settles = built bytes (ap (λ (o : Outcome). o.status) event ∙ status) (subst (λ (o : Outcome). Spells bytes (mark_of given.job given.needs o)) (sym event) spells)
@@ -137,8 +137,8 @@ pub stops_finish : {X : Type 0} (compile : Content → Outcome) (given : Given) 
 stops_finish compile given known text outcome bytes a m b result bare looks status own spells writes meant =
     stops_marking compile given known outcome bytes a b result bare spells status
     (if_told a.held (λ held here.
-        let is : outcome ≡ outcome_with 0 text held.files = told_has (λ h. outcome ≡ outcome_with 0 text h.files) a.held held here own in
-        (ap (λ (o : Outcome). o.files) (sym is), is ∙ told_has (λ h. outcome_with 0 text h.files ≡ outcome_of compile given) a.held held here meant)))
+    let is : outcome ≡ outcome_with 0 text held.files = told_has (λ h. outcome ≡ outcome_with 0 text h.files) a.held held here own in
+    (ap (λ (o : Outcome). o.files) (sym is), is ∙ told_has (λ h. outcome_with 0 text h.files ≡ outcome_of compile given) a.held held here meant)))
     (subst (λ (f : FolderKnown). Writes (Mark bytes) f b result) (looks_still a m looks) writes)
 
 -- ---- by the status of the verdict

@@ -1,18 +1,17 @@
 -- What stops leave while a place is worked on.
-use Rattle.std.proofs.Common.{◌≡◌, ◌⊎◌, inl, inr, ℕ, suc, List, [], ◌∷◌, Option, Some, None, IfSome, option_map, Result, Contains, refl, sym, ◌∙◌, ap, subst, arith}
-use Rattle.mx_base.specs.declared.file.File.{File}
+use Rattle.std.proofs.Common.{◌≡◌, ◌⊎◌, inl, inr, ℕ, suc, List, ◌∷◌, Option, Some, None, IfSome, Result, Contains, refl, sym, ◌∙◌, ap, subst, arith}
 use Rattle.compile_model.specs.declared.outcome.Outcome.{Outcome}
 use Rattle.compile_model.specs.Content.{Content}
 use Rattle.build_manifest.specs.MarkOf.{mark_of}
 use Rattle.build_manifest.specs.Text.{Spells}
 use Rattle.tree_store.specs.declared.holding.Holding.{Holding}
 use Rattle.tree_store.specs.declared.store.StoreFault.{StoreFault}
-use Rattle.tree_store.specs.FolderKnown.{FolderKnown, IsUnmarked, Looks, StopsIn, Writes}
+use Rattle.tree_store.specs.FolderKnown.{FolderKnown, IsUnmarked, StopsIn, Writes}
 use Rattle.tree_store.specs.Holding.{only_files}
 use Rattle.tree_store.specs.Moment.{Part, IsImage, leaves}
 use Rattle.tree_store.specs.Moment.Write.{Unmark, Clear, Mark}
 use Rattle.tree_store.specs.Moment.Part.{Whole, Untouched, Gone, Begun, Those}
-use Rattle.tree_store.proofs.MomentLemmas.{if_told, told_has, stops_at_write, stops_end, stops_still, stops_then, unmarked_after}
+use Rattle.tree_store.proofs.MomentLemmas.{if_told, told_has, stops_at_write, stops_end, stops_still, stops_then}
 use Rattle.honest_tree.specs.Given.{Given, outcome_of}
 use Rattle.honest_tree.specs.Honest.{IsHonest}
 use Rattle.honest_tree.proofs.HonestLemmas.{marking_honest, more_holding, unmarked_honest}
@@ -94,16 +93,16 @@ pub stops_marking : {X : Type 0} (compile : Content → Outcome) (given : Given)
 stops_marking compile given known outcome bytes a b result bare spells built meant writes =
     stops_at_write (IsHonest compile (given ∷ known)) (Mark bytes) a b result writes
     (if_told a.held (λ held is part. at held (told_has (λ h. h.mark ≡ None) a.held held is bare)
-        (told_has (λ h. (h.files ≡ outcome.files) × (outcome ≡ outcome_of compile given)) a.held held is meant) part))
+    (told_has (λ h. (h.files ≡ outcome.files) × (outcome ≡ outcome_of compile given)) a.held held is meant) part))
   where
     at : (held : Holding) → held.mark ≡ None → (held.files ≡ outcome.files) × (outcome ≡ outcome_of compile given) → (part : Part) → IsHonest compile (given ∷ known) (leaves (Mark bytes) part held)
     at held none is part =
         let files : held.files ≡ (outcome_of compile given).files = is.0 ∙ ap (λ (o : Outcome). o.files) is.1 in
         let own : held ≡ only_files (outcome_of compile given).files =
-            ap (λ (m : Option (List ℕ)). record { files = held.files; mark = m }) none ∙ ap only_files files in
+        ap (λ (m : Option (List ℕ)). record { files = held.files; mark = m }) none ∙ ap only_files files in
         subst (λ (h : Holding). IsHonest compile (given ∷ known) (leaves (Mark bytes) part h)) (sym own)
         (marking_honest compile (given ∷ known) given (first_among given known) (ap (λ (o : Outcome). o.status) (sym is.1) ∙ built) bytes (mark_of given.job given.needs outcome) spells
-            (inr (ap (mark_of given.job given.needs) is.1)) part)
+        (inr (ap (mark_of given.job given.needs) is.1)) part)
 
 -- what stays honest wherever a stop comes is honest in the end
 pub stays_honest : (compile : Content → Outcome) (given : Given) (a b : FolderKnown)

@@ -126,11 +126,7 @@ fn finish<F: Folder>(
 }
 
 // The outcome of status 0 with the files that a folder holds.
-fn outcome_in<F: Folder>(
-    alloc: Global,
-    text: Bytes,
-    folder: &mut F,
-) -> Result<Outcome, StoreFault>
+fn outcome_in<F: Folder>(alloc: Global, text: Bytes, folder: &mut F) -> Result<Outcome, StoreFault>
     ensures status { IfOk result (λ outcome. outcome.status ≡ 0) }
     ensures outcome { IfOk result (λ outcome. IfSome (F.known folder.old).held (λ held.
         outcome ≡ outcome_with 0 text held.files)) }

@@ -45,11 +45,5 @@ pub fn work<P: Partition, F: Folder>(
         (tree_failed result) }
 {
     let job = &plan.jobs.as_slice()[lease.place as usize];
-    Worked::of(compile_into(
-        alloc,
-        partition,
-        job,
-        needs,
-        &mut lease.folder,
-    ))
+    Worked::of(compile_into(alloc, partition, job, needs, &mut lease.folder))
 }

@@ -1,10 +1,10 @@
-use Rattle.std.proofs.Common.{◌≡◌, ◌∷◌, Bool, List, None, false, subst}
+use Rattle.std.proofs.Common.{◌≡◌, ◌∷◌, Bool, None, false, subst}
 use Rattle.tree_store.specs.FolderKnown.{FolderKnown}
 use Rattle.tree_store.proofs.MomentLemmas.{stops_end, stops_then}
 use Rattle.honest_tree.specs.Given.{Given, outcome_of}
 use Rattle.honest_tree.specs.Honest.{IsHonest}
 use Rattle.partition_face.specs.Runs.{IsVerdictOf}
-use Rattle.partition_crew.specs.Work.{Touches, given_by, worked_of}
+use Rattle.partition_crew.specs.Work.{Touches, given_by}
 use Rattle.partition_crew.proofs.Counting.{counted_run, lives_with_twin, tree_with_twin}
 use Rattle.partition_crew.proofs.Courses.{emptied_bare, touches_then}
 use Rattle.partition_crew.proofs.Settling.{done_of, meant_of, told_after}
@@ -41,8 +41,8 @@ returns-in_err-settle-clause-honest g c = λ honest.
     let ran : FolderKnown = g.F.Folder.known c.run.new.folder in
     let end : FolderKnown = g.F.Folder.known c.settle.new.folder in
     stays_then compile given (g.F.Folder.known c.args.folder.now) b end c.in_ok-empty.ensures.stops (λ known.
-        stops_then (IsHonest compile (given ∷ known)) b ran end (stops_never compile (given ∷ known) b ran c.run.ensures.unmarked)
-        (c.settle.ensures.stops compile known (told_after (IsVerdictOf (outcome_of compile given) ran c.in_ok-verdict.verdict) b ran c.run.ensures.unmarked (c.in_ok-verdict.ensures.meaning honest))))
+    stops_then (IsHonest compile (given ∷ known)) b ran end (stops_never compile (given ∷ known) b ran c.run.ensures.unmarked)
+    (c.settle.ensures.stops compile known (told_after (IsVerdictOf (outcome_of compile given) ran c.in_ok-verdict.verdict) b ran c.run.ensures.unmarked (c.in_ok-verdict.ensures.meaning honest))))
 
 pub returns-clause-done : goal.returns-clause-done
 returns-clause-done g c =
@@ -63,8 +63,8 @@ returns-clause-honest g c = λ honest.
     let ran : FolderKnown = g.F.Folder.known c.run.new.folder in
     let end : FolderKnown = g.F.Folder.known c.settle.new.folder in
     stays_then compile given (g.F.Folder.known c.args.folder.now) b end c.in_ok-empty.ensures.stops (λ known.
-        stops_then (IsHonest compile (given ∷ known)) b ran end (stops_never compile (given ∷ known) b ran c.run.ensures.unmarked)
-        (c.settle.ensures.stops compile known (told_after (IsVerdictOf (outcome_of compile given) ran c.in_ok-verdict.verdict) b ran c.run.ensures.unmarked (c.in_ok-verdict.ensures.meaning honest))))
+    stops_then (IsHonest compile (given ∷ known)) b ran end (stops_never compile (given ∷ known) b ran c.run.ensures.unmarked)
+    (c.settle.ensures.stops compile known (told_after (IsVerdictOf (outcome_of compile given) ran c.in_ok-verdict.verdict) b ran c.run.ensures.unmarked (c.in_ok-verdict.ensures.meaning honest))))
 
 pub returns-clause-counts : goal.returns-clause-counts
 returns-clause-counts g c =

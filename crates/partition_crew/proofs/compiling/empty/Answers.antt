@@ -1,4 +1,3 @@
-use Rattle.std.proofs.Common.{◌≡◌}
 use Rattle.tree_store.specs.FolderKnown.{FolderKnown}
 use Rattle.tree_store.specs.Moment.Write.{Unmark, Clear}
 use Rattle.tree_store.proofs.MomentLemmas.{stops_then, unmarked_after}
