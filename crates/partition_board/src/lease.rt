@@ -1,0 +1,12 @@
+// Leases.
+use tree_store::Folder;
+
+/// A place that the partition of this number runs, with the place's folder.
+pub struct Lease<F: Folder> {
+    /// A job of the plan.
+    pub place: u32,
+    /// The number of the partition, from 1.
+    pub by: u32,
+    /// Where the job is compiled into.
+    pub folder: F,
+}

@@ -1,0 +1,6 @@
+//! What partitions are given to work on.
+#![tactic(auto)]
+
+mod lease;
+
+pub use lease::Lease;

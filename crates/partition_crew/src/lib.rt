@@ -1,0 +1,12 @@
+//! Partitions at work: one on one place, and one on all places of a plan.
+//!
+//! Whatever stands in a place's folder, it is emptied before the run, and a mark is written last, beside files that the
+//! run left. So what a stop leaves is no mark, or one that tells what it was made from.
+#![tactic(auto)]
+
+mod compiling;
+mod worked;
+mod working;
+
+pub use worked::Worked;
+pub use working::work;
