@@ -10,6 +10,7 @@ use Rattle.compile_model.specs.declared.how.How.TheVariants.{Nothing, Unit as By
 use Rattle.compile_model.specs.declared.outcome.Outcome.{Outcome}
 use Rattle.compile_model.specs.Content.{Content, Need, empty_outcome, outcome_with}
 use Rattle.unit_lang.specs.declared.error.UnitCause.{UnitCause}
+use Rattle.unit_lang.specs.declared.error.UnitCause.TheVariants.{OutOfMemory}
 use Rattle.unit_lang.specs.declared.error.UnitError.{UnitError}
 use Rattle.unit_lang.specs.declared.unit.Unit.{Unit as UnitFile}
 use Rattle.unit_lang.specs.Faults.{FirstFault}
@@ -29,6 +30,15 @@ answer_as (inr fault) = Err (record { line = fault.0; cause = fault.1 })
 -- the unit that a text spells, or its first fault
 abbrev pub read_of : List ℕ → Result UnitFile UnitError
 read_of text = answer_as (text_answered text)
+
+-- memory ran out, which says nothing of the text
+abbrev pub is_memory : UnitCause → Bool
+is_memory OutOfMemory = true
+is_memory cause = false
+
+abbrev pub ran_out : Result UnitFile UnitError → Bool
+ran_out (Ok unit) = false
+ran_out (Err error) = is_memory error.cause
 
 -- a unit file: its path, and what it is read as
 pub record Source : Type 0 where

@@ -1,5 +1,5 @@
 -- What the compiler's own values stand for.
-use Rattle.std.specs.Prelude.{◌≡◌, ℕ, ℤ, Bool, true, false, List, map, Option, Some, None, option_map, is_some, bytes_eq, Result, Ok, Err, Vec}
+use Rattle.std.specs.Prelude.{◌≡◌, ℕ, ℤ, List, map, Option, Some, None, option_map, is_some, bytes_eq, Result, Ok, Err, Vec}
 use Rattle.std.specs.Borrow.{Bor}
 use Rattle.std.specs.HashMap.{get_by}
 use Rattle.std.specs.declared.alloc.Global.{Global}
@@ -12,11 +12,7 @@ use Rattle.unit_compile.specs.declared.scope.Scope.{Scope as ScopeValue}
 use Rattle.unit_compile.specs.declared.source.Source.{Source as SourceValue}
 use Rattle.unit_compile.specs.declared.table.Table.{Table}
 use Rattle.unit_compile.specs.declared.warning.Warning.{Warning as WarningValue}
-use Rattle.unit_lang.specs.declared.error.UnitCause.{UnitCause}
-use Rattle.unit_lang.specs.declared.error.UnitCause.TheVariants as cause
-use Rattle.unit_lang.specs.declared.error.UnitError.{UnitError}
 use Rattle.unit_lang.specs.declared.unit.Line.{Line}
-use Rattle.unit_lang.specs.declared.unit.Unit.{Unit as UnitFile}
 use Rattle.unit_compile.specs.Complaints.{said}
 use Rattle.unit_compile.specs.Faces.{Export}
 use Rattle.unit_compile.specs.Said.{overflow}
@@ -70,11 +66,3 @@ Names named lines = (name : List ℕ) → is_some (in_table named name) ≡ is_n
 -- the table has the units of these files
 abbrev pub HasUnits : Table (Unit {0}) → List Source → Type 0
 HasUnits units sources = (name : List ℕ) → is_some (in_table units name) ≡ has_unit name sources
-
-abbrev pub is_memory : UnitCause → Bool
-is_memory cause.OutOfMemory = true
-is_memory other = false
-
-abbrev pub ran_out : Result UnitFile UnitError → Bool
-ran_out (Ok unit) = false
-ran_out (Err error) = is_memory error.cause

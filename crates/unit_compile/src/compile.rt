@@ -8,7 +8,7 @@ ghost use Rattle.unit_compile.specs.Views.{needs_in, source_in};
 
 use crate::needs::Needs;
 use crate::product::make;
-use crate::source::{Source, sources_of};
+use crate::source::Source;
 use crate::table::Table;
 use compile_model::{How, Input, Outcome};
 use mx_base::{Bytes, File, Files, RelPath};
@@ -53,7 +53,7 @@ fn compiled(alloc: Global, input: &Input) -> Result<Outcome, AllocError>
         ≡ compiled (content_of input.now.job.now input.now.needs.now)) }
 {
     let needs = Needs::of(input.job.need_apps.as_slice(), input.needs);
-    let sources = sources_of(alloc, input.job.sources.as_slice())?;
+    let sources = Source::all_of(alloc, input.job.sources.as_slice())?;
     outcome_of(alloc, &needs, sources.as_slice())
 }
 

@@ -69,7 +69,7 @@ impl<'a> From<Complaint<'a>> for Halt<'a> {
 impl<'a> Complaint<'a> {
     /// Adds what is said of it.
     pub(crate) fn push_to(self, text: &mut Vec<u8>) -> Result<(), AllocError>
-        ensures { OnOk result (text.new.items ≡ text.old.items ++ said self) }
+        ensures { OnOk result (text.new.items ≡ text.old.items ++ said self.entry) }
     {
         match self {
             Complaint::Malformed(cause) => push_text(text, cause_text(cause)),

@@ -3,7 +3,6 @@ ghost use Rattle.std.specs.Prelude.{◌≡◌, length, option_map, IfOk};
 ghost use Rattle.mx_base.specs.Order.{bytes_at};
 ghost use Rattle.unit_compile.specs.Faces.{face_name};
 ghost use Rattle.unit_compile.specs.Lines.{face_bytes};
-ghost use Rattle.unit_compile.specs.Views.{needs_in};
 
 use compile_model::Outcome;
 use mx_base::{AppName, File, Shared, Text};
@@ -18,6 +17,8 @@ pub(crate) struct Needs<'a> {
 }
 
 impl<'a> Needs<'a> {
+    ghost use Rattle.unit_compile.specs.Views.{needs_in};
+
     /// The needs of the input's job.
     pub(crate) fn of(apps: &'a [AppName], outcomes: &'a [Shared<Outcome>]) -> Needs<'a>
         requires { length apps.now ≡ length outcomes.now }

@@ -110,7 +110,7 @@ fn push_error(
     complaint: Complaint,
 ) -> Result<(), AllocError>
     ensures { OnOk result (text.new.items
-        ≡ text.old.items ++ error_line path.now line (said complaint)) }
+        ≡ text.old.items ++ error_line path.now line (said complaint.entry)) }
 {
     push_place(alloc, text, path, line)?;
     push_text(text, ": error: ")?;

@@ -2,8 +2,7 @@
 ghost use Rattle.std.specs.Prelude.{◌≡◌, IsTrue, IfOk, filter, map};
 ghost use Rattle.std.specs.Result.{ForOk};
 ghost use Rattle.mx_base.specs.AppName.{is_app_name};
-ghost use Rattle.unit_compile.specs.Units.{is_unit_file, source_of};
-ghost use Rattle.unit_compile.specs.Views.{ran_out, source_in};
+ghost use Rattle.unit_compile.specs.Units.{is_unit_file, ran_out, source_of};
 
 use mx_base::{File, RelPath};
 use std::alloc::{AllocError, Global};
@@ -17,40 +16,44 @@ pub(crate) struct Source<'a> {
     ghost named: { ForOk read (λ unit. IsTrue (is_app_name unit.name)) },
 }
 
-/// The unit files among these.
-pub(crate) fn sources_of<'a>(
-    alloc: Global,
-    files: &'a [File],
-) -> Result<Vec<Source<'a>>, AllocError>
-    ensures { IfOk result (λ sources. map source_in sources.items
-        ≡ map source_of (filter is_unit_file files.now)) }
-{
-    let mut sources = Vec::new(alloc);
-    for file in files {
-        if is_unit_file(file) {
-            sources.push(source_of(alloc, file)?)?;
+impl<'a> Source<'a> {
+    ghost use Rattle.unit_compile.specs.Views.{source_in};
+
+    /// The unit files among these.
+    pub(crate) fn all_of(
+        alloc: Global,
+        files: &'a [File],
+    ) -> Result<Vec<Source<'a>>, AllocError>
+        ensures { IfOk result (λ sources. map source_in sources.items
+            ≡ map source_of (filter is_unit_file files.now)) }
+    {
+        let mut sources = Vec::new(alloc);
+        for file in files {
+            if is_unit_file(file) {
+                sources.push(Source::of(alloc, file)?)?;
+            }
         }
+        Ok(sources)
     }
-    Ok(sources)
+
+    fn of(alloc: Global, file: &'a File) -> Result<Source<'a>, AllocError>
+        ensures { IfOk result (λ source. source_in source ≡ source_of file.now) }
+    {
+        let read = parse_unit(alloc, file.bytes.as_slice());
+        if ran_out(&read) {
+            return Err(AllocError);
+        }
+        Ok(Source {
+            path: &file.path,
+            read,
+        })
+    }
 }
 
 fn is_unit_file(file: &File) -> bool
     ensures { result ≡ is_unit_file file.now }
 {
     file.path.as_str().as_bytes().ends_with(b".unit")
-}
-
-fn source_of<'a>(alloc: Global, file: &'a File) -> Result<Source<'a>, AllocError>
-    ensures { IfOk result (λ source. source_in source ≡ source_of file.now) }
-{
-    let read = parse_unit(alloc, file.bytes.as_slice());
-    if ran_out(&read) {
-        return Err(AllocError);
-    }
-    Ok(Source {
-        path: &file.path,
-        read,
-    })
 }
 
 // Whether memory ran out.
