@@ -29,13 +29,14 @@ pub(crate) fn read_face<'a>(
         if left == 0 {
             return Ok(if line.is_empty() { Some(exports) } else { None });
         }
-        match export_in(alloc, *line)? {
-            Some((name, value)) if before.cmp(name).is_lt() => {
-                exports.push((name, value))?;
-                before = name;
-            }
-            _ => return Ok(None),
+        let Some((name, value)) = export_in(alloc, *line)? else {
+            return Ok(None);
+        };
+        if before.cmp(name).is_ge() {
+            return Ok(None);
         }
+        exports.push((name, value))?;
+        before = name;
     }
     Ok(None)
 }

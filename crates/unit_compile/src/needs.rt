@@ -1,6 +1,7 @@
 // The needs of a job, and the faces of their units.
 ghost use Rattle.std.specs.Prelude.{◌≡◌, length, option_map, IfOk};
 ghost use Rattle.mx_base.specs.Order.{bytes_at};
+ghost use Rattle.compile_model.specs.Content.{needs_of};
 ghost use Rattle.unit_compile.specs.Faces.{face_name};
 ghost use Rattle.unit_compile.specs.Lines.{face_bytes};
 
@@ -22,8 +23,7 @@ impl<'a> Needs<'a> {
     /// The needs of the input's job.
     pub(crate) fn of(apps: &'a [AppName], outcomes: &'a [Shared<Outcome>]) -> Needs<'a>
         requires { length apps.now ≡ length outcomes.now }
-        ensures apps { result.apps ≡ apps }
-        ensures outcomes { result.outcomes ≡ outcomes }
+        ensures { needs_in result ≡ needs_of apps.now outcomes.now }
     {
         Needs { apps, outcomes }
     }

@@ -29,9 +29,10 @@ impl<'a> Source<'a> {
     {
         let mut sources = Vec::new(alloc);
         for file in files {
-            if is_unit_file(file) {
-                sources.push(Source::of(alloc, file)?)?;
+            if !is_unit_file(file) {
+                continue;
             }
+            sources.push(Source::of(alloc, file)?)?;
         }
         Ok(sources)
     }
