@@ -1,9 +1,10 @@
 -- The values of exports, and the lines of a face.
-use Rattle.std.proofs.Common.{◌≡◌, ℕ, ◌==◌, ◌∷◌, [], ◌++◌, List, map, length, Bool, true, false, cond, Option, Some, None, option_map, ℤ, bytes_eq, refl, sym, ap, ◌∙◌, append_assoc}
+use Rattle.std.proofs.Common.{◌≡◌, ℕ, ◌+◌, ◌-◌, ◌<◌, ◌==◌, drop, get_or, arith, ◌∷◌, [], ◌++◌, List, map, length, Bool, true, false, cond, Option, Some, None, option_map, ℤ, bytes_eq, refl, sym, ap, ◌∙◌, append_assoc}
 use Rattle.std.specs.Borrow.{Bor}
 use Rattle.std.specs.Option.{option_or}
 use Rattle.std.specs.Ordering.{is_lt}
-use Rattle.std.proofs.lemmas.List.{append-nil, map-append}
+use Rattle.std.proofs.lemmas.List.{drop_more, append-nil, map-append}
+use Rattle.std.proofs.lemmas.List.{length-map, length-drop}
 use Rattle.mx_base.specs.Order.{text_cmp}
 use Rattle.unit_compile.specs.Faces.{Export, export_in, exports_after, exports_in, onto, value_of}
 use Rattle.unit_compile.specs.Views.{export_of, exports_of}
@@ -62,3 +63,11 @@ next_export exports new before line lines text export more read is order grown =
     ∙ sym (ap (λ (b : Bool). option_map (λ rest. exports_of exports ++ rest) (cond b (option_map (λ rest. export_of export ∷ rest) (exports_after export.0.now lines)) None)) order)
     ∙ sym (ap (λ (e : Option Export). option_map (λ rest. exports_of exports ++ rest) (onto before e (λ name. exports_after name lines))) is)
     ∙ further exports before line lines text more read }
+
+-- the first of the lines that are left
+pub first_line : (items : List (Bor (List ℕ))) (place : ℕ) (line : Bor (List ℕ)) → place < length items
+    → map (λ l. l.now) (drop place items) ≡ (get_or items place line).now ∷ map (λ l. l.now) (drop (place + 1) items)
+first_line items place line less = ap (map (λ l. l.now)) (drop_more items place line less)
+
+pub lines_left : (items : List (Bor (List ℕ))) (place : ℕ) → length (map (λ l. l.now) (drop (place + 1) items)) ≡ length items - (place + 1)
+lines_left items place = simp (length-map, length-drop)

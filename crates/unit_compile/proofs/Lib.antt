@@ -4,3 +4,5 @@ pub mod ReadLemmas
 pub mod SaidLemmas
 pub mod NeedLemmas
 pub mod WarningLemmas
+pub mod SourceLemmas
+pub mod ProductLemmas

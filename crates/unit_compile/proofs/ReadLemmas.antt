@@ -1,5 +1,5 @@
 -- What a text is read as.
-use Rattle.std.proofs.Common.{◌≡◌, ℕ, List, Bool, true, false, refl, sym, ap, ◌∙◌, inl, inr, IsTrue, subst, arith, [], ◌∷◌, nat_le}
+use Rattle.std.proofs.Common.{◌≡◌, ℕ, List, Bool, true, false, refl, sym, ap, ◌∙◌, inl, inr, IsTrue, subst, arith, [], ◌∷◌, ◌&&◌, length, nat_le}
 use Rattle.std.specs.Prelude.{◌⊎◌, Result, Ok, Err}
 use Rattle.std.specs.List.{list_all}
 use Rattle.std.proofs.lemmas.Bool.{and_parts, and_from}
@@ -71,15 +71,23 @@ shorter n e = grind (arith, nat_tests)
 
 pub is_app : (name : List ℕ) → is_name name ≡ true → is_app_name name ≡ true
 is_app [] e = cc
-is_app (b ∷ bs) e = ?
+is_app (b ∷ bs) e =
+    let outer = and_parts (is_small_letter b && list_all is_name_byte bs) (nat_le (length (b ∷ bs)) 64) e in
+    let inner = and_parts (is_small_letter b) (list_all is_name_byte bs) outer.0 in
+    and_from (fits_at 0 b && list_all (fits_at 1) bs) (nat_le (length (b ∷ bs)) 255)
+    (and_from (fits_at 0 b) (list_all (fits_at 1) bs) (small_fits b inner.0) (all_fit bs inner.1))
+    (shorter (length (b ∷ bs)) outer.1)
 
-pub made_named : {number : ℕ} {lines : List (List ℕ)} {u : UnitFile} → Makes number lines u → is_name u.name ≡ true
+made_named : {number : ℕ} {lines : List (List ℕ)} {u : UnitFile} → Makes number lines u → is_name u.name ≡ true
 made_named (Makes.blank short blank m) = made_named m
 made_named (Makes.heading short n body) = n.2.0
 
+same_unit : (r : Result UnitFile UnitError) (u x : UnitFile) → r ≡ Ok u → r ≡ Ok x → u ≡ x
+same_unit r u x e f = cc
+
+not_both : (r : Result UnitFile UnitError) (error : UnitError) (x : UnitFile) → r ≡ Err error → r ≡ Ok x → ⊥
+not_both r error x e f = cc
+
 pub read_named : (text : List ℕ) (r : Result UnitFile UnitError) → Answers blame_of r (IsRead text) → (x : UnitFile) → r ≡ Ok x → IsTrue (is_app_name x.name)
-read_named text (Ok u) s x e = is_app x.name (subst (λ (v : UnitFile). is_name v.name ≡ true) (ok_same u x e) (made_named s.makes))
-  where
-    ok_same : (u x : UnitFile) → Ok {E = UnitError} u ≡ Ok x → u ≡ x
-    ok_same u x e = cc
-read_named text (Err error) f x e = absurd (cc)
+read_named text (Ok u) s x e = is_app x.name (subst (λ (v : UnitFile). is_name v.name ≡ true) (same_unit (Ok u) u x refl e) (made_named s.makes))
+read_named text (Err error) f x e = absurd (not_both (Err error) error x refl e)

@@ -1,10 +1,10 @@
 // What the unit files of a job give together.
-ghost use Rattle.std.specs.Prelude.{◌≡◌, ◌||◌, [], false, is_none, length, map, IfOk, OnOk};
+ghost use Rattle.std.specs.Prelude.{◌≡◌, ◌||◌, ◌++◌, [], ◌∷◌, List, false, is_none, length, map, IfOk, OnOk};
 ghost use Rattle.mx_base.specs.Order.{AreInOrder};
 ghost use Rattle.compile_model.specs.Content.{content_of};
 ghost use Rattle.compile_model.specs.Planned.{IsNamed};
-ghost use Rattle.unit_compile.specs.Units.{all_made, compiled, file_of, outcome_with_all, outcome_of, unit_meaning, with_face};
-ghost use Rattle.unit_compile.specs.Views.{needs_in, source_in};
+ghost use Rattle.unit_compile.specs.Units.{Source as Read, all_made, compiled, file_of, outcome_with_all, outcome_of, unit_meaning, with_face};
+ghost use Rattle.unit_compile.specs.Views.{HasUnits, needs_in, source_in};
 
 use crate::needs::Needs;
 use crate::product::make;
@@ -70,11 +70,20 @@ fn outcome_of<'a>(
     for source in sources {
         let face = make(alloc, needs, &units, source, &mut product.text)?;
         product.add(face)?;
-        if let Ok(unit) = &source.read {
-            units.insert(unit.name.as_slice(), ())?;
-        }
+        note_unit(&mut units, source)?;
     }
     product.into_outcome(alloc)
+}
+
+// Adds the unit that a file has.
+fn note_unit<'a>(units: &mut Table<'a, ()>, source: &'a Source<'a>) -> Result<(), AllocError>
+    ensures { (before : List Read) → HasUnits units.old before
+        → OnOk result (HasUnits units.new (before ++ source_in source.now ∷ [])) }
+{
+    match &source.read {
+        Ok(unit) => units.insert(unit.name.as_slice(), ()),
+        Err(_) => Ok(()),
+    }
 }
 
 impl Product {

@@ -27,12 +27,15 @@ pub(crate) fn read_face<'a>(
     for line in &lines {
         left -= 1;
         if left == 0 {
-            return Ok(if line.is_empty() { Some(exports) } else { None });
+            if line.is_empty() {
+                return Ok(Some(exports));
+            }
+            return Ok(None);
         }
         let Some((name, value)) = export_in(alloc, *line)? else {
             return Ok(None);
         };
-        if before.cmp(name).is_ge() {
+        if !before.cmp(name).is_lt() {
             return Ok(None);
         }
         exports.push((name, value))?;
