@@ -71,3 +71,9 @@ first_line items place line less = ap (map (λ l. l.now)) (drop_more items place
 
 pub lines_left : (items : List (Bor (List ℕ))) (place : ℕ) → length (map (λ l. l.now) (drop (place + 1) items)) ≡ length items - (place + 1)
 lines_left items place = simp (length-map, length-drop)
+
+-- there are more of them
+pub more_lines : (items : List (Bor (List ℕ))) (place left : ℕ) → left + place ≡ length items → (left - 1 == 0) ≡ false → (length (map (λ l. l.now) (drop (place + 1) items)) == 0) ≡ false
+more_lines items place left all more =
+    let same : length items - (place + 1) ≡ left - 1 = omega arith in
+    ap (λ (n : ℕ). n == 0) (lines_left items place ∙ same) ∙ more

@@ -34,9 +34,8 @@ passed apps outcomes place name app unit expected less same is other so_far =
 
 -- the first is named so
 pub found : (apps : List (List ℕ)) (outcomes : List Outcome) (place : ℕ) (name app unit : List ℕ) (outcome : Outcome) (expected : Option (List ℕ)) → place < length apps → length apps ≡ length outcomes
-    → name ≡ get_or apps place name → outcome ≡ get_or outcomes place outcome → bytes_eq app name ≡ true → face_from place apps outcomes app unit ≡ expected → bytes_at (face_name unit) outcome.files ≡ expected
-found apps outcomes place name app unit outcome expected less same is is_also here so_far =
-    ap (λ (o : Outcome). bytes_at (face_name unit) o.files) is_also
-    ∙ sym (ap (λ (needs : List Need). face_bytes needs app unit) (first_need apps outcomes place name outcome less same)
+    → name ≡ get_or apps place name → bytes_eq app name ≡ true → face_from place apps outcomes app unit ≡ expected → bytes_at (face_name unit) (get_or outcomes place outcome).files ≡ expected
+found apps outcomes place name app unit outcome expected less same is here so_far =
+    sym (ap (λ (needs : List Need). face_bytes needs app unit) (first_need apps outcomes place name outcome less same)
     ∙ found_in (record { app = get_or apps place name; files = (get_or outcomes place outcome).files }) (needs_of (drop (place + 1) apps) (drop (place + 1) outcomes)) app unit true (ap (bytes_eq app) (sym is) ∙ here))
     ∙ so_far

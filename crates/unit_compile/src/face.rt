@@ -32,14 +32,14 @@ pub(crate) fn read_face<'a>(
             }
             return Ok(None);
         }
-        let Some((name, value)) = export_in(alloc, *line)? else {
+        let Some(export) = export_in(alloc, *line)? else {
             return Ok(None);
         };
-        if !before.cmp(name).is_lt() {
+        if !before.cmp(export.0).is_lt() {
             return Ok(None);
         }
-        exports.push((name, value))?;
-        before = name;
+        before = export.0;
+        exports.push(export)?;
     }
     Ok(None)
 }
@@ -101,7 +101,7 @@ pub(crate) fn face_text(alloc: Global, exports: &BTreeMap<Text, i64>) -> Result<
     ensures { IfOk result (λ bytes. bytes ≡ face_text exports.now.entries) }
 {
     let mut text = Vec::new(alloc);
-    for (name, value) in exports {
+    for (name, value) in exports.iter() {
         push_export(alloc, &mut text, name, *value)?;
     }
     Ok(Bytes::from_vec(text))

@@ -19,4 +19,4 @@ returns-then-eq c =
     ∙ ap (λ (path : List ℕ). bytes_at path c.as_slice-files.result.now) (c.as_slice-then-eq.ensures.value ∙ c.in_ok-name.ensures ∙ ap face_name c.as_slice.ensures)
     ∙ ap (λ (files : List File). bytes_at (face_name c.args.unit.now) files) (c.as_slice-files.ensures.value ∙ ap (λ (o : Outcome). o.files) c.get.ensures)
     ∙ found c.args.self.now.apps.now c.args.self.now.outcomes.now c.loop-place.place c.other-item.result c.args.app.now c.args.unit.now c.index-self-place.result _ less c.args.self.now.paired
-    c.other-item.is c.index-self-place.is (sym c.eq.ensures ∙ c.if-eq.true) c.loop-place.invariant
+    c.other-item.is (sym c.eq.ensures ∙ c.if-eq.true) c.loop-place.invariant
