@@ -1,5 +1,5 @@
 -- The values of exports, and the lines of a face.
-use Rattle.std.proofs.Common.{◌≡◌, ℕ, ◌+◌, ◌-◌, ◌<◌, ◌==◌, drop, get_or, arith, ◌∷◌, [], ◌++◌, List, map, length, Bool, true, false, cond, Option, Some, None, option_map, ℤ, bytes_eq, refl, sym, ap, ◌∙◌, append_assoc}
+use Rattle.std.proofs.Common.{◌≡◌, ℕ, ◌+◌, ◌-◌, ◌<◌, ◌==◌, drop, get_or, arith, ne_eqb, ◌∷◌, [], ◌++◌, List, map, length, Bool, true, false, cond, Option, Some, None, option_map, ℤ, bytes_eq, refl, sym, ap, ◌∙◌, append_assoc}
 use Rattle.std.specs.Borrow.{Bor}
 use Rattle.std.specs.Option.{option_or}
 use Rattle.std.specs.Ordering.{is_lt}
@@ -73,7 +73,7 @@ pub lines_left : (items : List (Bor (List ℕ))) (place : ℕ) → length (map (
 lines_left items place = simp (length-map, length-drop)
 
 -- there are more of them
-pub more_lines : (items : List (Bor (List ℕ))) (place left : ℕ) → left + place ≡ length items → (left - 1 == 0) ≡ false → (length (map (λ l. l.now) (drop (place + 1) items)) == 0) ≡ false
+pub more_lines : (items : List (Bor (List ℕ))) (place left : ℕ) → left + place ≡ length items → (left - 1 ≡ 0 → ⊥) → (length (map (λ l. l.now) (drop (place + 1) items)) == 0) ≡ false
 more_lines items place left all more =
     let same : length items - (place + 1) ≡ left - 1 = omega arith in
-    ap (λ (n : ℕ). n == 0) (lines_left items place ∙ same) ∙ more
+    ap (λ (n : ℕ). n == 0) (lines_left items place ∙ same) ∙ ne_eqb (left - 1) 0 more
