@@ -57,12 +57,14 @@ with_more xs x (Some rest) = ap Some (sym (append_assoc xs (x ∷ []) rest))
 
 pub next_export : (exports new : List (Bor (List ℕ) × ℤ)) (before line : List ℕ) (lines : List (List ℕ)) (text : List ℕ) (export : Bor (List ℕ) × ℤ) → (length lines == 0) ≡ false → IsReadUpTo exports before (line ∷ lines) text
     → export_in line ≡ Some (export_of export) → is_lt (text_cmp before export.0.now) ≡ true → new ≡ exports ++ export ∷ [] → IsReadUpTo new export.0.now lines text
-next_export exports new before line lines text export more read is order grown = record { rest =
-    ap (λ (es : List Export). option_map (λ rest. es ++ rest) (exports_after export.0.now lines)) (ap exports_of grown ∙ map-append export_of exports (export ∷ []))
-    ∙ sym (with_more (exports_of exports) (export_of export) (exports_after export.0.now lines))
-    ∙ sym (ap (λ (b : Bool). option_map (λ rest. exports_of exports ++ rest) (cond b (option_map (λ rest. export_of export ∷ rest) (exports_after export.0.now lines)) None)) order)
-    ∙ sym (ap (λ (e : Option Export). option_map (λ rest. exports_of exports ++ rest) (onto before e (λ name. exports_after name lines))) is)
-    ∙ further exports before line lines text more read }
+next_export exports new before line lines text export more read is order grown = record {
+  rest =
+      ap (λ (es : List Export). option_map (λ rest. es ++ rest) (exports_after export.0.now lines)) (ap exports_of grown ∙ map-append export_of exports (export ∷ []))
+      ∙ sym (with_more (exports_of exports) (export_of export) (exports_after export.0.now lines))
+      ∙ sym (ap (λ (b : Bool). option_map (λ rest. exports_of exports ++ rest) (cond b (option_map (λ rest. export_of export ∷ rest) (exports_after export.0.now lines)) None)) order)
+      ∙ sym (ap (λ (e : Option Export). option_map (λ rest. exports_of exports ++ rest) (onto before e (λ name. exports_after name lines))) is)
+      ∙ further exports before line lines text more read;
+}
 
 -- the first of the lines that are left
 pub first_line : (items : List (Bor (List ℕ))) (place : ℕ) (line : Bor (List ℕ)) → place < length items

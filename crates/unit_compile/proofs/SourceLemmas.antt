@@ -13,7 +13,7 @@ pub taken : (sources new : List SourceValue) (source : SourceValue) (files : Lis
 taken sources new source files place file all less is unit same grown so_far =
     let rest = map source_of (filter is_unit_file (drop (place + 1) files)) in
     let dropped : drop place files ≡ file ∷ drop (place + 1) files =
-        drop_more files place file less ∙ ap (λ (f : File). f ∷ drop (place + 1) files) (sym is) in
+    drop_more files place file less ∙ ap (λ (f : File). f ∷ drop (place + 1) files) (sym is) in
     ap (λ (ss : List SourceValue). map source_in ss ++ rest) grown
     ∙ ap (λ (ss : List Source). ss ++ rest) (map-append source_in sources (source ∷ []))
     ∙ append_assoc (map source_in sources) (source_in source ∷ []) rest

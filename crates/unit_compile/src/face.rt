@@ -107,12 +107,7 @@ pub(crate) fn face_text(alloc: Global, exports: &BTreeMap<Text, i64>) -> Result<
     Ok(Bytes::from_vec(text))
 }
 
-fn push_export(
-    alloc: Global,
-    text: &mut Vec<u8>,
-    name: &Text,
-    value: i64,
-) -> Result<(), AllocError>
+fn push_export(alloc: Global, text: &mut Vec<u8>, name: &Text, value: i64) -> Result<(), AllocError>
     ensures { OnOk result (text.new.items ≡ text.old.items ++ face_line (name.now, value)) }
 {
     text.extend_from_slice(name.as_slice())?;

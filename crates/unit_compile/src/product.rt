@@ -36,12 +36,24 @@ pub(crate) fn make<'a>(
 {
     match &source.read {
         Err(error) => {
-            push_error(alloc, text, source.path, error.line, Complaint::Malformed(&error.cause))?;
+            push_error(
+                alloc,
+                text,
+                source.path,
+                error.line,
+                Complaint::Malformed(&error.cause),
+            )?;
             Ok(None)
         }
         Ok(unit) => {
             if units.has(unit.name.as_slice()) {
-                push_error(alloc, text, source.path, unit.line, Complaint::UnitThere(&unit.name))?;
+                push_error(
+                    alloc,
+                    text,
+                    source.path,
+                    unit.line,
+                    Complaint::UnitThere(&unit.name),
+                )?;
                 return Ok(None);
             }
             make_unit(alloc, needs, source.path, unit, text)

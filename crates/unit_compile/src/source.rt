@@ -20,10 +20,7 @@ impl<'a> Source<'a> {
     ghost use Rattle.unit_compile.specs.Views.{source_in};
 
     /// The unit files among these.
-    pub(crate) fn all_of(
-        alloc: Global,
-        files: &'a [File],
-    ) -> Result<Vec<Source<'a>>, AllocError>
+    pub(crate) fn all_of(alloc: Global, files: &'a [File]) -> Result<Vec<Source<'a>>, AllocError>
         ensures { IfOk result (λ sources. map source_in sources.items
             ≡ map source_of (filter is_unit_file files.now)) }
     {

@@ -20,7 +20,7 @@ loop-line-preserved c =
     record {
       left = omega arith;
       read = next_export c.loop-line.exports.items c.push.new.self.items c.loop-line.before.now line lines c.args.text.now c.in-Some.export
-        (more_lines items place c.loop-line.left c.loop-line.invariant.left c.if-left-eq0.false)
-        (subst (λ (ls : List (List ℕ)). IsReadUpTo c.loop-line.exports.items c.loop-line.before.now ls c.args.text.now) (first_line items place none less) c.loop-line.invariant.read)
-        export order c.in_ok-push.ensures.items;
+          (more_lines items place c.loop-line.left c.loop-line.invariant.left c.if-left-eq0.false)
+          (subst (λ (ls : List (List ℕ)). IsReadUpTo c.loop-line.exports.items c.loop-line.before.now ls c.args.text.now) (first_line items place none less) c.loop-line.invariant.read)
+          export order c.in_ok-push.ensures.items;
     }
