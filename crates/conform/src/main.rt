@@ -5,6 +5,7 @@
 //! texts are written and what is answered.
 #![tactic(auto)]
 
+mod compiled;
 mod compilers;
 mod cores;
 mod fields;
@@ -25,6 +26,7 @@ mod units;
 mod wanted;
 mod writable;
 
+use compiled::compiled_case;
 use compilers::{command_case, manager_case, settings_case};
 use cores::core_case;
 use fields::{Fault, fields_of};
@@ -86,6 +88,7 @@ fn answer(alloc: Global, out: &mut String, line: &str) -> Result<(), Fault> {
         "message" => message_case(alloc, out, texts),
         "write" => write_case(alloc, out, texts),
         "unit" => unit_case(alloc, out, texts),
+        "unit_compile" => compiled_case(alloc, out, texts),
         "decls" => decls_case(alloc, out, texts),
         "project" => project_case(alloc, out, texts),
         "manifest" => manifest_case(alloc, out, texts),

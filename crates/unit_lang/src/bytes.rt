@@ -40,7 +40,7 @@ pub(crate) fn is_word_byte(byte: u8) -> bool
 }
 
 /// Whether the bytes are a name: a small letter and what goes on, at most 64 bytes.
-pub(crate) fn is_name(bytes: &[u8]) -> bool
+pub fn is_name(bytes: &[u8]) -> bool
     ensures { result ≡ is_name bytes.now }
 {
     match bytes {

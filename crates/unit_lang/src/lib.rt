@@ -22,6 +22,7 @@ mod token;
 mod unit;
 mod words;
 
+pub use bytes::is_name;
 pub use error::{UnitCause, UnitError};
 pub use parse::{faults_stand_apart, one_fault, one_unit, parse_unit, some_answer};
 pub use unit::{Expression, Line, Lines, Statement, Unit};

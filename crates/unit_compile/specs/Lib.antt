@@ -1,0 +1,9 @@
+pub mod Said
+pub mod Faces
+pub mod Values
+pub mod Lines
+pub mod Warnings
+pub mod Units
+pub mod Facts
+pub mod Complaints
+pub mod Views
