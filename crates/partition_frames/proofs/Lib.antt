@@ -1,2 +1,6 @@
-pub mod Fields
-pub mod Lists
+pub mod Before
+pub mod Counted
+pub mod Folders
+pub mod Lacking
+pub mod Sequences
+pub mod Singles

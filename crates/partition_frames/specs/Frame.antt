@@ -71,6 +71,32 @@ pub record IsFolder (dir : List ℕ) : Type 0 where
   pub itself : joined [] dir ≡ Ok dir
   pub outside : IsFalse (is_in_build dir)
 
+-- the job that is meant
+abbrev pub head_fields : ℕ → List ℕ → List ℕ → List (List ℕ)
+head_fields n env app = number_field n ++ (text_field env ++ text_field app)
+
+abbrev pub IsHead : ℕ → List ℕ → List ℕ → Type 0
+IsHead n env app = IsNumber n × (IsAppName env × IsAppName app)
+
+-- how it is compiled
+abbrev pub work_fields : List ℕ → How → List Variable → List (List ℕ)
+work_fields options how system_env = text_field options ++ (how_fields how ++ list_fields variable_fields system_env)
+
+abbrev pub IsWork : List ℕ → How → List Variable → Type 0
+IsWork options how system_env = IsText options × (IsHow how × IsList IsVariable system_env)
+
+-- its folder, and what it needs
+abbrev pub place_fields : List ℕ → List (List ℕ) → List (List ℕ)
+place_fields dir needs = text_field dir ++ list_fields text_field needs
+
+abbrev pub IsPlace : List ℕ → List (List ℕ) → Type 0
+IsPlace dir needs = IsFolder dir × IsList IsAppName needs
+
+-- the folder isn't the root, and doesn't lead into the folder of builds
+pub record IsSent (dir : List ℕ) : Type 0 where
+  pub not_root : dir ≢ []
+  pub outside : IsFalse (is_in_build dir)
+
 -- ---- frames
 
 abbrev pub kind_of : Frame → ℕ
@@ -83,17 +109,14 @@ kind_of Bye = 4
 abbrev pub fields_of : Frame → List (List ℕ)
 fields_of (Hello cookie index) = text_field cookie ++ number_field index
 fields_of (Job n env app options how system_env dir needs) =
-    number_field n ++ (text_field env ++ (text_field app ++ (text_field options ++ (how_fields how
-    ++ (list_fields variable_fields system_env ++ (text_field dir ++ list_fields text_field needs))))))
+    head_fields n env app ++ (work_fields options how system_env ++ place_fields dir needs)
 fields_of (Verdict n status text) = number_field n ++ (number_field status ++ text_field text)
 fields_of Bye = []
 
 -- what the fields of a body may say
 abbrev pub IsSound : Frame → Type 0
 IsSound (Hello cookie index) = IsText cookie × IsNumber index
-IsSound (Job n env app options how system_env dir needs) =
-    IsNumber n × (IsAppName env × (IsAppName app × (IsText options × (IsHow how
-    × (IsList IsVariable system_env × (IsFolder dir × IsList IsAppName needs))))))
+IsSound (Job n env app options how system_env dir needs) = IsHead n env app × (IsWork options how system_env × IsPlace dir needs)
 IsSound (Verdict n status text) = IsNumber n × (IsNumber status × IsText text)
 IsSound Bye = Unit {0}
 
@@ -106,7 +129,7 @@ IsSmall frame = length (payload_of frame) ≤ most
 
 -- the folder of a job's frame isn't the root and doesn't lead into the folder of builds
 abbrev pub HasFolder : Frame → Type 0
-HasFolder (Job n env app options how system_env dir needs) = (dir ≢ []) × IsFalse (is_in_build dir)
+HasFolder (Job n env app options how system_env dir needs) = IsSent dir
 HasFolder frame = Unit {0}
 
 abbrev pub frame_text : Frame → List ℕ

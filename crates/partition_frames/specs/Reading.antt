@@ -7,7 +7,7 @@ use Rattle.partition_frames.specs.declared.error.FrameCause.TheVariants.{BadLeng
 use Rattle.partition_frames.specs.declared.error.FrameError.{FrameError}
 use Rattle.partition_frames.specs.declared.frame.Frame.{Frame}
 use Rattle.partition_frames.specs.Field.{Lacks, together}
-use Rattle.partition_frames.specs.Frame.{IsNumber, IsSound, Stands, fields_of, kind_of, most, number}
+use Rattle.partition_frames.specs.Frame.{IsNumber, IsSound, Spells, Stands, fields_of, kind_of, most, number}
 
 abbrev pub blame_of_cause : FrameCause → Blame
 blame_of_cause OutOfMemory = Memory
@@ -36,13 +36,20 @@ abbrev pub MayHaveKind : List ℕ → Type 0
 MayHaveKind [] = Unit {0}
 MayHaveKind (kind ∷ body) = IsKind kind
 
+-- a frame opens with a length in range, and with a kind as far as it stands there
+pub record Opens (bytes : List ℕ) (size : ℕ) : Type 0 where
+  pub rest : List ℕ
+  pub stated : HasSize bytes size rest
+  pub range : IsInRange size
+  pub kind : MayHaveKind rest
+
 -- ---- more bytes are needed
 
 pub data NeedsMore (bytes : List ℕ) : Type 0 where
   -- the length doesn't stand there whole
   InLength : length bytes < 4 → NeedsMore bytes
-  -- so many bytes don't stand behind the length
-  InFrame : (size : ℕ) (rest : List ℕ) → HasSize bytes size rest → IsInRange size → MayHaveKind rest → length rest < size → NeedsMore bytes
+  -- so many bytes don't stand there behind the length
+  InFrame : (size : ℕ) → Opens bytes size → length bytes < 4 + size → NeedsMore bytes
 
 -- ---- refusals
 
@@ -104,3 +111,14 @@ abbrev pub IsReading : List ℕ → Result (Option (Frame × ℕ)) FrameError �
 IsReading bytes (Ok None) = NeedsMore bytes
 IsReading bytes (Ok (Some read)) = IsFront bytes read.0 read.1
 IsReading bytes (Err error) = IsRefused bytes error.cause error.at
+
+-- a frame stands there whole, and nothing behind it
+pub record IsWhole (bytes : List ℕ) : Type 0 where
+  pub size : ℕ
+  pub opens : Opens bytes size
+  pub all : length bytes ≡ 4 + size
+
+-- .. and what reading it answers
+abbrev pub IsWholeReading : List ℕ → Result Frame FrameError → Type 0
+IsWholeReading bytes (Ok frame) = Spells bytes frame
+IsWholeReading bytes (Err error) = IsRefused bytes error.cause error.at

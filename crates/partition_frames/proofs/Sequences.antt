@@ -6,11 +6,8 @@ use Rattle.std.proofs.lemmas.List.{length-replicate}
 use Rattle.reading.specs.Field.{PairFits, TellsItsEnd}
 use Rattle.reading.proofs.Fields.{same_rest}
 use Rattle.partition_frames.specs.Field.{Lacks, together}
-use Rattle.partition_frames.proofs.Fields.{Tells, first_lacks, lacks_otherwise, pair_fields, second_lacks, text_by, together_append}
-
--- so many values that fit
-abbrev pub SoMany : {A : Type 0} → (A → Type 0) → ℕ → List A → Type 0
-SoMany Fits count values = (length values ≡ count) × AllByRecursion Fits values
+use Rattle.partition_frames.specs.Pieces.{SoMany}
+use Rattle.partition_frames.proofs.Lacking.{Tells, first_lacks, lacks_otherwise, pair_fields, second_lacks, text_by, together_append}
 
 same_cons : {A : Type 0} (a b : A) (s t : List A) → a ≡ b → s ≡ t → a ∷ s ≡ b ∷ t
 same_cons a b s t e f = cc
