@@ -126,11 +126,10 @@ variable_tells =
     pair_of (λ v fits. (fits, refl)) (λ b c fb fc e. ap variable_of e)
     (both_tell text_field IsText (λ _. text_field) (λ _. IsText) text_field_tells (λ _ _. text_field_tells))
 
-pub some_variable : Variable
+abbrev pub some_variable : Variable
 some_variable = record { name = []; value = [] }
 
 pub some_variable_is : IsVariable some_variable
-  unfolding some_variable
 some_variable_is = (omega arith, omega arith)
 
 -- two pieces, one behind the other

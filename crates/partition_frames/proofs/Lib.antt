@@ -1,4 +1,5 @@
 pub mod Before
+pub mod Bodies
 pub mod Counted
 pub mod Folders
 pub mod Lacking

@@ -87,10 +87,10 @@ values_tell fields Fits tells count (v ∷ vs) (w ∷ ws) x y fa fb e =
 
 -- ---- one value more
 
-pub all_one_more : {A : Type 0} (Fits : A → Type 0) (done : List A) (value : A) → AllByRecursion Fits done → Fits value
+pub one_more_fits : {A : Type 0} (Fits : A → Type 0) (done : List A) (value : A) → AllByRecursion Fits done → Fits value
     → AllByRecursion Fits (done ++ value ∷ [])
-all_one_more Fits [] value fits next = (next, tt)
-all_one_more Fits (v ∷ vs) value fits next = (fits.0, all_one_more Fits vs value fits.1 next)
+one_more_fits Fits [] value fits next = (next, tt)
+one_more_fits Fits (v ∷ vs) value fits next = (fits.0, one_more_fits Fits vs value fits.1 next)
 
 pub together_one_more : {A : Type 0} (fields : A → List (List ℕ)) (done : List A) (value : A)
     → together (flat_map fields (done ++ value ∷ [])) ≡ together (flat_map fields done) ++ together (fields value)
@@ -100,3 +100,11 @@ together_one_more fields (v ∷ vs) value =
     ∙ ap (λ t. together (fields v) ++ t) (together_one_more fields vs value)
     ∙ sym (append_assoc (together (fields v)) (together (flat_map fields vs)) (together (fields value)))
     ∙ ap (λ t. t ++ together (fields value)) (sym (together_append (fields v) (flat_map fields vs)))
+
+pub one_more_read : {A : Type 0} (fields : A → List (List ℕ)) (done : List A) (value : A) (text rest after : List ℕ)
+    → text ≡ together (flat_map fields done) ++ rest → rest ≡ together (fields value) ++ after
+    → text ≡ together (flat_map fields (done ++ value ∷ [])) ++ after
+one_more_read fields done value text rest after cut more =
+    cut ∙ ap (λ t. together (flat_map fields done) ++ t) more
+    ∙ sym (append_assoc (together (flat_map fields done)) (together (fields value)) after)
+    ∙ ap (λ t. t ++ after) (sym (together_one_more fields done value))

@@ -21,10 +21,18 @@ fn read_texts(alloc: Global, count: u32, text: &[u8]) -> Result<(Vec<Text>, &[u8
     let mut rest = text;
     'texts: for _ in 0..count {
         let (bytes, after) = read_text(rest)?;
-        texts.push(Text::from_slice(alloc, bytes)?)?;
+        let copy = Text::from_slice(alloc, bytes)?;
+        texts.push(copy)?;
         rest = after;
     }
     Ok((texts, rest))
+}
+
+// Words have fewer than this.
+fn room(may_have: bool) -> u64
+    ensures { result ≡ room may_have }
+{
+    if may_have { 1 << 32 } else { 1 }
 }
 
 // A list of texts, which is empty unless it may have some.
@@ -37,7 +45,7 @@ fn read_words(alloc: Global, may_have: bool, text: &[u8]) -> Result<(Texts, &[u8
     let Ok((count, rest)) = read_number(text) else {
         return Err(Fault::Stuck(stuck_at(text)));
     };
-    if count > 0 && !may_have {
+    if u64::from(count) >= room(may_have) {
         return Err(Fault::Stuck(stuck_at(text)));
     }
     let (words, rest) = read_texts(alloc, count, rest)?;
