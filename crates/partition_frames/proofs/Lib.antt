@@ -3,5 +3,9 @@ pub mod Bodies
 pub mod Counted
 pub mod Folders
 pub mod Lacking
+pub mod Pushes
 pub mod Sequences
 pub mod Singles
+pub mod Sizes
+pub mod Streams
+pub mod Wholes

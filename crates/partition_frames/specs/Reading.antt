@@ -1,5 +1,5 @@
 -- What reading a frame answers.
-use Rattle.std.specs.Prelude.{◌≡◌, ◌⊎◌, ℕ, ◌+◌, ◌<◌, ◌≤◌, List, [], ◌∷◌, ◌++◌, length, Result, Ok, Err, Option, Some, None}
+use Rattle.std.specs.Prelude.{◌≡◌, ℕ, ◌+◌, ◌<◌, ◌≤◌, List, [], ◌∷◌, ◌++◌, length, Result, Ok, Err, Option, Some, None}
 use Rattle.mx_base.specs.Blame.{Blame}
 use Rattle.mx_base.specs.Blame.Blame.{Input, Memory}
 use Rattle.partition_frames.specs.declared.error.FrameCause.{FrameCause}
@@ -70,7 +70,7 @@ pub record IsBadLength (bytes : List ℕ) : Type 0 where
   pub size : ℕ
   pub rest : List ℕ
   pub stated : HasSize bytes size rest
-  pub outside : (size < 1) ⊎ (most < size)
+  pub outside : IsInRange size → ⊥
 
 -- the kind stands there and is none
 pub record IsBadKind (bytes : List ℕ) : Type 0 where
@@ -117,6 +117,12 @@ pub record IsWhole (bytes : List ℕ) : Type 0 where
   pub size : ℕ
   pub opens : Opens bytes size
   pub all : length bytes ≡ 4 + size
+
+-- its kind and body
+pub record HasBody (bytes : List ℕ) (kind : ℕ) (body : List ℕ) : Type 0 where
+  pub known : IsKind kind
+  pub stated : HasSize bytes (length (kind ∷ body)) (kind ∷ body)
+  pub range : IsInRange (length (kind ∷ body))
 
 -- .. and what reading it answers
 abbrev pub IsWholeReading : List ℕ → Result Frame FrameError → Type 0

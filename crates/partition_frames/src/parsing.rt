@@ -1,11 +1,11 @@
 // Frames, read.
-ghost use Rattle.std.specs.Prelude.{◌≡◌, ◌+◌, ◌<◌, ◌≤◌, ◌++◌, List, ℕ, length, IfNone, IfSome, MatchOption, MatchResult};
+ghost use Rattle.std.specs.Prelude.{◌≡◌, ◌+◌, ◌<◌, ◌≤◌, ◌++◌, ◌↔◌, length, IfNone, IfSome, IsTrue, MatchOption, MatchResult};
 ghost use Rattle.mx_base.specs.Blame.{Computes};
 ghost use Rattle.partition_frames.specs.declared.error.FrameCause.TheVariants.{BadBody};
 ghost use Rattle.partition_frames.specs.Field.{together};
-ghost use Rattle.partition_frames.specs.Frame.{IsNumber, fields_of, number};
+ghost use Rattle.partition_frames.specs.Frame.{fields_of};
 ghost use Rattle.partition_frames.specs.Pieces.{LacksBy};
-ghost use Rattle.partition_frames.specs.Reading.{HasSize, IsKind, IsOfKind, IsReading, IsRefused, IsWhole, IsWholeReading, Opens, blame_of};
+ghost use Rattle.partition_frames.specs.Reading.{HasBody, HasSize, IsInRange, IsKind, IsOfKind, IsReading, IsRefused, IsWhole, IsWholeReading, MayHaveKind, Opens, blame_of};
 
 use crate::error::{FrameCause, FrameError};
 use crate::fields::{Fault, read_number, read_text};
@@ -65,22 +65,27 @@ fn read_body(alloc: Global, kind: u8, text: &[u8]) -> Result<(Frame, &[u8]), Fau
     }
 }
 
-// The frame that these bytes are; they are as many as its length says.
+// Kind and body of a whole frame.
+fn kind_and_body(bytes: &[u8]) -> (u8, &[u8])
+    requires { IsWhole bytes.now }
+    ensures { HasBody bytes.now result.0 result.1.now }
+{
+    (bytes[LENGTH], &bytes[LENGTH + 1..])
+}
+
+/// The frame that these bytes are; they are as many as its length says.
 pub(crate) fn read_whole(alloc: Global, bytes: &[u8]) -> Result<Frame, FrameError>
     requires { IsWhole bytes.now }
     ensures { Computes blame_of result (IsWholeReading bytes.now) }
 {
-    let [_, _, _, _, kind, body @ ..] = bytes else {
-        unreachable!();
-    };
-    match read_body(alloc, *kind, body) {
+    let (kind, body) = kind_and_body(bytes);
+    match read_body(alloc, kind, body) {
         Ok((frame, rest)) => {
-            if rest.is_empty() {
-                Ok(frame)
-            } else {
+            if !rest.is_empty() {
                 drop(frame);
-                Err(refused_before(bytes, rest.len()))
+                return Err(refused_before(bytes, rest.len()));
             }
+            Ok(frame)
         }
         Err(Fault::Stuck(stuck)) => Err(refused_before(bytes, stuck.left)),
         Err(Fault::OutOfMemory) => Err(FrameError::MEMORY),
@@ -99,14 +104,30 @@ fn refused_before(bytes: &[u8], left: usize) -> FrameError
     }
 }
 
-// The length that the bytes begin with.
-fn length_of(bytes: &[u8]) -> Option<u32>
-    ensures some { IfSome result (λ size. (rest : List ℕ) × HasSize bytes.now size rest) }
+// The length that the bytes begin with, and what stands behind it.
+fn length_of(bytes: &[u8]) -> Option<(u32, &[u8])>
+    ensures some { IfSome result (λ read. HasSize bytes.now read.0 read.1.now) }
     ensures none { IfNone result (length bytes.now < 4) }
 {
-    match read_number(bytes) {
-        Ok((size, _)) => Some(size),
-        Err(_) => None,
+    let [first, second, third, fourth, rest @ ..] = bytes else {
+        return None;
+    };
+    Some((u32::from_be_bytes([*first, *second, *third, *fourth]), rest))
+}
+
+fn is_in_range(size: u32) -> bool
+    ensures { IsTrue result ↔ IsInRange size }
+{
+    0 < size && size <= MOST
+}
+
+// Whether a kind stands at the front, where a byte does.
+fn may_have_kind(rest: &[u8]) -> bool
+    ensures { IsTrue result ↔ MayHaveKind rest.now }
+{
+    match rest {
+        [] => true,
+        [kind, ..] => 1 <= *kind && *kind <= 4,
     }
 }
 
@@ -119,22 +140,22 @@ pub(crate) fn opened(bytes: &[u8]) -> Result<Option<u32>, FrameError>
     ensures { MatchResult result (λ size. MatchOption size (length bytes.now < 4) (Opens bytes.now))
         (λ error. IsRefused bytes.now error.cause error.at) }
 {
-    let Some(size) = length_of(bytes) else {
+    let Some((size, rest)) = length_of(bytes) else {
         return Ok(None);
     };
-    if size == 0 || size > MOST {
+    if !is_in_range(size) {
         return Err(FrameError {
             at: 0,
             cause: FrameCause::BadLength,
         });
     }
-    match bytes.get(LENGTH) {
-        Some(kind) if *kind < 1 || *kind > 4 => Err(FrameError {
+    if !may_have_kind(rest) {
+        return Err(FrameError {
             at: LENGTH as u64,
             cause: FrameCause::BadKind,
-        }),
-        _ => Ok(Some(size)),
+        });
     }
+    Ok(Some(size))
 }
 
 /// The frame at the front of the bytes and how many bytes it has, or none where more of them are needed. Bytes

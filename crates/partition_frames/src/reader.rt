@@ -1,5 +1,5 @@
 // A reader of frames that come in pieces.
-ghost use Rattle.std.specs.Prelude.{◌≡◌, ◌-◌, ◌<◌, ◌≤◌, ◌++◌, [], length, min, take, IfOk, MatchOption, MatchResult};
+ghost use Rattle.std.specs.Prelude.{◌≡◌, ◌-◌, ◌<◌, ◌≤◌, ◌++◌, [], get_or, length, min, take, IfOk, MatchOption, MatchResult};
 ghost use Rattle.mx_base.specs.Blame.{Computes};
 ghost use Rattle.partition_frames.specs.Reading.{IsRefused, IsWhole, IsWholeReading, Opens, blame_of};
 ghost use Rattle.partition_frames.specs.Stream.{HasRoom, IsNext, LeavesAll, most_held};
@@ -64,7 +64,7 @@ impl FrameReader {
         ensures left { LeavesAll self.old self.new result }
         ensures room { HasRoom self.new result }
     {
-        let Some(size) = self.opened()? else {
+        let Some(size) = opened_front(&self.held)? else {
             return Ok(None);
         };
         let used = LENGTH + size as usize;
@@ -72,39 +72,55 @@ impl FrameReader {
         if held < used {
             return Ok(None);
         }
-        let frame = self.front(alloc, used)?;
+        let frame = read_front(alloc, &mut self.held, used)?;
         self.held.truncate_front(held - used);
         Ok(Some(frame))
     }
+}
 
-    // What the bytes that are held open.
-    fn opened(&self) -> Result<Option<u32>, FrameError>
-        ensures { MatchResult result (λ size. MatchOption size (length self.now < 4) (Opens self.now))
-            (λ error. IsRefused self.now error.cause error.at) }
-    {
-        let mut head = [0; OPENING];
-        let count = self.held.len().min(OPENING);
-        for i in 0..count {
-            if let Some(byte) = self.held.get(i) {
-                head[i] = *byte;
-            }
-        }
-        opened(&head[..count])
+// The byte at a place, or 0 where none stands.
+fn byte_at(held: &HeapCircularBuffer<u8>, i: usize) -> u8
+    ensures { result ≡ get_or held.now.items i 0 }
+{
+    match held.get(i) {
+        Some(byte) => *byte,
+        None => 0,
     }
+}
 
-    // The frame of so many bytes that stands at the front. Bytes that wrap round the end of the buffer are moved only
-    // where this frame does, which is then given out, so that no byte is moved more than twice.
-    fn front(&mut self, alloc: Global, used: usize) -> Result<Frame, FrameError>
-        requires few { used ≤ length self.old }
-        requires whole { IsWhole (take used self.old) }
-        ensures answer { Computes blame_of result (IsWholeReading (take used self.old)) }
-        ensures held { self.new ≡ self.old }
-    {
-        let (straight, _) = self.held.as_slices();
-        if used <= straight.len() {
-            return read_whole(alloc, &straight[..used]);
-        }
-        let straight = self.held.make_contiguous();
-        read_whole(alloc, &straight[..used])
+// What the bytes that are held open.
+fn opened_front(held: &HeapCircularBuffer<u8>) -> Result<Option<u32>, FrameError>
+    ensures { MatchResult result
+        (λ size. MatchOption size (length held.now.items < 4) (Opens held.now.items))
+        (λ error. IsRefused held.now.items error.cause error.at) }
+{
+    let head = [
+        byte_at(held, 0),
+        byte_at(held, 1),
+        byte_at(held, 2),
+        byte_at(held, 3),
+        byte_at(held, 4),
+    ];
+    let count = held.len().min(OPENING);
+    opened(&head[..count])
+}
+
+// The frame of so many bytes that stands at the front. Bytes that wrap round the end of the buffer are moved only
+// where this frame does, which is then given out, so that no byte is moved more than twice.
+fn read_front(
+    alloc: Global,
+    held: &mut HeapCircularBuffer<u8>,
+    used: usize,
+) -> Result<Frame, FrameError>
+    requires few { used ≤ length held.old.items }
+    requires whole { IsWhole (take used held.old.items) }
+    ensures answer { Computes blame_of result (IsWholeReading (take used held.old.items)) }
+    ensures held { held.new ≡ held.old }
+{
+    let (straight, _) = held.as_slices();
+    if used <= straight.len() {
+        return read_whole(alloc, &straight[..used]);
     }
+    let straight = held.make_contiguous();
+    read_whole(alloc, &straight[..used])
 }

@@ -105,14 +105,21 @@ fn push_head(
     Ok(())
 }
 
+fn push_word(out: &mut Vec<u8>, word: &Text) -> Result<(), AllocError>
+    requires { IsText word.now }
+    ensures { OnOk result (out.new.items ≡ out.old.items ++ together (text_field word.now)) }
+{
+    push_text(out, word.as_slice())
+}
+
 fn push_words(out: &mut Vec<u8>, words: &[Text]) -> Result<(), AllocError>
     requires { IsList IsText words.now }
     ensures { OnOk result (out.new.items
         ≡ out.old.items ++ together (list_fields text_field words.now)) }
 {
     push_number(out, words.len() as u32)?;
-    for word in words {
-        push_text(out, word.as_slice())?;
+    for i in 0..words.len() {
+        push_word(out, &words[i])?;
     }
     Ok(())
 }
@@ -152,8 +159,8 @@ fn push_variables(out: &mut Vec<u8>, variables: &[Variable]) -> Result<(), Alloc
         ≡ out.old.items ++ together (list_fields variable_fields variables.now)) }
 {
     push_number(out, variables.len() as u32)?;
-    for variable in variables {
-        push_variable(out, variable)?;
+    for i in 0..variables.len() {
+        push_variable(out, &variables[i])?;
     }
     Ok(())
 }
@@ -181,8 +188,8 @@ fn push_names(out: &mut Vec<u8>, names: &[AppName]) -> Result<(), AllocError>
     ensures sound { OnOk result (AllByRecursion IsAppName names.now) }
 {
     push_number(out, names.len() as u32)?;
-    for name in names {
-        push_name(out, name)?;
+    for i in 0..names.len() {
+        push_name(out, &names[i])?;
     }
     Ok(())
 }
