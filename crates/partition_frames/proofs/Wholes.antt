@@ -2,7 +2,7 @@
 use Rattle.std.proofs.Common.{◌≡◌, ℕ, zero, suc, ◌+◌, ◌-◌, ◌^◌, ◌<◌, ◌≤◌, List, [], ◌∷◌, ◌++◌, length, get_or, take, drop, refl, sym, ap, ◌∙◌, arith, subst, inl, inr, ⊎_elim, append_assoc, append-nil, length-append, take-append-drop, length-drop}
 use Rattle.std.proofs.lemmas.List.{append_cancel_left, length-take}
 use Rattle.std.proofs.Math.Seq.{take-append-add}
-use Rattle.std.specs.Prelude.{MatchOption, MatchResult, Option, Some, None, Result, Ok, Err, min}
+use Rattle.std.specs.Prelude.{MatchOption, MatchResult, Option, Some, None, slice_get, Result, Ok, Err, min}
 use Rattle.mx_base.specs.Blame.{Computes, is_outside}
 use Rattle.partition_frames.specs.declared.error.FrameError.{FrameError}
 use Rattle.partition_frames.specs.declared.error.FrameCause.{FrameCause}
@@ -13,6 +13,9 @@ use Rattle.partition_frames.specs.Frame.{IsFrame, IsNumber, Spells, fields_of, f
 use Rattle.partition_frames.specs.Pieces.{LacksBefore}
 use Rattle.partition_frames.specs.Reading.{HasBody, HasSize, IsBadBody, IsBadKind, IsFront, IsInRange, IsKind, IsNoBody, IsOfKind, IsRefused, IsWhole, IsWholeReading, MayHaveKind, Opens, blame_of, blame_of_cause}
 use Rattle.partition_frames.specs.Reading.IsNoBody.{AtField, LeftOver}
+use Rattle.partition_frames.specs.Reading.NeedsMore.{InFrame}
+use Rattle.partition_frames.specs.Stream.{IsNext}
+use Rattle.circular_buffer.specs.Buffer.{Buffer, buffer, keep_last}
 use Rattle.partition_frames.proofs.Singles.{number_long, number_tells}
 
 -- ---- more bytes behind
@@ -214,3 +217,37 @@ pub head_told : (items : List ℕ) (r : Result (Option ℕ) FrameError)
 head_told items (Ok None) told = omega (arith, told, length-take 5 items)
 head_told items (Ok (Some size)) told = head_opens items size told
 head_told items (Err e) told = front_refused items 5 e.cause e.at told
+
+-- ---- what a reader answers
+
+pub none_at : (items : List ℕ) (i : ℕ) → None ≡ slice_get items i → 0 ≡ get_or items i 0
+none_at [] i e = refl
+none_at (x ∷ items) zero e = absurd (cc e)
+none_at (x ∷ items) (suc i) e = none_at items i e
+
+pub next_none : (held items : List ℕ) (size n : ℕ) → held ≡ items → Opens items size → n ≡ length items → n < 4 + size
+    → Computes {X = Option Frame} blame_of (Ok None) (IsNext held held)
+next_none held items size n same o long short = record {
+  answer = InFrame size (subst (λ t. Opens t size) (sym same) o) (omega (arith, long, short, ap length same));
+  alone = refl;
+}
+
+pub next_refused : (held items left : List ℕ) (used : ℕ) (e : FrameError) → held ≡ items
+    → Computes {X = Frame} blame_of (Err e) (IsWholeReading (take used items)) → Computes {X = Option Frame} blame_of (Err e) (IsNext held left)
+next_refused held items left used e same r = record {
+  answer = λ input. subst (λ t. IsRefused t e.cause e.at) (sym same) (front_refused items used e.cause e.at (r.answer input));
+  alone = r.alone;
+}
+
+pub next_given : (held items left : List ℕ) (used : ℕ) (frame : Frame) → held ≡ items → Spells (take used items) frame → left ≡ drop used items
+    → Computes {X = Option Frame} blame_of (Ok (Some frame)) (IsNext held left)
+next_given held items left used frame same s behind = record {
+  answer = (s.0, same ∙ sym (take-append-drop used items) ∙ ap (λ t. t ++ drop used items) s.1 ∙ ap (λ t. frame_text frame ++ t) (sym behind));
+  alone = refl;
+}
+
+pub left_behind : (before read after : Buffer ℕ) (n used : ℕ) → read ≡ before → n ≡ length before.items → used ≤ n
+    → after ≡ buffer (keep_last (n - used) read.items) read.capacity → after.items ≡ drop used before.items
+left_behind before read after n used same long few e =
+    let skipped : length before.items - (n - used) ≡ used = omega (arith, long, few) in
+    ap (λ (b : Buffer ℕ). b.items) e ∙ ap (λ (b : Buffer ℕ). keep_last (n - used) b.items) same ∙ ap (λ k. drop k before.items) skipped

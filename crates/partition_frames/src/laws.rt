@@ -1,5 +1,5 @@
 // Laws of frames.
-ghost use Rattle.std.specs.Prelude.{◌≡◌, ℕ, List, [], ◌∷◌, ◌++◌, Err, Option, Result};
+ghost use Rattle.std.specs.Prelude.{◌≡◌, ℕ, List, [], ◌∷◌, ◌++◌, Err};
 ghost use Rattle.partition_frames.specs.declared.error.FrameError.{FrameError};
 ghost use Rattle.partition_frames.specs.declared.frame.Frame.{Frame};
 ghost use Rattle.partition_frames.specs.Frame.{Spells, Stands};
@@ -15,12 +15,6 @@ pub fn one_frame()
 pub fn no_frame_begins_another()
     ensures { (bytes more : List ℕ) (a b : Frame) → Spells bytes a → Spells (bytes ++ more) b
         → more ≡ [] }
-{}
-
-/// Bytes are read in one way at most.
-pub fn one_reading()
-    ensures { (bytes : List ℕ) (a b : Result (Option (Frame × ℕ)) FrameError)
-        → IsReading bytes a → IsReading bytes b → a ≡ b }
 {}
 
 /// A refusal stays, whatever comes behind.

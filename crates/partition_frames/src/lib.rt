@@ -19,7 +19,7 @@ pub use error::{FrameCause, FrameError};
 pub use frame::Frame;
 pub use laws::{
     cutting_changes_nothing, no_frame_begins_another, none_stands_in_part, none_stands_where_refused,
-    one_frame, one_reading, refusals_stay, streams_go_on,
+    one_frame, refusals_stay, streams_go_on,
 };
 pub use reader::FrameReader;
 pub use parsing::read_frame;

@@ -121,6 +121,6 @@ fn read_front(
     if used <= straight.len() {
         return read_whole(alloc, &straight[..used]);
     }
-    let straight = held.make_contiguous();
+    let straight = &*held.make_contiguous();
     read_whole(alloc, &straight[..used])
 }
