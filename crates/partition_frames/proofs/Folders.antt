@@ -129,3 +129,17 @@ some_folder = record {
   itself = joined_itself (97 ∷ []) not_root refl (name_is_utf8 (97 ∷ []) some_name.bytes);
   outside = refl;
 }
+
+-- ---- the root isn't one
+
+nothing_utf8 : IsUtf8 []
+nothing_utf8 = name_is_utf8 [] (λ k below. absurd (omega (arith, below)))
+
+root_refused : joined [] [] ≡ Err PathError.Empty
+root_refused = ap (λ (o : Option ℕ). unless_refused o (from_base [] [])) (first_refused_of_utf8 [] nothing_utf8)
+
+pub folder_sent : (dir : List ℕ) → IsFolder dir → IsSent dir
+folder_sent dir is = record {
+  not_root = λ e. let ok : joined [] [] ≡ Ok [] = subst (λ (d : List ℕ). joined [] d ≡ Ok d) e is.itself in absurd (cc (ok, root_refused));
+  outside = is.outside;
+}
