@@ -9,6 +9,7 @@ mod compiled;
 mod compilers;
 mod cores;
 mod fields;
+mod frames;
 mod graphs;
 mod locks;
 mod manifests;
@@ -30,6 +31,7 @@ use compiled::compiled_case;
 use compilers::{command_case, manager_case, settings_case};
 use cores::core_case;
 use fields::{Fault, fields_of};
+use frames::{frame_case, frames_case};
 use graphs::{closure_case, order_case};
 use locks::lock_case;
 use manifests::{decls_case, manifest_case, project_case};
@@ -110,6 +112,8 @@ fn answer(alloc: Global, out: &mut String, line: &str) -> Result<(), Fault> {
         "listing" => listing_case(alloc, out, texts),
         "mark" => mark_case(alloc, out, texts),
         "core" => core_case(alloc, out, texts),
+        "frame" => frame_case(alloc, out, texts),
+        "frames" => frames_case(alloc, out, texts),
         "run" => run_case(alloc, out, texts),
         _ => Err(Fault::Form),
     }

@@ -1,0 +1,11 @@
+pub mod Before
+pub mod Bodies
+pub mod Counted
+pub mod Folders
+pub mod Lacking
+pub mod Pushes
+pub mod Sequences
+pub mod Singles
+pub mod Sizes
+pub mod Streams
+pub mod Wholes

@@ -1,0 +1,5 @@
+pub mod Field
+pub mod Frame
+pub mod Pieces
+pub mod Reading
+pub mod Stream
