@@ -11,7 +11,11 @@ use unit_compile::compile_unit;
 
 /// `nothing`, `unit` or `program`, then for each file its path and its bytes. After `@APP` and an empty text come the
 /// files of a need: the status, the text and the files.
-pub(crate) fn compiled_case(alloc: Global, out: &mut String, texts: &[Vec<u8>]) -> Result<(), Fault> {
+pub(crate) fn compiled_case(
+    alloc: Global,
+    out: &mut String,
+    texts: &[Vec<u8>],
+) -> Result<(), Fault> {
     let [how, files @ ..] = texts else {
         return Err(Fault::Form);
     };
@@ -33,7 +37,12 @@ pub(crate) fn compiled_case(alloc: Global, out: &mut String, texts: &[Vec<u8>]) 
     let [sources, needs @ ..] = folders.as_slice() else {
         return Err(Fault::Form);
     };
-    let job = job_of(alloc, how_of(alloc, word(how.as_slice())?)?, sources.files(alloc)?, apps)?;
+    let job = job_of(
+        alloc,
+        how_of(alloc, word(how.as_slice())?)?,
+        sources.files(alloc)?,
+        apps,
+    )?;
     let needs = outcomes_of(alloc, needs)?;
     push_compiled(alloc, out, &job, needs.as_slice())
 }

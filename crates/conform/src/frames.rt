@@ -6,11 +6,7 @@ use partition_frames::{Frame, FrameCause, FrameError, FrameReader, read_frame, w
 use std::alloc::Global;
 
 /// Bytes: the number of those that the frame at their front has, and the frame, written; `more` where more are needed.
-pub(crate) fn frame_case(
-    alloc: Global,
-    out: &mut String,
-    texts: &[Vec<u8>],
-) -> Result<(), Fault> {
+pub(crate) fn frame_case(alloc: Global, out: &mut String, texts: &[Vec<u8>]) -> Result<(), Fault> {
     let [bytes] = texts else {
         return Err(Fault::Form);
     };
@@ -26,11 +22,7 @@ pub(crate) fn frame_case(
 
 /// How many bytes a piece has, and bytes: the answers of a reader after each piece, a frame as it is written and a dot
 /// where more bytes are needed.
-pub(crate) fn frames_case(
-    alloc: Global,
-    out: &mut String,
-    texts: &[Vec<u8>],
-) -> Result<(), Fault> {
+pub(crate) fn frames_case(alloc: Global, out: &mut String, texts: &[Vec<u8>]) -> Result<(), Fault> {
     let [size, bytes] = texts else {
         return Err(Fault::Form);
     };
