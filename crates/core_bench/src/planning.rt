@@ -4,7 +4,7 @@ ghost use Rattle.compile_model.specs.Planned.{ArePlanned};
 
 use build_plan::plan;
 use compile_model::Plan;
-use mx_base::{AppName, Bytes, NoFaults, RelPath};
+use mx_base::{AppName, Bytes, HOST, NoFaults, RelPath, build_name};
 use std::alloc::{AllocError, Global};
 use tree_store::{ConstStore, Contents, MemStore};
 
@@ -17,7 +17,13 @@ pub(crate) fn plan_of(alloc: Global, places: u32) -> Result<Plan, AllocError>
     let Ok(env) = AppName::of(alloc, b"dev") else {
         return Err(AllocError);
     };
-    plan(alloc, &mut store, &env).or(Err(AllocError))
+    let Ok(target) = AppName::of(alloc, HOST.as_bytes()) else {
+        return Err(AllocError);
+    };
+    match build_name(alloc, &env, &target) {
+        Ok(_) => plan(alloc, &mut store, &env, &target).or(Err(AllocError)),
+        Err(_) => Err(AllocError),
+    }
 }
 
 /// The root lists all apps: the first three lie in the folder `a`, and all others in `b`, which lists these three.
