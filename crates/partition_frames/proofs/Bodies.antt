@@ -1,17 +1,17 @@
 -- The bodies of frames, field by field.
-use Rattle.std.proofs.Common.{◌≡◌, ℕ, ◌<◌, List, [], ◌∷◌, ◌++◌, refl, sym, ap, ◌∙◌, arith}
+use Rattle.std.proofs.Common.{◌≡◌, ℕ, List, [], ◌∷◌, ◌++◌, refl, sym, ap, ◌∙◌, arith}
 use Rattle.reading.specs.Field.{PairFits}
 use Rattle.mx_base.specs.AppName.{IsAppName}
 use Rattle.mx_base.specs.declared.variable.Variable.{Variable}
 use Rattle.compile_model.specs.declared.how.How.{How}
-use Rattle.compile_model.specs.declared.how.How.TheVariants.{Nothing, Unit as ByUnit, Program}
+use Rattle.compile_model.specs.declared.how.How.TheVariants.{Nothing}
 use Rattle.partition_frames.specs.declared.frame.Frame.{Frame}
 use Rattle.partition_frames.specs.declared.frame.Frame.TheVariants.{Hello, Job, Verdict, Bye}
 use Rattle.partition_frames.specs.declared.job.Head.{Head}
 use Rattle.partition_frames.specs.declared.job.Work.{Work}
 use Rattle.partition_frames.specs.declared.job.Place.{Place}
 use Rattle.partition_frames.specs.Field.{together}
-use Rattle.partition_frames.specs.Frame.{IsFolder, IsHow, IsList, IsNumber, IsText, IsVariable, fields_of, how_fields, kind_of, list_fields, number_field, text_field, variable_fields}
+use Rattle.partition_frames.specs.Frame.{IsFolder, IsHow, IsList, IsNumber, IsText, IsVariable, fields_of, how_fields, list_fields, number_field, text_field, variable_fields}
 use Rattle.partition_frames.specs.Pieces.{IsHeadOf, IsPlaceOf, IsWorkOf, LacksBefore, head_of, place_of, work_of}
 use Rattle.partition_frames.specs.Reading.{IsOfKind}
 use Rattle.partition_frames.proofs.Before.{before_first, before_otherwise, before_second}

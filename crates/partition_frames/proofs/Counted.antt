@@ -1,7 +1,6 @@
 -- Lists behind their numbers, variables, and how a job is compiled.
-use Rattle.std.proofs.Common.{◌≡◌, ℕ, zero, suc, ◌+◌, ◌^◌, ◌<◌, ◌≤◌, ◌==◌, Bool, true, false, List, [], ◌∷◌, ◌++◌, length, refl, sym, ap, ◌∙◌, arith, subst, append_assoc, append-nil}
+use Rattle.std.proofs.Common.{◌≡◌, ℕ, zero, suc, ◌^◌, ◌<◌, ◌≤◌, ◌==◌, Bool, true, false, List, [], ◌∷◌, ◌++◌, length, refl, sym, ap, ◌∙◌, arith, subst, append_assoc, append-nil}
 use Rattle.std.specs.Prelude.{flat_map}
-use Rattle.std.specs.List.{AllByRecursion}
 use Rattle.reading.specs.Field.{PairFits}
 use Rattle.reading.specs.Plain.{IsBelow}
 use Rattle.mx_base.specs.declared.variable.Variable.{Variable}
@@ -64,7 +63,7 @@ great_count fields Fits some fits limit more small text rest count is cut great 
     (nothing_stands number (IsBelow limit) text 0 more
     (λ n others below e.
     let same : count ≡ n = number_tells count n rest others is (omega (arith, below))
-        (ap (λ x. x ++ rest) (sym (append-nil (number count))) ∙ sym cut ∙ e) in
+    (ap (λ x. x ++ rest) (sym (append-nil (number count))) ∙ sym cut ∙ e) in
     omega (arith, same, below, great))))
 
 -- a value is

@@ -5,8 +5,7 @@ use Rattle.std.specs.List.{slice_split, onto_first, list_all, list_any, position
 use Rattle.std.proofs.lemmas.Bool.{eqb-true}
 use Rattle.std.proofs.lemmas.Iterator.Adapters.{position_from-zero}
 use Rattle.std.proofs.lemmas.List.Splits.{join_with_byte-slice_split}
-use Rattle.mx_base.specs.AppName.{IsAppName}
-use Rattle.mx_base.specs.Path.{is_slash, is_refused, is_outside, is_segment, is_path, path_of, segments_of}
+use Rattle.mx_base.specs.Path.{is_slash, is_refused, is_outside, is_segment, is_path, path_of}
 use Rattle.mx_base.specs.Join.{Segments, and_then, finished, first_refused, from_base, joined, step, unless_refused, walk}
 use Rattle.mx_base.specs.declared.path_join.PathError.{PathError}
 use Rattle.mx_base.proofs.NameLemmas.{name_is_utf8}
@@ -95,7 +94,7 @@ from_root b bs e = at (is_slash b) refl
         → cond t (Err PathError.AboveRoot) (finished (walk [] (slice_split is_slash (b ∷ bs)))) ≡ Ok (b ∷ bs)
     at true is =
         let h : list_all is_segment ([] ∷ slice_split is_slash bs) ≡ true =
-            sym (ap (λ (t : Bool). list_all is_segment (cond t ([] ∷ slice_split is_slash bs) (onto_first b (slice_split is_slash bs)))) is) ∙ e in
+        sym (ap (λ (t : Bool). list_all is_segment (cond t ([] ∷ slice_split is_slash bs) (onto_first b (slice_split is_slash bs)))) is) ∙ e in
         absurd (cc h)
     at false is =
         ap finished (walk_on [] (slice_split is_slash (b ∷ bs)) e)

@@ -1,10 +1,8 @@
 -- Where fields one behind the other lack one.
-use Rattle.std.proofs.Common.{◌≡◌, ℕ, ◌+◌, List, [], ◌∷◌, ◌++◌, length, refl, sym, ap, ◌∙◌, arith, subst, inl, inr, ⊎_elim, ◌⊎◌, append_assoc, append-nil, length-append}
-use Rattle.std.proofs.lemmas.List.{append_cancel_left}
-use Rattle.std.specs.Prelude.{flat_map}
-use Rattle.reading.specs.Field.{PairFits, TellsItsEnd, pair_text}
+use Rattle.std.proofs.Common.{◌≡◌, ℕ, ◌+◌, List, [], ◌∷◌, ◌++◌, length, refl, sym, ap, ◌∙◌, subst, inl, inr, ⊎_elim, ◌⊎◌, append_assoc, append-nil, length-append}
+use Rattle.reading.specs.Field.{PairFits, TellsItsEnd}
 use Rattle.reading.proofs.Fields.{same_rest}
-use Rattle.partition_frames.specs.Field.{Begins, Lacks, together}
+use Rattle.partition_frames.specs.Field.{Lacks, together}
 
 -- ---- fields and their bytes
 
@@ -121,16 +119,16 @@ second_lacks {A} {B} first Fits second SecondFits tells a fits bytes after at cu
   refuses = λ value field more others is e here.
       let whole = e ∙ append_assoc (first a) l.front (field ∷ more) in
       let bytes_same = sym (together_append (first value.0) (second value.0 value.1)) ∙ ap together whole
-          ∙ together_append (first a) (l.front ++ field ∷ more) in
+      ∙ together_append (first a) (l.front ++ field ∷ more) in
       let same : value.0 ≡ a = tells value.0 a (together (second value.0 value.1)) (together (l.front ++ field ∷ more)) is.0 fits bytes_same in
       let tail = cancel (first a) (second a value.1) (l.front ++ field ∷ more)
-          (ap (λ c. first c ++ second c value.1) (sym same) ∙ whole) in
+      (ap (λ c. first c ++ second c value.1) (sym same) ∙ whole) in
       l.refuses value.1 field more others (subst (λ c. SecondFits c value.1) same is.1) tail here;
   nothing = λ value others is whole.
       let flat = ap (λ t. t ++ others) (together_append (first value.0) (second value.0 value.1))
-          ∙ append_assoc (together (first value.0)) (together (second value.0 value.1)) others in
+      ∙ append_assoc (together (first value.0)) (together (second value.0 value.1)) others in
       let both = same_rest (text_by first) Fits tells value.0 a (together (second value.0 value.1) ++ others) after is.0 fits
-          (sym flat ∙ sym whole ∙ cut) in
+      (sym flat ∙ sym whole ∙ cut) in
       l.nothing value.1 others (subst (λ c. SecondFits c value.1) both.0 is.1)
       (sym both.1 ∙ ap (λ c. together (second c value.1) ++ others) both.0);
 }
@@ -174,9 +172,9 @@ pub both_tell : {A B : Type 0} (first : A → List (List ℕ)) (Fits : A → Typ
     → Tells first Fits → ((a : A) → Fits a → Tells (second a) (SecondFits a)) → Tells (pair_fields first second) (PairFits Fits SecondFits)
 both_tell {A} {B} first Fits second SecondFits tells second_tells a b x y fa fb e =
     let flat : (p : A × B) (z : List ℕ) → together (first p.0 ++ second p.0 p.1) ++ z ≡ together (first p.0) ++ (together (second p.0 p.1) ++ z)
-        = λ p z. ap (λ t. t ++ z) (together_append (first p.0) (second p.0 p.1)) ∙ append_assoc (together (first p.0)) (together (second p.0 p.1)) z in
+    = λ p z. ap (λ t. t ++ z) (together_append (first p.0) (second p.0 p.1)) ∙ append_assoc (together (first p.0)) (together (second p.0 p.1)) z in
     let both = same_rest (text_by first) Fits tells a.0 b.0 (together (second a.0 a.1) ++ x) (together (second b.0 b.1) ++ y) fa.0 fb.0
-        (sym (flat a x) ∙ e ∙ flat b y) in
+    (sym (flat a x) ∙ e ∙ flat b y) in
     let fits : SecondFits b.0 a.1 = subst (λ c. SecondFits c a.1) both.0 fa.1 in
     same_pair a b both.0 (second_tells b.0 fb.0 a.1 b.1 x y fits fb.1 (ap (λ c. together (second c a.1) ++ x) (sym both.0) ∙ both.1))
 

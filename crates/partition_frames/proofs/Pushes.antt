@@ -28,8 +28,8 @@ pub one_pushed : {A : Type 0} (fields : A → List (List ℕ)) (head : List (Lis
 one_pushed fields head items i item old before after below is so_far pushed =
     let some = head ++ flat_map fields (take i items) in
     let more : head ++ flat_map fields (take (i + 1) items) ≡ some ++ fields item =
-        ap (λ l. head ++ flat_map fields l) (taken_more items i item below is) ∙ ap (λ t. head ++ t) (flat_more fields (take i items) item)
-        ∙ sym (append_assoc head (flat_map fields (take i items)) (fields item)) in
+    ap (λ l. head ++ flat_map fields l) (taken_more items i item below is) ∙ ap (λ t. head ++ t) (flat_more fields (take i items) item)
+    ∙ sym (append_assoc head (flat_map fields (take i items)) (fields item)) in
     pushed ∙ ap (λ t. t ++ together (fields item)) so_far ∙ append_assoc old (together some) (together (fields item))
     ∙ ap (λ t. old ++ t) (sym (together_append some (fields item))) ∙ ap (λ l. old ++ together l) (sym more)
 

@@ -3,7 +3,7 @@ use Rattle.std.proofs.Common.{◌≡◌, ℕ, zero, suc, ◌+◌, ◌-◌, ◌<�
 use Rattle.std.specs.Prelude.{flat_map, replicate}
 use Rattle.std.specs.List.{AllByRecursion}
 use Rattle.std.proofs.lemmas.List.{length-replicate}
-use Rattle.reading.specs.Field.{PairFits, TellsItsEnd}
+use Rattle.reading.specs.Field.{PairFits}
 use Rattle.reading.proofs.Fields.{same_rest}
 use Rattle.partition_frames.specs.Field.{Lacks, together}
 use Rattle.partition_frames.specs.Pieces.{SoMany}
@@ -59,13 +59,13 @@ list_lacks fields Fits tells some some_fits (v ∷ vs) count fits less bytes aft
     let more : suc n ≡ count = omega arith in
     let behind = together (flat_map fields vs) ++ after in
     let cut_here : bytes ≡ together (fields v) ++ behind =
-        cut ∙ ap (λ t. t ++ after) (together_append (fields v) (flat_map fields vs))
-        ∙ append_assoc (together (fields v)) (together (flat_map fields vs)) after in
+    cut ∙ ap (λ t. t ++ after) (together_append (fields v) (flat_map fields vs))
+    ∙ append_assoc (together (fields v)) (together (flat_map fields vs)) after in
     let inner = list_lacks fields Fits tells some some_fits vs n fits.1 (omega arith) behind after at refl l in
     let whole = second_lacks fields Fits (λ _. flat_map fields) (λ _. SoMany Fits n) tells v fits.0 bytes behind
-        (length (together (flat_map fields vs)) + at) cut_here inner in
+    (length (together (flat_map fields vs)) + at) cut_here inner in
     let place : length (together (fields v)) + (length (together (flat_map fields vs)) + at) ≡ length (together (flat_map fields (v ∷ vs))) + at =
-        omega (arith, ap length (together_append (fields v) (flat_map fields vs)), length-append (together (fields v)) (together (flat_map fields vs))) in
+    omega (arith, ap length (together_append (fields v) (flat_map fields vs)), length-append (together (fields v)) (together (flat_map fields vs))) in
     subst (λ k. Lacks (flat_map fields) (SoMany Fits count) bytes k) place
     (subst (λ c. Lacks (flat_map fields) (SoMany Fits c) bytes (length (together (fields v)) + (length (together (flat_map fields vs)) + at))) more
     (as_list fields Fits n bytes _ whole))
@@ -81,7 +81,7 @@ values_tell fields Fits tells count (v ∷ vs) (w ∷ ws) x y fa fb e =
     let flat_v = ap (λ t. t ++ x) (together_append (fields v) (flat_map fields vs)) ∙ append_assoc (together (fields v)) (together (flat_map fields vs)) x in
     let flat_w = ap (λ t. t ++ y) (together_append (fields w) (flat_map fields ws)) ∙ append_assoc (together (fields w)) (together (flat_map fields ws)) y in
     let both = same_rest (text_by fields) Fits tells v w (together (flat_map fields vs) ++ x) (together (flat_map fields ws) ++ y) fa.1.0 fb.1.0
-        (sym flat_v ∙ e ∙ flat_w) in
+    (sym flat_v ∙ e ∙ flat_w) in
     same_cons v w vs ws both.0
     (values_tell fields Fits tells (length vs) vs ws x y (refl, fa.1.1) (omega (arith, fa.0, fb.0), fb.1.1) both.1)
 

@@ -1,9 +1,8 @@
 -- Fields of one value: numbers, texts, single bytes.
-use Rattle.std.proofs.Common.{◌≡◌, ℕ, suc, ◌+◌, ◌-◌, ◌^◌, ◌<◌, ◌≤◌, List, [], ◌∷◌, ◌++◌, length, refl, sym, ap, ◌∙◌, arith, subst, append_assoc, append-nil, length-append}
-use Rattle.std.proofs.lemmas.List.{append_cancel_left}
+use Rattle.std.proofs.Common.{◌≡◌, ℕ, ◌<◌, List, [], ◌∷◌, ◌++◌, length, refl, sym, ap, ◌∙◌, arith, subst, append_assoc, append-nil, length-append}
 use Rattle.std.proofs.lemmas.Nat.{from_be_bytes-to_be_bytes_4}
 use Rattle.std.specs.Prelude.{IsFalse, IsTrue, slice_index}
-use Rattle.std.specs.Int.{w32, from_be_bytes, to_be_bytes}
+use Rattle.std.specs.Int.{w32, from_be_bytes}
 use Rattle.reading.specs.Field.{TellsItsEnd}
 use Rattle.reading.proofs.Fields.{same_rest, tells_narrower}
 use Rattle.reading.proofs.Numbers.{same_front}
@@ -89,7 +88,7 @@ text_lacks text rest count is cut short =
     all_left text_field IsText text (nothing_stands text_bytes IsText text [] (omega arith)
     (λ t others fits e.
     let both = same_rest number IsNumber number_tells count (length t) rest (t ++ others) is fits
-        (ap (λ x. x ++ rest) (sym (append-nil (number count))) ∙ sym cut ∙ e ∙ append_assoc (number (length t)) t others) in
+    (ap (λ x. x ++ rest) (sym (append-nil (number count))) ∙ sym cut ∙ e ∙ append_assoc (number (length t)) t others) in
     omega (arith, both.0, ap length both.1, length-append t others, short)))
 
 pub text_read : (text rest bytes after : List ℕ) (count : ℕ) → text ≡ number count ++ rest → count ≡ length bytes → rest ≡ bytes ++ after
@@ -106,7 +105,7 @@ other_text Fits wider some some_fits text bytes after is cut none =
     all_left text_field Fits text (nothing_stands text_bytes Fits text some some_fits
     (λ t others fits e.
     let same : bytes ≡ t = text_tells bytes t after others is (wider t fits)
-        (ap (λ x. x ++ after) (sym (append-nil (text_bytes bytes))) ∙ sym cut ∙ e) in
+    (ap (λ x. x ++ after) (sym (append-nil (text_bytes bytes))) ∙ sym cut ∙ e) in
     none (subst Fits (sym same) fits)))
 
 -- where no text stands, none of a narrower kind does

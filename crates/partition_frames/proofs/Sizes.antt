@@ -1,11 +1,11 @@
 -- What a small frame has is small.
-use Rattle.std.proofs.Common.{◌≡◌, ℕ, suc, ◌+◌, ◌^◌, ◌<◌, ◌≤◌, List, [], ◌∷◌, ◌++◌, length, refl, sym, ap, ◌∙◌, arith, length-append}
+use Rattle.std.proofs.Common.{◌≡◌, ℕ, ◌+◌, ◌<◌, ◌≤◌, List, [], ◌∷◌, ◌++◌, length, ap, ◌∙◌, arith, length-append}
 use Rattle.std.specs.Prelude.{flat_map}
 use Rattle.std.specs.List.{AllByRecursion}
 use Rattle.mx_base.specs.declared.variable.Variable.{Variable}
 use Rattle.compile_model.specs.declared.how.How.{How}
 use Rattle.compile_model.specs.declared.how.How.TheVariants.{Nothing, Unit as ByUnit, Program}
-use Rattle.partition_frames.specs.declared.frame.Frame.TheVariants.{Hello, Job, Verdict, Bye}
+use Rattle.partition_frames.specs.declared.frame.Frame.TheVariants.{Hello, Job, Verdict}
 use Rattle.partition_frames.specs.Field.{together}
 use Rattle.partition_frames.specs.Frame.{IsHow, IsList, IsNumber, IsSmall, IsText, IsVariable, IsWork, head_fields, how_fields, list_fields, most, number, number_field, place_fields, text_field, variable_fields, work_fields}
 use Rattle.partition_frames.proofs.Lacking.{together_append}
@@ -38,9 +38,10 @@ as_many fields some (v ∷ values) = omega (arith, some v, as_many fields some v
 each_short : {A : Type 0} (fields : A → List (List ℕ)) (Fits : A → Type 0) → ((a : A) → IsShort (fields a) → Fits a) → (values : List A)
     → IsShort (flat_map fields values) → AllByRecursion Fits values
 each_short fields Fits each [] small = tt
-each_short fields Fits each (v ∷ values) small =
-    (each v (left_short (fields v) (flat_map fields values) small),
-    each_short fields Fits each values (right_short (fields v) (flat_map fields values) small))
+each_short fields Fits each (v ∷ values) small = (
+  each v (left_short (fields v) (flat_map fields values) small),
+  each_short fields Fits each values (right_short (fields v) (flat_map fields values) small),
+)
 
 count_short : {A : Type 0} (fields : A → List (List ℕ)) → ((a : A) → 0 < length (together (fields a))) → (values : List A)
     → IsShort (list_fields fields values) → IsNumber (length values)
@@ -60,9 +61,10 @@ some_variable : (variable : Variable) → 0 < length (together (variable_fields 
 some_variable variable = omega (arith, some_text variable.name, both_long (text_field variable.name) (text_field variable.value))
 
 variable_short : (variable : Variable) → IsShort (variable_fields variable) → IsVariable variable
-variable_short variable small =
-    (text_short variable.name (left_short (text_field variable.name) (text_field variable.value) small),
-    text_short variable.value (right_short (text_field variable.name) (text_field variable.value) small))
+variable_short variable small = (
+  text_short variable.name (left_short (text_field variable.name) (text_field variable.value) small),
+  text_short variable.value (right_short (text_field variable.name) (text_field variable.value) small),
+)
 
 -- ---- how a job is compiled
 
@@ -77,11 +79,14 @@ how_short (Program words) small =
 
 work_short : (options : List ℕ) (how : How) (system_env : List Variable) → IsShort (work_fields options how system_env) → IsWork options how system_env
 work_short options how system_env small =
-    let behind = right_short (text_field options) (how_fields how ++ list_fields variable_fields system_env) small in
-    (text_short options (left_short (text_field options) (how_fields how ++ list_fields variable_fields system_env) small),
-    (how_short how (left_short (how_fields how) (list_fields variable_fields system_env) behind),
-    list_short variable_fields IsVariable some_variable variable_short system_env
-    (right_short (how_fields how) (list_fields variable_fields system_env) behind)))
+    let behind = right_short (text_field options) (how_fields how ++ list_fields variable_fields system_env) small in (
+      text_short options (left_short (text_field options) (how_fields how ++ list_fields variable_fields system_env) small),
+      (
+        how_short how (left_short (how_fields how) (list_fields variable_fields system_env) behind),
+        list_short variable_fields IsVariable some_variable variable_short system_env
+            (right_short (how_fields how) (list_fields variable_fields system_env) behind),
+      ),
+    )
 
 -- ---- frames
 

@@ -1,5 +1,5 @@
 -- Frames show by themselves where they end, and streams of them.
-use Rattle.std.proofs.Common.{◌≡◌, ℕ, ◌+◌, ◌<◌, ◌≤◌, List, [], ◌∷◌, ◌++◌, length, refl, sym, ap, ◌∙◌, arith, subst, append_assoc, append-nil, length-append}
+use Rattle.std.proofs.Common.{◌≡◌, ℕ, ◌+◌, List, [], ◌∷◌, ◌++◌, length, refl, sym, ap, ◌∙◌, arith, subst, append_assoc, append-nil, length-append}
 use Rattle.std.specs.Prelude.{flat_map}
 use Rattle.std.specs.List.{AllByRecursion}
 use Rattle.reading.specs.Field.{TellsItsEnd}
@@ -10,8 +10,8 @@ use Rattle.partition_frames.specs.declared.error.FrameCause.TheVariants.{BadLeng
 use Rattle.partition_frames.specs.declared.frame.Frame.{Frame}
 use Rattle.partition_frames.specs.declared.frame.Frame.TheVariants.{Hello, Job, Verdict, Bye}
 use Rattle.partition_frames.specs.Field.{together}
-use Rattle.partition_frames.specs.Frame.{IsFrame, IsNumber, Spells, Stands, fields_of, frame_text, kind_of, most, number, payload_of}
-use Rattle.partition_frames.specs.Reading.{HasSize, IsBadBody, IsInRange, IsKind, IsNoBody, IsOfKind, IsRefused, MayHaveKind, NeedsMore, Opens}
+use Rattle.partition_frames.specs.Frame.{IsFrame, IsNumber, Spells, Stands, fields_of, frame_text, kind_of, number, payload_of}
+use Rattle.partition_frames.specs.Reading.{HasSize, IsInRange, IsKind, IsNoBody, IsOfKind, IsRefused, NeedsMore}
 use Rattle.partition_frames.specs.Reading.IsNoBody.{AtField, LeftOver}
 use Rattle.partition_frames.specs.Reading.NeedsMore.{InLength, InFrame}
 use Rattle.partition_frames.specs.Stream.{Gives, GivesAll}
@@ -106,7 +106,7 @@ no_such_body kind inside body behind rest frame refused is long e = at refused
     at (AtField l) = l.nothing frame [] of_kind (whole ∙ sym (append-nil (together (fields_of frame))))
     at (LeftOver other byte others other_is cut place) =
         let both = same_rest (λ f. together (fields_of f)) (IsOfKind kind) (body_tells kind) frame other [] (byte ∷ others) of_kind other_is
-            (append-nil (together (fields_of frame)) ∙ sym whole ∙ cut) in
+        (append-nil (together (fields_of frame)) ∙ sym whole ∙ cut) in
         absurd (omega (arith, ap length both.1))
 
 pub none_where_refused : (bytes rest : List ℕ) (cause : FrameCause) (at : ℕ) (frame : Frame) → IsRefused bytes cause at → Stands bytes frame rest → ⊥

@@ -1,6 +1,6 @@
 -- Frames that stand whole, and what stands of others.
-use Rattle.std.proofs.Common.{◌≡◌, ℕ, zero, suc, ◌+◌, ◌-◌, ◌^◌, ◌<◌, ◌≤◌, List, [], ◌∷◌, ◌++◌, length, get_or, take, drop, refl, sym, ap, ◌∙◌, arith, subst, inl, inr, ⊎_elim, append_assoc, append-nil, length-append, take-append-drop, length-drop}
-use Rattle.std.proofs.lemmas.List.{append_cancel_left, length-take}
+use Rattle.std.proofs.Common.{◌≡◌, ℕ, zero, suc, ◌+◌, ◌-◌, ◌<◌, ◌≤◌, List, [], ◌∷◌, ◌++◌, length, get_or, take, drop, refl, sym, ap, ◌∙◌, arith, subst, append_assoc, append-nil, length-append, take-append-drop, length-drop}
+use Rattle.std.proofs.lemmas.List.{length-take}
 use Rattle.std.proofs.Math.Seq.{take-append-add}
 use Rattle.std.specs.Prelude.{MatchOption, MatchResult, Option, Some, None, slice_get, Result, Ok, Err, min}
 use Rattle.mx_base.specs.Blame.{Computes, is_outside}
@@ -8,15 +8,15 @@ use Rattle.partition_frames.specs.declared.error.FrameError.{FrameError}
 use Rattle.partition_frames.specs.declared.error.FrameCause.{FrameCause}
 use Rattle.partition_frames.specs.declared.error.FrameCause.TheVariants.{BadLength, BadKind, BadBody, OutOfMemory}
 use Rattle.partition_frames.specs.declared.frame.Frame.{Frame}
-use Rattle.partition_frames.specs.Field.{Lacks, together}
-use Rattle.partition_frames.specs.Frame.{IsFrame, IsNumber, Spells, fields_of, frame_text, kind_of, most, number, payload_of}
+use Rattle.partition_frames.specs.Field.{together}
+use Rattle.partition_frames.specs.Frame.{Spells, fields_of, frame_text, kind_of, number, payload_of}
 use Rattle.partition_frames.specs.Pieces.{LacksBefore}
-use Rattle.partition_frames.specs.Reading.{HasBody, HasSize, IsBadBody, IsBadKind, IsFront, IsInRange, IsKind, IsNoBody, IsOfKind, IsRefused, IsWhole, IsWholeReading, MayHaveKind, Opens, blame_of, blame_of_cause}
+use Rattle.partition_frames.specs.Reading.{HasBody, HasSize, IsBadBody, IsBadKind, IsFront, IsInRange, IsNoBody, IsOfKind, IsRefused, IsWhole, IsWholeReading, MayHaveKind, Opens, blame_of, blame_of_cause}
 use Rattle.partition_frames.specs.Reading.IsNoBody.{AtField, LeftOver}
 use Rattle.partition_frames.specs.Reading.NeedsMore.{InFrame}
 use Rattle.partition_frames.specs.Stream.{IsNext}
 use Rattle.circular_buffer.specs.Buffer.{Buffer, buffer, keep_last}
-use Rattle.partition_frames.proofs.Singles.{number_long, number_tells}
+use Rattle.partition_frames.proofs.Singles.{number_long}
 
 -- ---- more bytes behind
 
@@ -27,14 +27,17 @@ size_stays bytes more rest size h =
 pub refusal_stays : (bytes more : List ℕ) (cause : FrameCause) (at : ℕ) → IsRefused bytes cause at → IsRefused (bytes ++ more) cause at
 refusal_stays bytes more BadLength at r =
     (r.0, record { size = r.1.size; rest = r.1.rest ++ more; stated = size_stays bytes more r.1.rest r.1.size r.1.stated; outside = r.1.outside })
-refusal_stays bytes more BadKind at r = (r.0, record {
-  size = r.1.size;
-  kind = r.1.kind;
-  rest = r.1.rest ++ more;
-  stated = size_stays bytes more (r.1.kind ∷ r.1.rest) r.1.size r.1.stated;
-  range = r.1.range;
-  unknown = r.1.unknown;
-})
+refusal_stays bytes more BadKind at r = (
+  r.0,
+  record {
+    size = r.1.size;
+    kind = r.1.kind;
+    rest = r.1.rest ++ more;
+    stated = size_stays bytes more (r.1.kind ∷ r.1.rest) r.1.size r.1.stated;
+    range = r.1.range;
+    unknown = r.1.unknown;
+  },
+)
 refusal_stays bytes more BadBody at r = record {
   kind = r.kind;
   body = r.body;
@@ -60,7 +63,7 @@ whole_body bytes w = at w.opens.rest w.opens.stated w.opens.kind
         let kind : k ≡ get_or bytes 4 0 = sym (ap (λ (t : List ℕ). get_or t 4 0) h.cut) in
         let body : r ≡ drop 5 bytes = sym (ap (λ (t : List ℕ). drop 5 t) h.cut) in
         let long : w.size ≡ length (k ∷ r) =
-            omega (arith, w.all, ap length h.cut, length-append (number w.size) (k ∷ r), number_long w.size) in
+        omega (arith, w.all, ap length h.cut, length-append (number w.size) (k ∷ r), number_long w.size) in
         let is : HasBody bytes k r = record {
           known = may;
           stated = subst (λ n. HasSize bytes n (k ∷ r)) long h;
@@ -79,7 +82,7 @@ pub whole_spelled : (bytes body rest : List ℕ) (kind : ℕ) (frame : Frame) �
     → body ≡ together (fields_of frame) ++ rest → length rest ≡ 0 → Spells bytes frame
 whole_spelled bytes body rest kind frame h is cut none =
     let all : body ≡ together (fields_of frame) =
-        cut ∙ ap (λ t. together (fields_of frame) ++ t) (no_more rest none) ∙ append-nil (together (fields_of frame)) in
+    cut ∙ ap (λ t. together (fields_of frame) ++ t) (no_more rest none) ∙ append-nil (together (fields_of frame)) in
     let payload = payload_is kind body frame is all in (
       record { small = omega (arith, ap length payload, h.range.few); sound = is.1 },
       h.stated.cut ∙ ap (λ t. number (length t) ++ t) payload,
@@ -132,7 +135,7 @@ pub front_whole : (bytes : List ℕ) (size used : ℕ) → Opens bytes size → 
 front_whole bytes size used o is stands =
     let h = o.stated in
     let cut : take used bytes ≡ number size ++ take size o.rest =
-        ap (λ n. take n bytes) is ∙ ap (take (4 + size)) h.cut ∙ take-append-add (number size) o.rest size in
+    ap (λ n. take n bytes) is ∙ ap (take (4 + size)) h.cut ∙ take-append-add (number size) o.rest size in
     record {
       size = size;
       opens = record {

@@ -1,5 +1,5 @@
 -- Values that are written as fields, one behind the other. A field is some bytes.
-use Rattle.std.specs.Prelude.{◌≡◌, ℕ, List, [], ◌∷◌, ◌++◌, length, flat_map}
+use Rattle.std.specs.Prelude.{◌≡◌, ℕ, List, ◌∷◌, ◌++◌, length, flat_map}
 
 -- the bytes of fields
 abbrev pub together : List (List ℕ) → List ℕ

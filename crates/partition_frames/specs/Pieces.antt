@@ -1,5 +1,5 @@
 -- What the readers of a frame's pieces answer.
-use Rattle.std.specs.Prelude.{◌≡◌, ℕ, zero, suc, ◌+◌, ◌^◌, ◌<◌, ◌≤◌, Bool, true, false, List, [], ◌∷◌, ◌++◌, length}
+use Rattle.std.specs.Prelude.{◌≡◌, ℕ, zero, suc, ◌+◌, ◌^◌, ◌<◌, ◌≤◌, Bool, true, false, List, [], ◌∷◌, length}
 use Rattle.std.specs.List.{AllByRecursion}
 use Rattle.compile_model.specs.declared.how.How.{How}
 use Rattle.compile_model.specs.declared.how.How.TheVariants.{Nothing, Unit as ByUnit, Program}
@@ -9,7 +9,7 @@ use Rattle.partition_frames.specs.declared.job.Head.{Head}
 use Rattle.partition_frames.specs.declared.job.Work.{Work}
 use Rattle.partition_frames.specs.declared.job.Place.{Place}
 use Rattle.partition_frames.specs.Field.{Lacks}
-use Rattle.partition_frames.specs.Frame.{IsHead, IsPlace, IsText, IsWork, head_fields, place_fields, work_fields}
+use Rattle.partition_frames.specs.Frame.{IsHead, IsPlace, IsWork, head_fields, place_fields, work_fields}
 
 -- a field is lacking where so many bytes are left
 pub record LacksBefore {A : Type 0} (fields : A → List (List ℕ)) (Fits : A → Type 0) (text : List ℕ) (left : ℕ) : Type 0 where

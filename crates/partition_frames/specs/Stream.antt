@@ -1,5 +1,5 @@
 -- A stream of frames, read in pieces.
-use Rattle.std.specs.Prelude.{◌≡◌, ℕ, ◌<◌, List, ◌∷◌, ◌++◌, length, flat_map, Result, Ok, Err, Option, Some, None}
+use Rattle.std.specs.Prelude.{◌≡◌, ℕ, ◌<◌, List, ◌++◌, length, flat_map, Result, Ok, Err, Option, Some, None}
 use Rattle.std.specs.List.{AllByRecursion}
 use Rattle.partition_frames.specs.declared.error.FrameError.{FrameError}
 use Rattle.partition_frames.specs.declared.frame.Frame.{Frame}

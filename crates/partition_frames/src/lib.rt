@@ -11,16 +11,16 @@ mod frame;
 mod job;
 mod laws;
 mod lists;
-mod reader;
 mod parsing;
+mod reader;
 mod writing;
 
 pub use error::{FrameCause, FrameError};
 pub use frame::Frame;
 pub use laws::{
-    cutting_changes_nothing, no_frame_begins_another, none_stands_in_part, none_stands_where_refused,
-    one_frame, refusals_stay, streams_go_on,
+    cutting_changes_nothing, no_frame_begins_another, none_stands_in_part,
+    none_stands_where_refused, one_frame, refusals_stay, streams_go_on,
 };
-pub use reader::FrameReader;
 pub use parsing::read_frame;
+pub use reader::FrameReader;
 pub use writing::write_frame;

@@ -89,12 +89,7 @@ fn push_name(out: &mut Vec<u8>, name: &AppName) -> Result<(), AllocError>
 }
 
 // Which job is meant.
-fn push_head(
-    out: &mut Vec<u8>,
-    number: u32,
-    env: &AppName,
-    app: &AppName,
-) -> Result<(), AllocError>
+fn push_head(out: &mut Vec<u8>, number: u32, env: &AppName, app: &AppName) -> Result<(), AllocError>
     ensures bytes { OnOk result (out.new.items
         ≡ out.old.items ++ together (head_fields number env.now app.now)) }
     ensures sound { OnOk result (IsHead number env.now app.now) }

@@ -1,4 +1,4 @@
-use Rattle.std.proofs.Common.{◌≡◌, false, refl}
+use Rattle.std.proofs.Common.{◌≡◌, refl}
 use Rattle.std.specs.Prelude.{IsFalse}
 use Rattle.mx_base.specs.NameFaults.{is_memory}
 use Rattle.mx_base.specs.declared.name.NameError.{NameError}

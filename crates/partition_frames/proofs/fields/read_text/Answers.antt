@@ -1,6 +1,3 @@
-use Rattle.std.proofs.Common.{ap, sym, ◌∙◌}
-use Rattle.partition_frames.specs.Frame.{IsText, text_field}
-use Rattle.partition_frames.specs.Pieces.{LacksBefore}
 use Rattle.partition_frames.proofs.Singles.{no_number, text_lacks}
 use Rattle.partition_frames.proofs.fields.read_text.Goals as goal
 

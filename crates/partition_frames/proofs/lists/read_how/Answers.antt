@@ -1,9 +1,9 @@
-use Rattle.std.proofs.Common.{◌==◌, arith}
+use Rattle.std.proofs.Common.{◌==◌}
 use Rattle.std.proofs.lemmas.Result.{err_from_is_err_and}
 use Rattle.partition_frames.specs.Frame.{IsHow, IsText, how_fields, list_fields, text_field}
 use Rattle.partition_frames.specs.Pieces.{IsShortList, room}
 use Rattle.partition_frames.proofs.Before.{by_fault}
-use Rattle.partition_frames.proofs.Counted.{both_read, how_byte_lacks, how_there, words_lack}
+use Rattle.partition_frames.proofs.Counted.{how_byte_lacks, words_lack}
 use Rattle.partition_frames.proofs.lists.read_how.Goals as goal
 
 pub returns-in_err-byte : goal.returns-in_err-byte

@@ -1,4 +1,4 @@
-use Rattle.std.proofs.Common.{◌^◌, ◌≤◌, ◌∷◌, [], arith}
+use Rattle.std.proofs.Common.{◌^◌, ◌∷◌, [], arith}
 use Rattle.std.specs.Prelude.{flat_map}
 use Rattle.std.proofs.lemmas.Result.{err_from_is_err_and}
 use Rattle.mx_base.specs.AppName.{IsAppName}
@@ -28,6 +28,8 @@ pub returns : goal.returns
 returns c =
     let count = c.in_ok-count.ensures in
     let read = c.in_ok-apps.ensures in
-    rw c.from_vec.ensures
-    ((omega (arith, count.0, read.0.0), read.0.1), list_read text_field c.in_ok-apps.apps.items c.args.text.now c.in_ok-count.rest.now
-    c.in_ok-apps.rest.now c.in_ok-count.count read.0.0 count.1 read.1)
+    rw c.from_vec.ensures (
+      (omega (arith, count.0, read.0.0), read.0.1),
+      list_read text_field c.in_ok-apps.apps.items c.args.text.now c.in_ok-count.rest.now
+          c.in_ok-apps.rest.now c.in_ok-count.count read.0.0 count.1 read.1,
+    )

@@ -1,12 +1,11 @@
-use Rattle.std.proofs.Common.{◌≡◌, List, ℕ, ◌∷◌, [], ◌++◌, ◌∙◌, ap, arith, length, length-append, sym, subst}
+use Rattle.std.proofs.Common.{List, ℕ, ◌∷◌, [], ◌++◌, ◌∙◌, ap, arith, length, length-append, sym, subst}
 use Rattle.std.specs.Prelude.{flat_map}
 use Rattle.std.specs.List.{AllByRecursion}
 use Rattle.std.proofs.lemmas.Result.{err_from_is_err_and}
 use Rattle.partition_frames.specs.Frame.{IsText, text_field}
 use Rattle.partition_frames.proofs.Singles.{text_field_tells}
 use Rattle.partition_frames.specs.Field.{together}
-use Rattle.partition_frames.specs.Pieces.{SoMany}
-use Rattle.partition_frames.proofs.Before.{before_list, by_fault}
+use Rattle.partition_frames.proofs.Before.{before_list}
 use Rattle.partition_frames.proofs.Sequences.{one_more_read, one_more_fits}
 use Rattle.partition_frames.proofs.lists.read_texts.Goals as goal
 

@@ -1,5 +1,5 @@
 use Rattle.std.proofs.lemmas.Result.{err_from_is_err_and}
-use Rattle.partition_frames.proofs.Counted.{both_read, variable_name_lacks, variable_value_lacks}
+use Rattle.partition_frames.proofs.Counted.{variable_name_lacks, variable_value_lacks}
 use Rattle.partition_frames.proofs.lists.read_variable.Goals as goal
 
 pub returns-in_err-name : goal.returns-in_err-name

@@ -1,4 +1,4 @@
-use Rattle.std.proofs.Common.{◌^◌, ◌<◌, ◌≤◌, ◌∷◌, [], arith}
+use Rattle.std.proofs.Common.{◌<◌, [], arith}
 use Rattle.std.specs.Prelude.{flat_map}
 use Rattle.std.proofs.lemmas.Result.{err_from_is_err_and}
 use Rattle.partition_frames.specs.Frame.{IsText, list_fields, text_field}
@@ -37,6 +37,8 @@ pub returns : goal.returns
 returns c =
     let read = c.in_ok-words.ensures in
     let below : c.in-Ok.count < room c.args.may_have = omega (arith, c.room.ensures, c.from.ensures, c.if-from-room.false) in
-    rw c.from_vec.ensures
-    ((omega (arith, below, read.0.0), read.0.1), list_read text_field c.in_ok-words.words.items c.args.text.now c.in-Ok.rest.now c.in_ok-words.rest.now c.in-Ok.count read.0.0
-    c.in-Ok.ensures.1 read.1)
+    rw c.from_vec.ensures (
+      (omega (arith, below, read.0.0), read.0.1),
+      list_read text_field c.in_ok-words.words.items c.args.text.now c.in-Ok.rest.now c.in_ok-words.rest.now c.in-Ok.count read.0.0
+          c.in-Ok.ensures.1 read.1,
+    )

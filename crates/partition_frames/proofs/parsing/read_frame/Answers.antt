@@ -1,8 +1,5 @@
-use Rattle.std.proofs.Common.{◌≡◌, ◌+◌, ◌≤◌, refl, sym, arith, subst}
-use Rattle.std.specs.Prelude.{MatchOption}
+use Rattle.std.proofs.Common.{◌+◌, refl}
 use Rattle.std.proofs.lemmas.Result.{err_from_is_err_and}
-use Rattle.mx_base.specs.Blame.Blame.{Input}
-use Rattle.partition_frames.specs.Reading.{NeedsMore, Opens}
 use Rattle.partition_frames.specs.Reading.NeedsMore.{InFrame}
 use Rattle.partition_frames.proofs.Wholes.{front_read, front_refused, front_whole}
 use Rattle.partition_frames.proofs.parsing.read_frame.Goals as goal

@@ -1,9 +1,8 @@
-use Rattle.std.proofs.Common.{◌≡◌, ◌≤◌, ◌<◌, ◌==◌, ◌∙◌, true, false, ap, refl, sym, arith, length}
-use Rattle.std.proofs.lemmas.Bool.{eqb-true}
+use Rattle.std.proofs.Common.{◌==◌, ap}
 use Rattle.partition_frames.specs.Frame.{fields_of}
-use Rattle.partition_frames.specs.Pieces.{LacksBefore, LacksBy}
+use Rattle.partition_frames.specs.Pieces.{LacksBefore}
 use Rattle.partition_frames.specs.Reading.{IsOfKind}
-use Rattle.partition_frames.proofs.Wholes.{left_within, refused_answer, refused_at_field, refused_left_over, some_left, whole_spelled}
+use Rattle.partition_frames.proofs.Wholes.{refused_answer, refused_at_field, refused_left_over, some_left}
 use Rattle.partition_frames.proofs.parsing.read_whole.Goals as goal
 
 pub returns-then-not-is_empty : goal.returns-then-not-is_empty

@@ -1,5 +1,3 @@
-use Rattle.std.proofs.Common.{◌≡◌, ap, sym, ◌∙◌, refl}
-use Rattle.std.proofs.lemmas.Option.{slice_get_cases}
 use Rattle.partition_frames.proofs.Wholes.{none_at}
 use Rattle.partition_frames.proofs.reader.byte_at.Goals as goal
 

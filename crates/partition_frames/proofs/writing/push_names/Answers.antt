@@ -1,4 +1,4 @@
-use Rattle.std.proofs.Common.{◌≡◌, length, arith}
+use Rattle.std.proofs.Common.{length, arith}
 use Rattle.mx_base.specs.AppName.{IsAppName}
 use Rattle.partition_frames.specs.Frame.{number_field, text_field}
 use Rattle.partition_frames.proofs.Pushes.{all_known, all_pushed, one_known, one_pushed}

@@ -1,4 +1,4 @@
-use Rattle.std.proofs.Common.{◌≡◌, length, arith}
+use Rattle.std.proofs.Common.{length, arith}
 use Rattle.partition_frames.specs.Frame.{IsText, number_field, text_field}
 use Rattle.partition_frames.proofs.Pushes.{all_pushed, one_at, one_pushed}
 use Rattle.partition_frames.proofs.writing.push_words.Goals as goal

@@ -1,6 +1,5 @@
-use Rattle.std.proofs.Common.{◌≡◌, ◌+◌, ◌-◌, ap, arith, refl, sym, ◌∙◌}
+use Rattle.std.proofs.Common.{◌+◌, arith, refl}
 use Rattle.std.proofs.lemmas.Result.{err_from_is_err_and}
-use Rattle.circular_buffer.specs.Buffer.{Buffer}
 use Rattle.partition_frames.proofs.Wholes.{front_whole, left_behind, next_given, next_none, next_refused}
 use Rattle.partition_frames.proofs.reader.FrameReader.next.Goals as goal
 
@@ -27,5 +26,5 @@ pub returns-clause-answer : goal.returns-clause-answer
 returns-clause-answer c =
     let items = c.self.inside.held.items in
     let left = left_behind c.self.inside.held c.read_front.new.held c.truncate_front.new.self c.len-held.result (4 + c.in-Some.size)
-        c.in_ok-frame.ensures.held c.len-held.ensures.len c.if-held-used.false c.truncate_front.ensures in
+    c.in_ok-frame.ensures.held c.len-held.ensures.len c.if-held-used.false c.truncate_front.ensures in
     next_given c.args.self.now items _ (4 + c.in-Some.size) c.in_ok-frame.frame (cc c.self.view_is) c.in_ok-frame.ensures.answer.answer left
