@@ -27,13 +27,10 @@ fn last_build(alloc: Global, places: u32, builds: u32) -> Result<Core<Anything>,
 
 /// How many places have fates.
 fn settled(core: &Core<Anything>) -> usize {
-    let mut count = 0;
-    for place in 0..core.plan().jobs.as_slice().len() as u32 {
-        if core.fate(place).is_some() {
-            count += 1;
-        }
-    }
-    count
+    let places = core.plan().jobs.as_slice().len() as u32;
+    (0..places)
+        .filter(|&place| core.fate(place).is_some())
+        .count()
 }
 
 // The number that a word says, or this one where it says none.
