@@ -80,15 +80,14 @@ holds_by o fates place (Some (Skipped need)) first now left = if_told now.held (
 
 ending_of : (one : One) (fault : BuildFault) (places deaths : ℕ) (folders : List FolderKnown) → one.fault ≡ Some fault → (HaveFates places one.fates.items → ⊥)
     → (fault ≡ TreeFault) ↔ SomeFailed folders → (fault ≡ NoPartitionLeft 1) ↔ (deaths ≢ 0) → ((n : ℕ) → fault ≡ NoPartitionLeft n → n ≡ 1) → IsEnding one places deaths folders
-ending_of one fault places deaths folders is open tree died just = record {
-  none = ((λ e. let clash : None ≡ Some fault = sym e ∙ is in cc), (λ have. absurd (open have)));
+ending_of one fault places deaths folders is unfated tree died just = record {
+  none = ((λ e. let clash : None ≡ Some fault = sym e ∙ is in cc), (λ have. absurd (unfated have)));
   tree = ((λ e. tree.0 (let same : Some fault ≡ Some TreeFault = sym is ∙ e in cc)), (λ some. is ∙ ap (λ (f : BuildFault). Some f) (tree.1 some)));
   died = ((λ e. died.0 (let same : Some fault ≡ Some (NoPartitionLeft 1) = sym is ∙ e in cc)), (λ rose. is ∙ ap (λ (f : BuildFault). Some f) (died.1 rose)));
   just_one = λ n e. just n (let same : Some fault ≡ Some (NoPartitionLeft n) = sym is ∙ e in cc);
 }
 
 module _ (nature : Nature) (o : Opening) (planned : ArePlanned o.plan.jobs) (first : Station) (ready : AreReady o first.folders) (young : IsYoung first.counts) where
-
   -- ---- where all is as the history says
 
   module _ (now : Station) (station : IsStation nature o first now) where
@@ -134,7 +133,7 @@ module _ (nature : Nature) (o : Opening) (planned : ArePlanned o.plan.jobs) (fir
     station_runs have honest sound =
         let few = few_starts nature.compile o now.events planned sound station.legal (station.faithful honest) in
         let enough = count_le (is_compiled nature.compile o) (is_covered nature.compile o fates) (length o.plan.jobs)
-            (λ p below e. and_from (is_compiled nature.compile o p) (is_some (at fates p)) e (have p below)) in
+        (λ p below e. and_from (is_compiled nature.compile o p) (is_some (at fates p)) e (have p below)) in
         let starts = station.starts honest sound in
         omega (arith, few, enough, starts, station.unended, station.runs)
 
@@ -263,23 +262,23 @@ module _ (nature : Nature) (o : Opening) (planned : ArePlanned o.plan.jobs) (fir
 
   ending_cut : (one : One) (last now : Station) (station : IsStation nature o first last) (came : Worked) (fault : BuildFault) (w : WorksOn nature o came last now) → told_by came ≡ Err fault
       → one.fault ≡ Some fault → (HaveFates (length o.plan.jobs) one.fates.items → ⊥) → IsEnding one (length o.plan.jobs) now.counts.deaths now.folders
-  ending_cut one last now station (Finished twin) fault w told is open = cc
-  ending_cut one last now station (Failed twin) fault w told is open = cc
-  ending_cut one last now station Died fault w told is open =
+  ending_cut one last now station (Finished twin) fault w told is unfated = cc
+  ending_cut one last now station (Failed twin) fault w told is unfated = cc
+  ending_cut one last now station Died fault w told is unfated =
       let own : NoPartitionLeft 1 ≡ fault = cc in
-      ending_of one fault (length o.plan.jobs) now.counts.deaths now.folders is open
+      ending_of one fault (length o.plan.jobs) now.counts.deaths now.folders is unfated
       ((λ e. let clash : NoPartitionLeft 1 ≡ TreeFault = own ∙ e in cc), (λ some. absurd (unfailed_but last now station Died w refl some)))
       ((λ e. deaths_rose last now station Died w refl), (λ rose. sym own))
       (λ n e. let same : NoPartitionLeft 1 ≡ NoPartitionLeft n = own ∙ e in cc)
-  ending_cut one last now station TreeFailed fault w told is open =
+  ending_cut one last now station TreeFailed fault w told is unfated =
       let own : TreeFault ≡ fault = cc in
-      ending_of one fault (length o.plan.jobs) now.counts.deaths now.folders is open
+      ending_of one fault (length o.plan.jobs) now.counts.deaths now.folders is unfated
       ((λ e. tree_rose last now station TreeFailed w refl), (λ some. sym own))
       ((λ e. let clash : TreeFault ≡ NoPartitionLeft 1 = own ∙ e in cc), (λ rose. absurd (rose (still_alive last now station TreeFailed w refl))))
       (λ n e. let clash : TreeFault ≡ NoPartitionLeft n = own ∙ e in cc)
-  ending_cut one last now station NoMemory fault w told is open =
+  ending_cut one last now station NoMemory fault w told is unfated =
       let own : OutOfMemory ≡ fault = cc in
-      ending_of one fault (length o.plan.jobs) now.counts.deaths now.folders is open
+      ending_of one fault (length o.plan.jobs) now.counts.deaths now.folders is unfated
       ((λ e. let clash : OutOfMemory ≡ TreeFault = own ∙ e in cc), (λ some. absurd (unfailed_but last now station NoMemory w refl some)))
       ((λ e. let clash : OutOfMemory ≡ NoPartitionLeft 1 = own ∙ e in cc), (λ rose. absurd (rose (still_alive last now station NoMemory w refl))))
       (λ n e. let clash : OutOfMemory ≡ NoPartitionLeft n = own ∙ e in cc)
@@ -288,12 +287,12 @@ module _ (nature : Nature) (o : Opening) (planned : ArePlanned o.plan.jobs) (fir
 
   pub ends_legal : (now : Station) (fault : Option BuildFault) → Ends nature o first now fault → Legal o now.events
   ends_legal now None ended = ended.0.legal
-  ends_legal now (Some fault) (last, station, unmade place open same is) = subst (λ (n : Station). Legal o n.events) (sym same) station.legal
+  ends_legal now (Some fault) (last, station, unmade place free same is) = subst (λ (n : Station). Legal o n.events) (sym same) station.legal
   ends_legal now (Some fault) (last, station, worked came w told) = legal_works nature o came last now w station.legal
 
   pub ends_faithful : (now : Station) (fault : Option BuildFault) → Ends nature o first now fault → nature.honest → Faithful nature.compile o now.events
   ends_faithful now None ended honest = ended.0.faithful honest
-  ends_faithful now (Some fault) (last, station, unmade place open same is) honest = subst (λ (n : Station). Faithful nature.compile o n.events) (sym same) (station.faithful honest)
+  ends_faithful now (Some fault) (last, station, unmade place free same is) honest = subst (λ (n : Station). Faithful nature.compile o n.events) (sym same) (station.faithful honest)
   ends_faithful now (Some fault) (last, station, worked came w told) honest = faithful_works nature o came last now w honest (station.faithful honest)
 
   pub ends_agree : (now : Station) (fault : Option BuildFault) → Ends nature o first now fault → nature.honest → Sound nature.compile o
@@ -302,21 +301,21 @@ module _ (nature : Nature) (o : Opening) (planned : ArePlanned o.plan.jobs) (fir
 
   pub ends_left : (now : Station) (fault : Option BuildFault) → Ends nature o first now fault → AreLeft o (replay o now.events).fates first.folders now.folders
   ends_left now None ended = station_left now ended.0
-  ends_left now (Some fault) (last, station, unmade place open same is) =
+  ends_left now (Some fault) (last, station, unmade place free same is) =
       subst (λ (n : Station). AreLeft o (replay o n.events).fates first.folders n.folders) (sym same) (station_left last station)
   ends_left now (Some fault) (last, station, worked came w told) = cut_left last now station came w fault told
 
   pub ends_stay : (now : Station) (fault : Option BuildFault) → Ends nature o first now fault → nature.honest → Sound nature.compile o
       → StayFor nature.compile (inputs_of nature.compile o.plan.jobs) first.folders now.folders
   ends_stay now None ended honest sound = ended.0.stay honest sound
-  ends_stay now (Some fault) (last, station, unmade place open same is) honest sound =
+  ends_stay now (Some fault) (last, station, unmade place free same is) honest sound =
       subst (λ (n : Station). StayFor nature.compile (inputs_of nature.compile o.plan.jobs) first.folders n.folders) (sym same) (station.stay honest sound)
   ends_stay now (Some fault) (last, station, worked came w told) honest sound =
       stay_worked nature o came first last now w (agrees_now nature o planned first last ready station honest sound) honest (station.stay honest sound)
 
   pub ends_counts : (now : Station) (fault : Option BuildFault) → Ends nature o first now fault → CountsOf nature.lasting now.events first.counts now.counts
   ends_counts now None ended = station_counts now ended.0
-  ends_counts now (Some fault) (last, station, unmade place open same is) =
+  ends_counts now (Some fault) (last, station, unmade place free same is) =
       subst (λ (n : Station). CountsOf nature.lasting n.events first.counts n.counts) (sym same) (station_counts last station)
   ends_counts now (Some fault) (last, station, worked came w told) = counts_cut last now station came fault w told
 
@@ -328,12 +327,12 @@ module _ (nature : Nature) (o : Opening) (planned : ArePlanned o.plan.jobs) (fir
     died = ((λ e. let clash : None ≡ Some (NoPartitionLeft 1) = sym is ∙ e in cc), (λ rose. absurd (rose (alive now ended.0))));
     just_one = λ n e. let clash : None ≡ Some (NoPartitionLeft n) = sym is ∙ e in cc;
   }
-  ending_at one now (Some fault) is fates (last, station, unmade place open same own) =
+  ending_at one now (Some fault) is fates (last, station, unmade place free same own) =
       let unfated : HaveFates (length o.plan.jobs) one.fates.items → ⊥ = λ have.
-          let within : place < length o.plan.jobs = omega (arith, slice_get_within (replay o last.events).fates place None open, places_all o last.events) in
-          let alike : (replay o now.events).fates ≡ (replay o last.events).fates = ap (λ (n : Station). (replay o n.events).fates) same in
-          let none : at one.fates.items place ≡ None = ap (λ (all : List (Option Fate)). at all place) (fates ∙ alike) ∙ at_open (replay o last.events).fates place open in
-          let clash : false ≡ true = ap is_some (sym none) ∙ have place within in cc in
+      let within : place < length o.plan.jobs = omega (arith, slice_get_within (replay o last.events).fates place None free, places_all o last.events) in
+      let alike : (replay o now.events).fates ≡ (replay o last.events).fates = ap (λ (n : Station). (replay o n.events).fates) same in
+      let none : at one.fates.items place ≡ None = ap (λ (all : List (Option Fate)). at all place) (fates ∙ alike) ∙ at_open (replay o last.events).fates place free in
+      let clash : false ≡ true = ap is_some (sym none) ∙ have place within in cc in
       ending_of one fault (length o.plan.jobs) now.counts.deaths now.folders is unfated
       ((λ e. let clash : OutOfMemory ≡ TreeFault = sym own ∙ e in cc), (λ some. absurd (none_failed last station (subst (λ (n : Station). SomeFailed n.folders) same some))))
       ((λ e. let clash : OutOfMemory ≡ NoPartitionLeft 1 = sym own ∙ e in cc), (λ rose. absurd (rose (ap (λ (n : Station). n.counts.deaths) same ∙ alive last station))))

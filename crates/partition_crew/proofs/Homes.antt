@@ -1,5 +1,5 @@
--- The folders of places, between two turns.
-use Rattle.std.proofs.Common.{◌≡◌, ℕ, ◌+◌, ◌<◌, ◌⊎◌, inl, inr, List, length, Option, Some, None, IfSome, slice_get, slice_set, refl, sym, ◌∙◌, ap, subst, arith}
+-- The folders of places, between two steps.
+use Rattle.std.proofs.Common.{◌≡◌, ℕ, ◌+◌, ◌<◌, ◌⊎◌, inl, inr, false, List, length, Option, Some, None, IfSome, slice_get, slice_set, refl, sym, ◌∙◌, ap, subst, arith}
 use Rattle.std.proofs.lemmas.Bool.{cases_eq}
 use Rattle.compile_model.specs.declared.job.Job.{Job}
 use Rattle.compile_model.specs.declared.outcome.Outcome.{Outcome}
@@ -32,10 +32,14 @@ Owns o fates place outcome mark = WasKept o place outcome mark ⊎ ((job : Job) 
 owns_grow : (o : Opening) (fates next : List (Option Fate)) → Grows fates next → (place : ℕ) (outcome : Outcome) (mark : MarkView) → Owns o fates place outcome mark
     → Owns o next place outcome mark
 owns_grow o fates next grows place outcome mark (inl kept) = inl kept
-owns_grow o fates next grows place outcome mark (inr (job, here, made)) = inr (job, here, record {
-  ready = first_grow fates next grows job.needs made.ready;
-  own = made.own ∙ ap (λ (needs : List Outcome). mark_of job needs outcome) (outcomes_grow fates next grows job.needs made.ready);
-})
+owns_grow o fates next grows place outcome mark (inr (job, here, made)) = inr (
+  job,
+  here,
+  record {
+    ready = first_grow fates next grows job.needs made.ready;
+    own = made.own ∙ ap (λ (needs : List Outcome). mark_of job needs outcome) (outcomes_grow fates next grows job.needs made.ready);
+  },
+)
 
 holds_grow : (o : Opening) (fates next : List (Option Fate)) → Grows fates next → (place : ℕ) (outcome : Outcome) (held : Holding) → HoldsBuilt o fates place outcome held
     → HoldsBuilt o next place outcome held
@@ -132,10 +136,14 @@ made_holds o fates place job outcome bytes held open_place here ready spells is 
       mark = mark_of job (outcomes_now fates job.needs) outcome;
       stands = ap (λ (h : Holding). h.mark) is;
       reads = spells;
-      own = inr (job, here, record {
-        ready = first_grow fates next grows job.needs ready;
-        own = ap (λ (needs : List Outcome). mark_of job needs outcome) (outcomes_grow fates next grows job.needs ready);
-      });
+      own = inr (
+        job,
+        here,
+        record {
+          ready = first_grow fates next grows job.needs ready;
+          own = ap (λ (needs : List Outcome). mark_of job needs outcome) (outcomes_grow fates next grows job.needs ready);
+        },
+      );
     }
 
 -- it was built
@@ -151,7 +159,7 @@ built_home o fates place job outcome before after open_place here ready zero las
     at : (last : Write) → Settles (given_by job (outcomes_now fates job.needs)) outcome after last → IfSome after.held (HoldsBuilt o (slice_set fates place (Some (Built outcome))) place outcome)
     at _ (built bytes status spells holds) =
         if_told after.held (λ held told. made_holds o fates place job outcome bytes held open_place here ready spells
-            (told_has (λ h. h ≡ marked bytes (only_files outcome.files)) after.held held told holds))
+        (told_has (λ h. h ≡ marked bytes (only_files outcome.files)) after.held held told holds))
     at _ (failed status files holds) = absurd (status zero)
 
 -- it failed

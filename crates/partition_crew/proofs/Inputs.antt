@@ -1,5 +1,5 @@
 -- The inputs of a plan, and what stays honest for them.
-use Rattle.std.proofs.Common.{◌≡◌, ℕ, suc, ◌⊎◌, inl, inr, List, [], ◌∷◌, ◌++◌, length, filter_map, Option, Some, None, is_none, IfSome, cond, slice_get, slice_set, Contains, refl, sym, ◌∙◌, ap, subst, arith}
+use Rattle.std.proofs.Common.{◌≡◌, ℕ, zero, suc, ◌⊎◌, inl, inr, List, [], ◌∷◌, ◌++◌, length, filter_map, Option, Some, None, is_none, IfSome, cond, slice_get, slice_set, Contains, refl, sym, ◌∙◌, ap, subst, arith}
 use Rattle.std.specs.List.{cons_option}
 use Rattle.std.proofs.lemmas.Bool.{cases_eq}
 use Rattle.std.proofs.lemmas.List.{length-set}
@@ -33,7 +33,7 @@ among_later (one ∷ known) more given c = among_more one (known ++ more) given 
 
 among_filtered : (find : Job → Option Given) (jobs : List Job) (place : ℕ) (job : Job) (given : Given) → slice_get jobs place ≡ Some job → find job ≡ Some given → Contains (filter_map find jobs) given
 among_filtered find [] place job given is found = cc
-among_filtered find (one ∷ jobs) 0 job given is found =
+among_filtered find (one ∷ jobs) zero job given is found =
     let same : one ≡ job = cc in
     let head : filter_map find (one ∷ jobs) ≡ given ∷ filter_map find jobs = ap (λ (o : Option Given). cons_option o (filter_map find jobs)) (ap find same ∙ found) in
     subst (λ (all : List Given). Contains all given) (sym head) (0, omega arith, refl)
@@ -50,7 +50,7 @@ input_now compile jobs fates place job agrees here ready =
     let all = seq compile jobs in
     among_filtered (input_by all) jobs place job (given_by job (outcomes_now fates job.needs)) here
     (ap (λ (first : Option ℕ). cond (is_none first) (Some (given_by job (outcomes_of all job.needs))) None) (all_built fates all agrees job.needs ready)
-        ∙ ap (λ (needs : List Outcome). Some (given_by job needs)) (sym (all_outcomes fates all agrees job.needs ready)))
+    ∙ ap (λ (needs : List Outcome). Some (given_by job needs)) (sym (all_outcomes fates all agrees job.needs ready)))
 
 -- a folder that stays honest for one input more, where that is among those known
 stays_among : (compile : Content → Outcome) (known : List Given) (given : Given) (before after : FolderKnown) → Contains known given → StaysHonest compile given before after
@@ -60,7 +60,7 @@ stays_among compile known given before after among stays honest =
     (λ image. more_holding compile (given ∷ known) known image (within among)) (stays.stops known honest)
   where
     within : Contains known given → (other : Given) → Contains (given ∷ known) other → Contains known other
-    within among other (0, below, is) = subst (Contains known) is among
+    within among other (zero, below, is) = subst (Contains known) is among
     within among other (suc place, below, is) = (place, omega (arith, below), is)
 
 -- one place was worked on
@@ -74,15 +74,15 @@ stay_worked nature o worked first old new w agrees honest stay = record {
         let mid : FolderKnown = w.works.before in
         let there : slice_get old.folders p ≡ Some mid = ap (slice_get old.folders) same ∙ w.works.there in
         let put : slice_get new.folders p ≡ Some w.works.after =
-            ap (slice_get new.folders) same ∙ ap (λ (fs : List FolderKnown). slice_get fs w.place) w.works.folders ∙ set_same old.folders w.place w.works.after mid w.works.there in
+        ap (slice_get new.folders) same ∙ ap (λ (fs : List FolderKnown). slice_get fs w.place) w.works.folders ∙ set_same old.folders w.place w.works.after mid w.works.there in
         let got : w.works.after ≡ b = let e : Some w.works.after ≡ Some b = sym put ∙ has in cc in
         let so_far : StopsIn (IsHonest nature.compile all) a mid = stay.each p a mid was there known before in
         let ready : first_open (replay o old.events).fates w.job.needs ≡ None = ap (λ (job : Option Job). first_open (replay o old.events).fates (needs_of job)) (sym w.here) ∙ w.legal.1 in
         let among : Contains all (given_now o old.events w.job) =
-            among_later known inputs (given_now o old.events w.job) (input_now nature.compile o.plan.jobs (replay o old.events).fates w.place w.job agrees w.here ready) in
+        among_later known inputs (given_now o old.events w.job) (input_now nature.compile o.plan.jobs (replay o old.events).fates w.place w.job agrees w.here ready) in
         subst (λ (f : FolderKnown). StopsIn (IsHonest nature.compile all) a f) got
         (stops_then (IsHonest nature.compile all) a mid w.works.after so_far
-            (stays_among nature.compile all (given_now o old.events w.job) mid w.works.after among (w.works.stays honest) (stops_end (IsHonest nature.compile all) a mid so_far)))
+        (stays_among nature.compile all (given_now o old.events w.job) mid w.works.after among (w.works.stays honest) (stops_end (IsHonest nature.compile all) a mid so_far)))
     | inr other ↦
         stay.each p a b was
         (sym (ap (λ (fs : List FolderKnown). slice_get fs p) w.works.folders ∙ set_other old.folders w.place p w.works.after other) ∙ has) known before

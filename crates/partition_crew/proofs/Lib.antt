@@ -1,3 +1,4 @@
+pub mod Beginning
 pub mod Counting
 pub mod Courses
 pub mod Ending
@@ -9,3 +10,4 @@ pub mod Planning
 pub mod Settling
 pub mod Starting
 pub mod Stopping
+pub mod Unbegun

@@ -20,7 +20,7 @@ use Rattle.honest_tree.specs.Given.{outcome_of}
 use Rattle.partition_crew.specs.declared.one.BuildFault.{BuildFault}
 use Rattle.partition_crew.specs.declared.worked.Worked.{Worked}
 use Rattle.partition_crew.specs.declared.worked.Worked.TheVariants.{Finished, Failed, Died, TreeFault, NoMemory}
-use Rattle.partition_crew.specs.Station.{Nature, Station, Turns, WorksOn, event_by, told_by}
+use Rattle.partition_crew.specs.Station.{Nature, Station, Advances, WorksOn, event_by, told_by}
 use Rattle.partition_crew.specs.Station.Cuts.{worked}
 use Rattle.partition_crew.specs.Station.Moves.{works}
 use Rattle.partition_crew.specs.Work.{IsMeant, given_by}
@@ -77,12 +77,12 @@ meant_event compile o s place job Died here meant = tt
 meant_event compile o s place job TreeFault here meant = tt
 meant_event compile o s place job NoMemory here meant = tt
 
-pub turns_told : (nature : Nature) (o : Opening) (old new : Station) (came : Worked) → WorksOn nature o came old new → Turns nature o old new (told_by came)
-turns_told nature o old new (Finished twin) w = works (Finished twin) w refl
-turns_told nature o old new (Failed twin) w = works (Failed twin) w refl
-turns_told nature o old new Died w = worked Died w refl
-turns_told nature o old new TreeFault w = worked TreeFault w refl
-turns_told nature o old new NoMemory w = worked NoMemory w refl
+pub advances_told : (nature : Nature) (o : Opening) (old new : Station) (came : Worked) → WorksOn nature o came old new → Advances nature o old new (told_by came)
+advances_told nature o old new (Finished twin) w = works (Finished twin) w refl
+advances_told nature o old new (Failed twin) w = works (Failed twin) w refl
+advances_told nature o old new Died w = worked Died w refl
+advances_told nature o old new TreeFault w = worked TreeFault w refl
+advances_told nature o old new NoMemory w = worked NoMemory w refl
 
 -- ---- one partition
 

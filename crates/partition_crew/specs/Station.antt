@@ -98,7 +98,7 @@ pub record WorksOn (nature : Nature) (o : Opening) (worked : Worked) (old new : 
   pub works : WorksIn nature (given_now o old.events job) worked place old.folders new.folders
   pub counts : IsCounted nature.lasting old.counts new.counts worked
 
--- ---- a turn
+-- ---- one step
 
 -- something was done
 pub data Moves (nature : Nature) (o : Opening) (old new : Station) : Type 0 where
@@ -111,13 +111,13 @@ pub data Cuts (nature : Nature) (o : Opening) (old new : Station) (fault : Build
   unmade : (place : ℕ) → slice_get (replay o old.events).fates place ≡ Some None → new ≡ old → fault ≡ OutOfMemory → Cuts nature o old new fault
   worked : (came : Worked) → WorksOn nature o came old new → told_by came ≡ Err fault → Cuts nature o old new fault
 
--- a turn does something, finds that each place has a fate, or cuts the build
-abbrev pub Turns : Nature → Opening → Station → Station → Result Bool BuildFault → Type 0
-Turns nature o old new (Ok true) = Moves nature o old new
-Turns nature o old new (Ok false) = (new ≡ old) × HaveFates (length o.plan.jobs) (replay o old.events).fates
-Turns nature o old new (Err fault) = Cuts nature o old new fault
+-- one step does something, finds that each place has a fate, or cuts the build
+abbrev pub Advances : Nature → Opening → Station → Station → Result Bool BuildFault → Type 0
+Advances nature o old new (Ok true) = Moves nature o old new
+Advances nature o old new (Ok false) = (new ≡ old) × HaveFates (length o.plan.jobs) (replay o old.events).fates
+Advances nature o old new (Err fault) = Cuts nature o old new fault
 
--- ---- between two turns
+-- ---- between two steps
 
 -- a folder that wasn't worked in is as it was
 abbrev pub IsLeftNow : Opening → List (Option Fate) → ℕ → Option Fate → FolderKnown → FolderKnown → Type 0

@@ -7,9 +7,9 @@ ghost use Rattle.partition_core.specs.Histories.{Agrees, Faithful, Sound, replay
 ghost use Rattle.partition_crew.specs.Build.{AreLeft, AreReady, CountsOf, IsEnding, IsHistory, StayFor, by_one, fault_unless, inputs_of};
 ghost use Rattle.partition_crew.specs.Station.{Ends, IsYoung, nature_by, station_by};
 
+use crate::advancing::advance;
 use crate::meant::Meant;
 use crate::one::{BuildFault, One};
-use crate::turning::turn;
 use compile_model::Plan;
 use mx_base::Shared;
 use partition_core::{Core, Kept};
@@ -66,7 +66,11 @@ fn unbegun(alloc: Global, any: bool) -> One
     One {
         fates: Vec::new(alloc),
         history: Vec::new(alloc),
-        fault: if any { Some(BuildFault::OutOfMemory) } else { None },
+        fault: if any {
+            Some(BuildFault::OutOfMemory)
+        } else {
+            None
+        },
     }
 }
 
@@ -115,8 +119,8 @@ fn go_on<P: Partition, F: Folder>(
         (station_by core.new.events (map F.known folders.new.items) (P.counted partition.new))
         result }
 {
-    'turns: loop {
-        match turn(alloc, core, folders, partition) {
+    'rounds: loop {
+        match advance(alloc, core, folders, partition) {
             Ok(more) => {
                 if !more {
                     return None;

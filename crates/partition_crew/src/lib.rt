@@ -4,11 +4,11 @@
 //! run left. So what a stop leaves is no mark, or one that tells what it was made from.
 #![tactic(auto)]
 
+mod advancing;
 mod building;
 mod compiling;
 mod meant;
 mod one;
-mod turning;
 mod worked;
 mod working;
 

@@ -6,7 +6,7 @@ use Rattle.partition_core.specs.State.{outcomes_now}
 use Rattle.partition_core.specs.Story.{state_now}
 use Rattle.partition_crew.proofs.Planning.{job_here}
 use Rattle.partition_crew.proofs.Starting.{start_outcomes}
-use Rattle.partition_crew.proofs.turning.outcomes.Goals as goal
+use Rattle.partition_crew.proofs.advancing.outcomes.Goals as goal
 
 pub returns : goal.returns
 returns g c =

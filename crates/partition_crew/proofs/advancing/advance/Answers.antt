@@ -5,7 +5,7 @@ use Rattle.partition_core.proofs.Tidy.{places_all}
 use Rattle.partition_crew.specs.Station.{station_by}
 use Rattle.partition_crew.specs.Station.Moves.{keeps, skips}
 use Rattle.partition_crew.proofs.Starting.{none_runs}
-use Rattle.partition_crew.proofs.turning.turn.Goals as goal
+use Rattle.partition_crew.proofs.advancing.advance.Goals as goal
 
 pub make-requires-clause-legal : goal.make-requires-clause-legal
 make-requires-clause-legal g c = c.in-Keep.ensures.legal (Keep c.in-Keep.place 1) refl
@@ -21,16 +21,16 @@ unreachable-requires g c =
     let some = c.in-Later.ensures.later refl in
     none_runs c.args.core.now.opening c.args.core.now.events some.0 c.requires.alone c.requires.idle some.1
 
-pub returns-in-Keep-clause-turns : goal.returns-in-Keep-clause-turns
-returns-in-Keep-clause-turns g c =
+pub returns-in-Keep-clause-advances : goal.returns-in-Keep-clause-advances
+returns-in-Keep-clause-advances g c =
     keeps c.in-Keep.place (c.in-Keep.ensures.legal (Keep c.in-Keep.place 1) refl)
     (ap (λ (story : Story). station_by story.events (map g.F.Folder.known c.args.folders.now.items) (g.P.Partition.counted c.args.partition.now)) c.make.ensures)
 
-pub returns-in-Skip-clause-turns : goal.returns-in-Skip-clause-turns
-returns-in-Skip-clause-turns g c =
+pub returns-in-Skip-clause-advances : goal.returns-in-Skip-clause-advances
+returns-in-Skip-clause-advances g c =
     skips c.in-Skip.place c.in-Skip.need (c.in-Skip.ensures.legal (Skip c.in-Skip.place c.in-Skip.need 1) refl)
     (ap (λ (story : Story). station_by story.events (map g.F.Folder.known c.args.folders.now.items) (g.P.Partition.counted c.args.partition.now)) c.make-in-Skip.ensures)
 
-pub returns-in-Over-clause-turns : goal.returns-in-Over-clause-turns
-returns-in-Over-clause-turns g c =
+pub returns-in-Over-clause-advances : goal.returns-in-Over-clause-advances
+returns-in-Over-clause-advances g c =
     (refl, λ place below. c.in-Over.ensures.over.0 refl place (omega (arith, below, places_all c.args.core.now.opening c.args.core.now.events)))

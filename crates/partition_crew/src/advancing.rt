@@ -1,4 +1,4 @@
-// One turn of a build by one partition.
+// One step of a build by one partition.
 ghost use Rattle.std.specs.Prelude.{◌≡◌, ◌≢◌, ◌<◌, ◌≤◌, [], ◌∷◌, ◌++◌, ℕ, true, None, Some, IfOk, IfSome, IsTrue, length, map, slice_get};
 ghost use Rattle.std.specs.Option.{option_copied};
 ghost use Rattle.compile_model.specs.Planned.{ArePlanned, IsNamed};
@@ -10,7 +10,7 @@ ghost use Rattle.partition_core.specs.Refusals.{outcome_of};
 ghost use Rattle.partition_core.specs.Story.{state_now, with_event};
 ghost use Rattle.partition_core.specs.declared.event.Standing.{Standing};
 ghost use Rattle.partition_face.specs.Counts.{CanRun};
-ghost use Rattle.partition_crew.specs.Station.{IsRight, Turns, WorksIn, event_by, nature_by, station_by, told_by};
+ghost use Rattle.partition_crew.specs.Station.{IsRight, Advances, WorksIn, event_by, nature_by, station_by, told_by};
 ghost use Rattle.partition_crew.specs.Work.{IsCounted, given_by};
 
 use crate::compiling::compile_into;
@@ -28,7 +28,7 @@ use tree_store::Folder;
 const ONE: u32 = 1;
 
 // Does what comes next, and tells whether there was anything to do.
-pub(crate) fn turn<P: Partition, F: Folder>(
+pub(crate) fn advance<P: Partition, F: Folder>(
     alloc: Global,
     core: &mut Core<Meant<P, F>>,
     folders: &mut Vec<F>,
@@ -39,7 +39,7 @@ pub(crate) fn turn<P: Partition, F: Folder>(
     requires places { length folders.old.items ≡ length core.old.opening.plan.jobs }
     requires able { CanRun (P.counted partition.old) }
     ensures opening { core.new.opening ≡ core.old.opening }
-    ensures turns { Turns (nature_by (P.honest × F.tells) P.lasting P.compile_of) core.old.opening
+    ensures advances { Advances (nature_by (P.honest × F.tells) P.lasting P.compile_of) core.old.opening
         (station_by core.old.events (map F.known folders.old.items) (P.counted partition.old))
         (station_by core.new.events (map F.known folders.new.items) (P.counted partition.new))
         result }
@@ -79,7 +79,7 @@ fn start<P: Partition, F: Folder>(
     requires places { length folders.old.items ≡ length core.old.opening.plan.jobs }
     requires able { CanRun (P.counted partition.old) }
     ensures opening { core.new.opening ≡ core.old.opening }
-    ensures turns { Turns (nature_by (P.honest × F.tells) P.lasting P.compile_of) core.old.opening
+    ensures advances { Advances (nature_by (P.honest × F.tells) P.lasting P.compile_of) core.old.opening
         (station_by core.old.events (map F.known folders.old.items) (P.counted partition.old))
         (station_by core.new.events (map F.known folders.new.items) (P.counted partition.new))
         result }
@@ -146,11 +146,7 @@ fn compile_at<P: Partition, F: Folder>(
 }
 
 // Tells what came of a place that the partition runs, and whether the build goes on.
-fn tell<M: Meaning>(
-    core: &mut Core<M>,
-    place: u32,
-    worked: Worked,
-) -> Result<bool, BuildFault>
+fn tell<M: Meaning>(core: &mut Core<M>, place: u32, worked: Worked) -> Result<bool, BuildFault>
     requires holds { Holds (state_now core.old) place 1 }
     requires right { IsRight worked }
     requires meant { M.honest → IsFaithful M.compile_of core.old.opening (state_now core.old)

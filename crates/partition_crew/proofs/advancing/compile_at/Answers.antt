@@ -6,7 +6,7 @@ use Rattle.partition_crew.specs.declared.worked.Worked.{Worked}
 use Rattle.partition_crew.specs.Work.{HasWorked, IsMeant, Touches, given_by, tree_failed, worked_of}
 use Rattle.partition_crew.proofs.Settling.{meant_told, worked_done}
 use Rattle.partition_crew.proofs.Starting.{folder_set, folder_there, told_must}
-use Rattle.partition_crew.proofs.turning.compile_at.Goals as goal
+use Rattle.partition_crew.proofs.advancing.compile_at.Goals as goal
 
 pub returns-clause-works : goal.returns-clause-works
 returns-clause-works g c =
@@ -23,7 +23,7 @@ returns-clause-works g c =
       came = subst (λ (worked : Worked). HasWorked given worked before after) (sym c.of.ensures) (worked_done given c.compile_into.result before after c.compile_into.ensures.done);
       meant = λ honest. subst (IsMeant outcome) (sym c.of.ensures)
           (told_must Holding (IsMeant outcome (worked_of c.compile_into.result)) before.held (g.met.F.Folder.told honest.1 c.index_mut-folder.result.now)
-              (meant_told outcome before.held c.compile_into.result (c.compile_into.ensures.meant honest.0)));
+          (meant_told outcome before.held c.compile_into.result (c.compile_into.ensures.meant honest.0)));
       stays = λ honest. c.compile_into.ensures.honest honest.0;
       touches = subst (λ (worked : Worked). Touches before after (tree_failed worked)) (sym c.of.ensures) c.compile_into.ensures.folder;
     }

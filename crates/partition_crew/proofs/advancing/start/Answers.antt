@@ -12,18 +12,18 @@ use Rattle.partition_core.specs.Steps.{Holds}
 use Rattle.partition_core.specs.Histories.{IsFaithful}
 use Rattle.partition_core.specs.Story.{Story, state_now}
 use Rattle.partition_core.proofs.Tidy.{replay_more}
-use Rattle.partition_crew.specs.Station.{Nature, Station, Turns, WorksIn, WorksOn, event_by, given_now, nature_by, station_by}
+use Rattle.partition_crew.specs.Station.{Nature, Station, Advances, WorksIn, WorksOn, event_by, given_now, nature_by, station_by}
 use Rattle.partition_crew.specs.Station.Cuts.{unmade}
 use Rattle.partition_crew.specs.Work.{given_by}
 use Rattle.partition_crew.proofs.Planning.{job_here, planned_differ, planned_named}
-use Rattle.partition_crew.proofs.Starting.{meant_event, start_each, start_holds, start_outcomes, start_within, turns_told}
-use Rattle.partition_crew.proofs.turning.start.Goals as goal
+use Rattle.partition_crew.proofs.Starting.{meant_event, start_each, start_holds, start_outcomes, start_within, advances_told}
+use Rattle.partition_crew.proofs.advancing.start.Goals as goal
 
 pub outcomes-requires : goal.outcomes-requires
 outcomes-requires g c = start_within c.args.core.now.opening c.args.core.now.events c.args.place c.requires.legal
 
-pub returns-in_err-needs-clause-turns : goal.returns-in_err-needs-clause-turns
-returns-in_err-needs-clause-turns g c =
+pub returns-in_err-needs-clause-advances : goal.returns-in_err-needs-clause-advances
+returns-in_err-needs-clause-advances g c =
     let nature = nature_by (g.P.Meaning.honest × g.F.Folder.tells) g.P.Partition.lasting g.P.Meaning.compile_of in
     let at = station_by c.args.core.now.events (map g.F.Folder.known c.args.folders.now.items) (g.P.Partition.counted c.args.partition.now) in
     let p = err_from_is_err_and c.from_residual.result c.from_residual.ensures.1 in
@@ -81,13 +81,13 @@ tell-requires-clause-meant g c = λ honest.
     let needs : c.as_slice-2.result.now ≡ outcomes_now s.fates job.needs = c.as_slice-2.ensures.value ∙ c.in_ok-needs.ensures ∙ start_outcomes o s c.args.place job here in
     let nature = nature_by (g.P.Meaning.honest × g.F.Folder.tells) g.P.Partition.lasting compile in
     let works = subst (λ (outcomes : List Outcome). WorksIn nature (given_by job outcomes) c.compile_at-worked.result c.args.place (map g.F.Folder.known c.args.folders.now.items)
-        (map g.F.Folder.known c.compile_at-worked.new.folders.items)) needs c.compile_at-worked.ensures.works in
+    (map g.F.Folder.known c.compile_at-worked.new.folders.items)) needs c.compile_at-worked.ensures.works in
     subst (λ (story : Story). IsFaithful compile story.opening (state_now story) event) (sym c.make.ensures)
     (subst (λ (t : State). IsFaithful compile o t event) (sym (replay_more o c.args.core.now.events (Start c.args.place 1)))
-        (meant_event compile o s c.args.place job c.compile_at-worked.result here (works.meant honest)))
+    (meant_event compile o s c.args.place job c.compile_at-worked.result here (works.meant honest)))
 
-pub returns-clause-turns : goal.returns-clause-turns
-returns-clause-turns g c =
+pub returns-clause-advances : goal.returns-clause-advances
+returns-clause-advances g c =
     let o = c.args.core.now.opening in
     let s : State = state_now c.args.core.now in
     let compile = g.P.Meaning.compile_of in
@@ -100,7 +100,7 @@ returns-clause-turns g c =
     let old = station_by c.args.core.now.events (map g.F.Folder.known c.args.folders.now.items) (g.P.Partition.counted c.args.partition.now) in
     let new = station_by c.tell.new.core.events (map g.F.Folder.known c.compile_at-worked.new.folders.items) (g.P.Partition.counted c.compile_at-worked.new.partition) in
     let works = subst (λ (outcomes : List Outcome). WorksIn nature (given_by job outcomes) c.compile_at-worked.result c.args.place (map g.F.Folder.known c.args.folders.now.items)
-        (map g.F.Folder.known c.compile_at-worked.new.folders.items)) needs c.compile_at-worked.ensures.works in
+    (map g.F.Folder.known c.compile_at-worked.new.folders.items)) needs c.compile_at-worked.ensures.works in
     let on : WorksOn nature o c.compile_at-worked.result old new = record {
       place = c.args.place;
       job = job;
@@ -110,4 +110,4 @@ returns-clause-turns g c =
       works = works;
       counts = c.compile_at-worked.ensures.counts;
     } in
-    rw c.tell.ensures.answer (turns_told nature o old new c.compile_at-worked.result on)
+    rw c.tell.ensures.answer (advances_told nature o old new c.compile_at-worked.result on)
