@@ -1,8 +1,8 @@
 -- The beginning of a build, and how far it may go.
-use Rattle.std.proofs.Common.{◌≡◌, ℕ, zero, suc, ◌+◌, ◌*◌, ◌^◌, ◌<◌, ◌≤◌, Bool, true, false, ◌&&◌, cond, List, [], ◌∷◌, ◌++◌, length, map, replicate, count_by, Option, Some, None, is_some, IfSome, slice_get, Contains, refl, sym, ◌∙◌, ap, subst, arith}
+use Rattle.std.proofs.Common.{◌≡◌, ℕ, zero, suc, ◌+◌, ◌*◌, ◌<◌, ◌≤◌, Bool, true, false, cond, List, [], ◌∷◌, ◌++◌, length, replicate, Option, Some, None, is_some, slice_get, Contains, refl, sym, ◌∙◌, ap, subst, arith}
 use Rattle.std.specs.Option.{option_and_then}
 use Rattle.std.proofs.lemmas.Bool.{and_parts}
-use Rattle.std.proofs.lemmas.List.{length-append, length-map}
+use Rattle.std.proofs.lemmas.List.{length-append}
 use Rattle.std.proofs.lemmas.List.Sums.{count_by-le-length}
 use Rattle.compile_model.specs.declared.outcome.Outcome.{Outcome}
 use Rattle.compile_model.specs.declared.outcome.Fate.{Fate}
@@ -13,7 +13,6 @@ use Rattle.tree_store.proofs.MomentLemmas.{if_told, stops_still, told_has}
 use Rattle.partition_core.specs.declared.event.Event.{Event}
 use Rattle.partition_core.specs.declared.event.Standing.TheVariants.{Idle}
 use Rattle.partition_core.specs.State.{Opening, at, standing}
-use Rattle.partition_core.specs.Histories.{Legal}
 use Rattle.partition_core.specs.Counts.{count_below, is_compiled, is_start}
 use Rattle.partition_core.proofs.HistoryLength.{bounded}
 use Rattle.partition_core.proofs.Places.{get_replicate}
@@ -22,8 +21,8 @@ use Rattle.honest_tree.specs.Honest.{IsHonest}
 use Rattle.honest_tree.proofs.HonestLemmas.{more_holding}
 use Rattle.partition_face.specs.declared.counts.Counts.{Counts}
 use Rattle.partition_face.specs.Counts.{CanRun}
-use Rattle.partition_crew.specs.Build.{AreReady, HaveFates, StayFor, inputs_of}
-use Rattle.partition_crew.specs.Station.{AreHome, Ends, IsHome, IsLeftNow, IsStation, IsYoung, Moves, Nature, Station, Advances, is_covered, station_by}
+use Rattle.partition_crew.specs.Build.{AreReady, StayFor, inputs_of}
+use Rattle.partition_crew.specs.Station.{IsLeftNow, IsStation, IsYoung, Moves, Nature, Station, is_covered, station_by}
 use Rattle.partition_crew.specs.Station.Moves.{keeps, skips, works}
 use Rattle.partition_crew.proofs.Moving.{station_moves}
 
@@ -57,10 +56,12 @@ stay_same compile more folders = record {
       let same : before ≡ after = let e : Some before ≡ Some after = sym was ∙ has in cc in
       subst (λ (f : FolderKnown). StopsIn (IsHonest compile (known ++ more)) before f) same
       (stops_still (IsHonest compile (known ++ more)) before before refl
-      (if_told before.held (λ held is. more_holding compile known (known ++ more) held (among_first known more) (told_has (IsHonest compile known) before.held held is honest))));
+      (if_told before.held (λ held is. more_holding compile known (known ++ more) held (among_first known more)
+      (told_has (IsHonest compile known) before.held held is honest))));
 }
 
-pub first_station : (nature : Nature) (o : Opening) (folders : List FolderKnown) (counts : Counts) → o.partitions ≡ 1 → IsStation nature o (station_by [] folders counts) (station_by [] folders counts)
+pub first_station : (nature : Nature) (o : Opening) (folders : List FolderKnown) (counts : Counts) → o.partitions ≡ 1
+    → IsStation nature o (station_by [] folders counts) (station_by [] folders counts)
 first_station nature o folders counts alone = record {
   legal = tt;
   faithful = λ honest. tt;
@@ -75,7 +76,8 @@ first_station nature o folders counts alone = record {
         record {
           key = ap (λ (f : FolderKnown). f.key) same;
           faults = ap (λ (f : FolderKnown). f.faults) same;
-          left = subst (λ (fate : Option Fate). IsLeftNow o (replicate (length o.plan.jobs) None) place fate old new) (sym (at_none (length o.plan.jobs) place)) same;
+          left = subst (λ (fate : Option Fate). IsLeftNow o (replicate (length o.plan.jobs) None) place fate old new)
+              (sym (at_none (length o.plan.jobs) place)) same;
         };
   };
   stay = λ honest sound. stay_same nature.compile (inputs_of nature.compile o.plan.jobs) folders;
@@ -89,13 +91,15 @@ first_station nature o folders counts alone = record {
 
 -- ---- at a step
 
-pub can_run : (nature : Nature) (o : Opening) (first now : Station) → ArePlanned o.plan.jobs → o.partitions ≡ 1 → IsYoung first.counts → IsStation nature o first now → CanRun now.counts
+pub can_run : (nature : Nature) (o : Opening) (first now : Station) → ArePlanned o.plan.jobs → o.partitions ≡ 1 → IsYoung first.counts
+    → IsStation nature o first now → CanRun now.counts
 can_run nature o first now planned alone young station = record {
   lives = station.deaths ∙ young.lives;
   few = omega (arith, station.runs, young.few, bounded o now.events station.legal, alone, planned.few, count_by-le-length is_start now.events);
 }
 
-pub same_places : (nature : Nature) (o : Opening) (first now : Station) → AreReady o first.folders → IsStation nature o first now → length now.folders ≡ length o.plan.jobs
+pub same_places : (nature : Nature) (o : Opening) (first now : Station) → AreReady o first.folders → IsStation nature o first now
+    → length now.folders ≡ length o.plan.jobs
 same_places nature o first now ready station = station.homes.long ∙ ready.places
 
 -- a step that did something made an event, and a history has its bound
@@ -107,7 +111,8 @@ longer nature o old new (skips place need legal is) =
 longer nature o old new (works worked w told) =
     let more = ap length w.events in omega (arith, more, length-append {A = Event})
 
-pub moves_on : (nature : Nature) (o : Opening) (first old new : Station) → ArePlanned o.plan.jobs → AreReady o first.folders → o.partitions ≡ 1 → IsStation nature o first old → Moves nature o old new
+pub moves_on : (nature : Nature) (o : Opening) (first old new : Station) → ArePlanned o.plan.jobs → AreReady o first.folders → o.partitions ≡ 1
+    → IsStation nature o first old → Moves nature o old new
     → (IsStation nature o first new × (length old.events < length new.events) × (length new.events ≤ 2 * (length o.plan.jobs + 1)))
 moves_on nature o first old new planned ready alone station moves =
     let next : IsStation nature o first new = station_moves nature o planned first old ready station new moves in

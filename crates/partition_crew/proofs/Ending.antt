@@ -1,6 +1,5 @@
 -- What a build has led to at its end.
-use Rattle.std.proofs.Common.{◌≡◌, ◌≢◌, ◌↔◌, ℕ, suc, ◌+◌, ◌<◌, ◌≤◌, ◌⊎◌, inl, inr, Bool, true, false, cond, List, [], ◌∷◌, length, map, count_by, Option, Some, None, is_some, IfSome, slice_get, slice_set, Result, Ok, Err, refl, sym, ◌∙◌, ap, subst, arith}
-use Rattle.std.specs.Option.{option_and_then}
+use Rattle.std.proofs.Common.{◌≡◌, ◌≢◌, ◌↔◌, ℕ, suc, ◌+◌, ◌<◌, ◌≤◌, inl, inr, true, false, cond, List, [], ◌∷◌, length, map, count_by, Option, Some, None, is_some, IfSome, slice_get, Err, refl, sym, ◌∙◌, ap, subst, arith}
 use Rattle.std.proofs.lemmas.Bool.{and_from, cases_eq}
 use Rattle.std.proofs.lemmas.List.{length-set}
 use Rattle.std.proofs.lemmas.Option.{slice_get_within}
@@ -16,7 +15,7 @@ use Rattle.partition_core.specs.declared.event.Event.TheVariants.{Keep, Start, F
 use Rattle.partition_core.specs.State.{Opening, State, at}
 use Rattle.partition_core.specs.Steps.{after}
 use Rattle.partition_core.specs.Histories.{Agrees, Faithful, Legal, Sound, replay}
-use Rattle.partition_core.specs.Counts.{count_below, is_back, is_compiled, is_start}
+use Rattle.partition_core.specs.Counts.{count_below, is_back, is_compiled}
 use Rattle.partition_core.proofs.Confluent.{confluent}
 use Rattle.partition_core.proofs.CountsBelow.{count_le}
 use Rattle.partition_core.proofs.Places.{also_there, set_other, set_same}
@@ -28,17 +27,17 @@ use Rattle.partition_crew.specs.declared.one.One.{One}
 use Rattle.partition_crew.specs.declared.worked.Worked.{Worked}
 use Rattle.partition_crew.specs.declared.worked.Worked.TheVariants.{Finished, Failed, Died, TreeFault as TreeFailed, NoMemory}
 use Rattle.partition_crew.specs.Build.{AreLeft, AreReady, CountsOf, HaveFates, HoldsBy, IsEnding, SomeFailed, StayFor, inputs_of, is_death, is_undone}
-use Rattle.partition_crew.specs.Station.{Cuts, Ends, IsHome, IsLeftNow, IsStation, IsYoung, Nature, Station, WorksOn, event_by, is_covered, told_by}
+use Rattle.partition_crew.specs.Station.{Ends, IsLeftNow, IsStation, IsYoung, Nature, Station, WorksOn, event_by, is_covered, told_by}
 use Rattle.partition_crew.specs.Station.Cuts.{unmade, worked}
 use Rattle.partition_crew.specs.Work.{has_died, tree_failed}
 use Rattle.partition_crew.proofs.Growing.{at_open, count_fewer}
-use Rattle.partition_crew.proofs.Homes.{home_open}
 use Rattle.partition_crew.proofs.Inputs.{stay_worked}
 use Rattle.partition_crew.proofs.Moving.{agrees_now, counted_works, faithful_works, legal_works, replayed, starts_works}
 
 -- ---- lists that say the same at each place
 
-map_same : {X Y : Type 0} (f : X → Y) (xs ys : List X) → length ys ≡ length xs → ((p : ℕ) (a b : X) → slice_get xs p ≡ Some a → slice_get ys p ≡ Some b → f b ≡ f a) → map f ys ≡ map f xs
+map_same : {X Y : Type 0} (f : X → Y) (xs ys : List X) → length ys ≡ length xs
+    → ((p : ℕ) (a b : X) → slice_get xs p ≡ Some a → slice_get ys p ≡ Some b → f b ≡ f a) → map f ys ≡ map f xs
 map_same f [] [] long same = refl
 map_same f [] (y ∷ ys) long same = cc
 map_same f (x ∷ xs) [] long same = cc
@@ -70,7 +69,8 @@ undone_is_back (Back place by back.Memory) = omega arith
 
 -- ---- what is held by a fate
 
-holds_by : (o : Opening) (fates : List (Option Fate)) (place : ℕ) (fate : Option Fate) (first now : FolderKnown) → IsLeftNow o fates place fate first now → IfSome now.held (HoldsBy o fates place fate)
+holds_by : (o : Opening) (fates : List (Option Fate)) (place : ℕ) (fate : Option Fate) (first now : FolderKnown) → IsLeftNow o fates place fate first now
+    → IfSome now.held (HoldsBy o fates place fate)
 holds_by o fates place None first now left = if_told now.held (λ held is. tt)
 holds_by o fates place (Some (Built outcome)) first now left = left
 holds_by o fates place (Some (NotBuilt outcome)) first now left = left
@@ -78,8 +78,10 @@ holds_by o fates place (Some (Skipped need)) first now left = if_told now.held (
 
 -- ---- the fault
 
-ending_of : (one : One) (fault : BuildFault) (places deaths : ℕ) (folders : List FolderKnown) → one.fault ≡ Some fault → (HaveFates places one.fates.items → ⊥)
-    → (fault ≡ TreeFault) ↔ SomeFailed folders → (fault ≡ NoPartitionLeft 1) ↔ (deaths ≢ 0) → ((n : ℕ) → fault ≡ NoPartitionLeft n → n ≡ 1) → IsEnding one places deaths folders
+ending_of : (one : One) (fault : BuildFault) (places deaths : ℕ) (folders : List FolderKnown) → one.fault ≡ Some fault
+    → (HaveFates places one.fates.items → ⊥)
+    → (fault ≡ TreeFault) ↔ SomeFailed folders → (fault ≡ NoPartitionLeft 1) ↔ (deaths ≢ 0) → ((n : ℕ) → fault ≡ NoPartitionLeft n → n ≡ 1)
+    → IsEnding one places deaths folders
 ending_of one fault places deaths folders is unfated tree died just = record {
   none = ((λ e. let clash : None ≡ Some fault = sym e ∙ is in cc), (λ have. absurd (unfated have)));
   tree = ((λ e. tree.0 (let same : Some fault ≡ Some TreeFault = sym is ∙ e in cc)), (λ some. is ∙ ap (λ (f : BuildFault). Some f) (tree.1 some)));
@@ -87,7 +89,8 @@ ending_of one fault places deaths folders is unfated tree died just = record {
   just_one = λ n e. just n (let same : Some fault ≡ Some (NoPartitionLeft n) = sym is ∙ e in cc);
 }
 
-module _ (nature : Nature) (o : Opening) (planned : ArePlanned o.plan.jobs) (first : Station) (ready : AreReady o first.folders) (young : IsYoung first.counts) where
+module _ (nature : Nature) (o : Opening) (planned : ArePlanned o.plan.jobs) (first : Station) (ready : AreReady o first.folders)
+    (young : IsYoung first.counts) where
   -- ---- where all is as the history says
 
   module _ (now : Station) (station : IsStation nature o first now) where
@@ -102,7 +105,8 @@ module _ (nature : Nature) (o : Opening) (planned : ArePlanned o.plan.jobs) (fir
 
     station_left : AreLeft o fates first.folders now.folders
     station_left = record {
-      keys = map_same (λ (folder : FolderKnown). folder.key) first.folders now.folders station.homes.long (λ p a b was has. (station.homes.each p a b was has).key);
+      keys = map_same (λ (folder : FolderKnown). folder.key) first.folders now.folders station.homes.long
+          (λ p a b was has. (station.homes.each p a b was has).key);
       each = λ p b has.
           let was = also_there now.folders first.folders p b station.homes.long has in
           holds_by o fates p (at fates p) was.0 b (station.homes.each p was.0 b was.1 has).left;
@@ -144,7 +148,8 @@ module _ (nature : Nature) (o : Opening) (planned : ArePlanned o.plan.jobs) (fir
     s = replay o last.events
 
     -- giving back leaves the fates
-    same_fates : (worked : Worked) (fault : BuildFault) → told_by worked ≡ Err fault → (after o (after o s (Start w.place 1)) (event_by w.place worked)).fates ≡ s.fates
+    same_fates : (worked : Worked) (fault : BuildFault) → told_by worked ≡ Err fault
+        → (after o (after o s (Start w.place 1)) (event_by w.place worked)).fates ≡ s.fates
     same_fates (Finished twin) fault told = cc
     same_fates (Failed twin) fault told = cc
     same_fates Died fault told = refl
@@ -194,7 +199,8 @@ module _ (nature : Nature) (o : Opening) (planned : ArePlanned o.plan.jobs) (fir
 
     cut_open : (fault : BuildFault) → told_by came ≡ Err fault → HaveFates (length o.plan.jobs) (replay o now.events).fates → ⊥
     cut_open fault told have =
-        let none : at (replay o now.events).fates w.place ≡ None = ap (λ (all : List (Option Fate)). at all w.place) (fates_now fault told) ∙ at_open s.fates w.place w.legal.0.open_place in
+        let none : at (replay o now.events).fates w.place ≡ None = ap (λ (all : List (Option Fate)). at all w.place) (fates_now fault told)
+        ∙ at_open s.fates w.place w.legal.0.open_place in
         let some : is_some (at (replay o now.events).fates w.place) ≡ true = have w.place (slice_get_within o.plan.jobs w.place w.job w.here) in
         let clash : false ≡ true = ap is_some (sym none) ∙ some in cc
 
@@ -219,7 +225,8 @@ module _ (nature : Nature) (o : Opening) (planned : ArePlanned o.plan.jobs) (fir
     deaths_rose : has_died came ≡ true → now.counts.deaths ≢ 0
     deaths_rose rose = λ zero. let up = w.counts.deaths.rose rose in omega (arith, up, zero, alive last station)
 
-  counts_cut : (last now : Station) (station : IsStation nature o first last) (came : Worked) (fault : BuildFault) (w : WorksOn nature o came last now) → told_by came ≡ Err fault
+  counts_cut : (last now : Station) (station : IsStation nature o first last) (came : Worked) (fault : BuildFault) (w : WorksOn nature o came last now)
+      → told_by came ≡ Err fault
       → CountsOf nature.lasting now.events first.counts now.counts
   counts_cut last now station (Finished twin) fault w told = cc
   counts_cut last now station (Failed twin) fault w told = cc
@@ -260,7 +267,8 @@ module _ (nature : Nature) (o : Opening) (planned : ArePlanned o.plan.jobs) (fir
         lasts = λ lasting. same;
       }
 
-  ending_cut : (one : One) (last now : Station) (station : IsStation nature o first last) (came : Worked) (fault : BuildFault) (w : WorksOn nature o came last now) → told_by came ≡ Err fault
+  ending_cut : (one : One) (last now : Station) (station : IsStation nature o first last) (came : Worked) (fault : BuildFault)
+      (w : WorksOn nature o came last now) → told_by came ≡ Err fault
       → one.fault ≡ Some fault → (HaveFates (length o.plan.jobs) one.fates.items → ⊥) → IsEnding one (length o.plan.jobs) now.counts.deaths now.folders
   ending_cut one last now station (Finished twin) fault w told is unfated = cc
   ending_cut one last now station (Failed twin) fault w told is unfated = cc
@@ -292,14 +300,17 @@ module _ (nature : Nature) (o : Opening) (planned : ArePlanned o.plan.jobs) (fir
 
   pub ends_faithful : (now : Station) (fault : Option BuildFault) → Ends nature o first now fault → nature.honest → Faithful nature.compile o now.events
   ends_faithful now None ended honest = ended.0.faithful honest
-  ends_faithful now (Some fault) (last, station, unmade place free same is) honest = subst (λ (n : Station). Faithful nature.compile o n.events) (sym same) (station.faithful honest)
+  ends_faithful now (Some fault) (last, station, unmade place free same is) honest = subst (λ (n : Station). Faithful nature.compile o n.events) (sym same)
+      (station.faithful honest)
   ends_faithful now (Some fault) (last, station, worked came w told) honest = faithful_works nature o came last now w honest (station.faithful honest)
 
   pub ends_agree : (now : Station) (fault : Option BuildFault) → Ends nature o first now fault → nature.honest → Sound nature.compile o
       → Agrees (replay o now.events).fates (seq nature.compile o.plan.jobs)
-  ends_agree now fault ended honest sound = confluent nature.compile o now.events planned sound (ends_legal now fault ended) (ends_faithful now fault ended honest)
+  ends_agree now fault ended honest sound = confluent nature.compile o now.events planned sound (ends_legal now fault ended)
+      (ends_faithful now fault ended honest)
 
-  pub ends_left : (now : Station) (fault : Option BuildFault) → Ends nature o first now fault → AreLeft o (replay o now.events).fates first.folders now.folders
+  pub ends_left : (now : Station) (fault : Option BuildFault) → Ends nature o first now fault
+      → AreLeft o (replay o now.events).fates first.folders now.folders
   ends_left now None ended = station_left now ended.0
   ends_left now (Some fault) (last, station, unmade place free same is) =
       subst (λ (n : Station). AreLeft o (replay o n.events).fates first.folders n.folders) (sym same) (station_left last station)
@@ -319,7 +330,8 @@ module _ (nature : Nature) (o : Opening) (planned : ArePlanned o.plan.jobs) (fir
       subst (λ (n : Station). CountsOf nature.lasting n.events first.counts n.counts) (sym same) (station_counts last station)
   ends_counts now (Some fault) (last, station, worked came w told) = counts_cut last now station came fault w told
 
-  ending_at : (one : One) (now : Station) (fault : Option BuildFault) → one.fault ≡ fault → one.fates.items ≡ (replay o now.events).fates → Ends nature o first now fault
+  ending_at : (one : One) (now : Station) (fault : Option BuildFault) → one.fault ≡ fault → one.fates.items ≡ (replay o now.events).fates
+      → Ends nature o first now fault
       → IsEnding one (length o.plan.jobs) now.counts.deaths now.folders
   ending_at one now None is fates ended = record {
     none = ((λ e. subst (HaveFates (length o.plan.jobs)) (sym fates) ended.1), (λ have. is));
@@ -331,17 +343,24 @@ module _ (nature : Nature) (o : Opening) (planned : ArePlanned o.plan.jobs) (fir
       let unfated : HaveFates (length o.plan.jobs) one.fates.items → ⊥ = λ have.
       let within : place < length o.plan.jobs = omega (arith, slice_get_within (replay o last.events).fates place None free, places_all o last.events) in
       let alike : (replay o now.events).fates ≡ (replay o last.events).fates = ap (λ (n : Station). (replay o n.events).fates) same in
-      let none : at one.fates.items place ≡ None = ap (λ (all : List (Option Fate)). at all place) (fates ∙ alike) ∙ at_open (replay o last.events).fates place free in
+      let none : at one.fates.items place ≡ None = ap (λ (all : List (Option Fate)). at all place) (fates ∙ alike)
+      ∙ at_open (replay o last.events).fates place free in
       let clash : false ≡ true = ap is_some (sym none) ∙ have place within in cc in
-      ending_of one fault (length o.plan.jobs) now.counts.deaths now.folders is unfated
-      ((λ e. let clash : OutOfMemory ≡ TreeFault = sym own ∙ e in cc), (λ some. absurd (none_failed last station (subst (λ (n : Station). SomeFailed n.folders) same some))))
-      ((λ e. let clash : OutOfMemory ≡ NoPartitionLeft 1 = sym own ∙ e in cc), (λ rose. absurd (rose (ap (λ (n : Station). n.counts.deaths) same ∙ alive last station))))
+      ending_of one fault (length o.plan.jobs) now.counts.deaths now.folders is unfated (
+        (λ e. let clash : OutOfMemory ≡ TreeFault = sym own ∙ e in cc),
+        (λ some. absurd
+            (none_failed last station (subst (λ (n : Station). SomeFailed n.folders) same some))),
+      ) (
+        (λ e. let clash : OutOfMemory ≡ NoPartitionLeft 1 = sym own ∙ e in cc),
+        (λ rose. absurd (rose (ap (λ (n : Station). n.counts.deaths) same ∙ alive last station))),
+      )
       (λ n e. let clash : OutOfMemory ≡ NoPartitionLeft n = sym own ∙ e in cc)
   ending_at one now (Some fault) is fates (last, station, worked came w told) =
       ending_cut one last now station came fault w told is
       (λ have. cut_open last now station came w fault told (subst (HaveFates (length o.plan.jobs)) fates have))
 
-  pub ends_ending : (one : One) (now : Station) → one.fates.items ≡ (replay o now.events).fates → Ends nature o first now one.fault → IsEnding one (length o.plan.jobs) now.counts.deaths now.folders
+  pub ends_ending : (one : One) (now : Station) → one.fates.items ≡ (replay o now.events).fates → Ends nature o first now one.fault
+      → IsEnding one (length o.plan.jobs) now.counts.deaths now.folders
   ends_ending one now fates ended = ending_at one now one.fault refl fates ended
 
   pub ends_runs : (now : Station) (fault : Option BuildFault) → fault ≡ None → Ends nature o first now fault → nature.honest → Sound nature.compile o

@@ -1,5 +1,5 @@
 -- Fates that are added to, and events that are counted.
-use Rattle.std.proofs.Common.{◌≡◌, ℕ, ◌+◌, ◌≤◌, ◌⊎◌, inl, inr, Bool, cond, List, [], ◌∷◌, ◌++◌, length, count_by, Option, Some, None, is_some, slice_get, slice_set, refl, sym, ◌∙◌, ap, arith}
+use Rattle.std.proofs.Common.{◌≡◌, ℕ, ◌+◌, ◌≤◌, inl, inr, Bool, cond, List, [], ◌∷◌, ◌++◌, length, count_by, Option, Some, None, is_some, slice_get, slice_set, refl, sym, ◌∙◌, ap, arith}
 use Rattle.std.specs.List.{cons_option}
 use Rattle.std.specs.Option.{option_and_then}
 use Rattle.std.proofs.lemmas.Bool.{cases_eq}
@@ -13,13 +13,16 @@ use Rattle.partition_core.proofs.Needs.{head_built, rest_built}
 use Rattle.partition_core.proofs.Places.{set_other, set_same}
 use Rattle.partition_core.proofs.Starts.{count_first}
 
-pub count_end : (test : Event → Bool) (events : List Event) (event : Event) → count_by test (events ++ event ∷ []) ≡ count_by test events + cond (test event) 1 0
+pub count_end : (test : Event → Bool) (events : List Event) (event : Event)
+    → count_by test (events ++ event ∷ []) ≡ count_by test events + cond (test event) 1 0
 count_end test events event =
     let none : count_by test [] ≡ 0 = refl in
-    let whole : count_by test (events ++ event ∷ []) ≡ count_by test events + count_by test (event ∷ []) = sum_by-append (λ (e : Event). cond (test e) 1 0) events (event ∷ []) in
+    let whole : count_by test (events ++ event ∷ []) ≡ count_by test events + count_by test (event ∷ []) = sum_by-append
+    (λ (e : Event). cond (test e) 1 0) events (event ∷ []) in
     omega (arith, count_first test event [])
 
-pub count_fewer : (test other : Event → Bool) (events : List Event) → ((event : Event) → cond (test event) 1 0 ≤ cond (other event) 1 0) → count_by test events ≤ count_by other events
+pub count_fewer : (test other : Event → Bool) (events : List Event) → ((event : Event) → cond (test event) 1 0 ≤ cond (other event) 1 0)
+    → count_by test events ≤ count_by other events
 count_fewer test other [] fewer = omega arith
 count_fewer test other (event ∷ events) fewer =
     omega (arith, count_first test event events, count_first other event events, fewer event, count_fewer test other events fewer)
@@ -44,7 +47,8 @@ grows_set fates place fate is p found has =
       | inr other ↦ at_other fates place p fate other ∙ has
     ]
 
-built_grow_at : (fates next : List (Option Fate)) → Grows fates next → (place : ℕ) (fate : Option Fate) → at fates place ≡ fate → (o : Outcome) → option_and_then built_outcome fate ≡ Some o
+built_grow_at : (fates next : List (Option Fate)) → Grows fates next → (place : ℕ) (fate : Option Fate) → at fates place ≡ fate → (o : Outcome)
+    → option_and_then built_outcome fate ≡ Some o
     → built_at next place ≡ Some o
 built_grow_at fates next grows place None is o built = cc
 built_grow_at fates next grows place (Some fate) is o built = ap (option_and_then built_outcome) (grows place fate is) ∙ built
@@ -60,12 +64,14 @@ first_grow fates next grows (need ∷ needs) e =
     ap (λ (o : Option Outcome). cond (is_some o) (first_open next needs) (Some need)) (built_grow fates next grows need built.0 built.1)
     ∙ first_grow fates next grows needs (rest_built (built_at fates need) (first_open fates needs) need e)
 
-pub outcomes_grow : (fates next : List (Option Fate)) → Grows fates next → (needs : List ℕ) → first_open fates needs ≡ None → outcomes_now fates needs ≡ outcomes_now next needs
+pub outcomes_grow : (fates next : List (Option Fate)) → Grows fates next → (needs : List ℕ) → first_open fates needs ≡ None
+    → outcomes_now fates needs ≡ outcomes_now next needs
 outcomes_grow fates next grows [] e = refl
 outcomes_grow fates next grows (need ∷ needs) e =
     let built = head_built (built_at fates need) (first_open fates needs) need e in
     ap (λ (o : Option Outcome). cons_option o (outcomes_now fates needs)) (built.1 ∙ sym (built_grow fates next grows need built.0 built.1))
-    ∙ ap (λ (rest : List Outcome). cons_option (built_at next need) rest) (outcomes_grow fates next grows needs (rest_built (built_at fates need) (first_open fates needs) need e))
+    ∙ ap (λ (rest : List Outcome). cons_option (built_at next need) rest)
+    (outcomes_grow fates next grows needs (rest_built (built_at fates need) (first_open fates needs) need e))
 
 -- one outcome for each need, where they are all built
 pub one_each : (fates : List (Option Fate)) (needs : List ℕ) → first_open fates needs ≡ None → length (outcomes_now fates needs) ≡ length needs

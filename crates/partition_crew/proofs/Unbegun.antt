@@ -1,9 +1,8 @@
 -- Where there was no memory to begin a build.
-use Rattle.std.proofs.Common.{◌≡◌, ◌≢◌, ◌↔◌, ℕ, ◌+◌, ◌<◌, ◌≤◌, Bool, true, false, List, [], length, count_by, Option, Some, None, is_some, IfSome, slice_get, refl, sym, ◌∙◌, ap, subst, arith}
+use Rattle.std.proofs.Common.{◌≡◌, ◌≢◌, ℕ, ◌+◌, Bool, true, false, List, [], length, Option, Some, None, is_some, IfSome, refl, sym, ◌∙◌, ap, subst, arith}
 use Rattle.compile_model.specs.declared.outcome.Outcome.{Outcome}
 use Rattle.compile_model.specs.declared.outcome.Fate.{Fate}
 use Rattle.compile_model.specs.Content.{Content}
-use Rattle.compile_model.specs.Seq.{seq}
 use Rattle.tree_store.specs.FolderKnown.{FolderKnown}
 use Rattle.tree_store.proofs.MomentLemmas.{if_told}
 use Rattle.partition_core.specs.declared.event.Event.{Event}
@@ -13,7 +12,7 @@ use Rattle.partition_core.specs.Counts.{count_below}
 use Rattle.partition_face.specs.declared.counts.Counts.{Counts}
 use Rattle.partition_crew.specs.declared.one.BuildFault.TheVariants.{TreeFault, OutOfMemory, NoPartitionLeft}
 use Rattle.partition_crew.specs.declared.one.One.{One}
-use Rattle.partition_crew.specs.Build.{AreLeft, CountsOf, HaveFates, HoldsBy, IsEnding, IsHistory, SomeFailed, fault_unless}
+use Rattle.partition_crew.specs.Build.{AreLeft, CountsOf, HoldsBy, IsEnding, IsHistory, SomeFailed, fault_unless}
 use Rattle.partition_crew.proofs.Beginning.{at_none}
 
 pub unbegun_history : (o : Opening) (one : One) → one.fates.items ≡ [] → one.history.items ≡ [] → IsHistory o one
@@ -32,7 +31,8 @@ unbegun_agrees fates all none = subst (λ (some : List (Option Fate)). Agrees so
 pub unbegun_left : (o : Opening) (fates : List (Option Fate)) (folders : List FolderKnown) → fates ≡ [] → AreLeft o fates folders folders
 unbegun_left o fates folders none = record {
   keys = refl;
-  each = λ place folder has. subst (λ (all : List (Option Fate)). IfSome folder.held (HoldsBy o all place (at all place))) (sym none) (if_told folder.held (λ held is. tt));
+  each = λ place folder has. subst (λ (all : List (Option Fate)). IfSome folder.held (HoldsBy o all place (at all place))) (sym none)
+      (if_told folder.held (λ held is. tt));
 }
 
 pub unbegun_counts : (lasting : Type 0) (events : List Event) (counts : Counts) → events ≡ [] → CountsOf lasting events counts counts
@@ -44,7 +44,8 @@ unbegun_counts lasting events counts none = subst (λ (all : List Event). Counts
   lasts = λ l. refl;
 })
 
-pub unbegun_ending : (one : One) (places deaths : ℕ) (folders : List FolderKnown) (any : Bool) → one.fates.items ≡ [] → one.fault ≡ fault_unless any → (any ≡ true → places ≢ 0)
+pub unbegun_ending : (one : One) (places deaths : ℕ) (folders : List FolderKnown) (any : Bool) → one.fates.items ≡ [] → one.fault ≡ fault_unless any
+    → (any ≡ true → places ≢ 0)
     → (any ≡ false → places ≡ 0) → deaths ≡ 0 → (SomeFailed folders → ⊥) → IsEnding one places deaths folders
 unbegun_ending one places deaths folders true fates fault some none alive sound = record {
   none = (
@@ -64,6 +65,7 @@ unbegun_ending one places deaths folders false fates fault some none alive sound
   just_one = λ n e. let clash : None ≡ Some (NoPartitionLeft n) = sym fault ∙ e in cc;
 }
 
-pub unbegun_runs : (one : One) (places runs : ℕ) (test : ℕ → Bool) (any : Bool) → one.fault ≡ fault_unless any → one.fault ≡ None → (any ≡ false → places ≡ 0) → runs ≡ runs + count_below test places
+pub unbegun_runs : (one : One) (places runs : ℕ) (test : ℕ → Bool) (any : Bool) → one.fault ≡ fault_unless any → one.fault ≡ None → (any ≡ false → places ≡ 0)
+    → runs ≡ runs + count_below test places
 unbegun_runs one places runs test true fault is none = let clash : None ≡ Some OutOfMemory = sym is ∙ fault in cc
 unbegun_runs one places runs test false fault is none = subst (λ (n : ℕ). runs ≡ runs + count_below test n) (sym (none refl)) (omega arith)

@@ -14,7 +14,6 @@ use Rattle.staleness.specs.declared.kept.Kept.{Kept}
 use Rattle.tree_store.specs.declared.holding.Holding.{Holding}
 use Rattle.tree_store.specs.FolderKnown.{FolderKnown, StopsIn}
 use Rattle.tree_store.specs.Holding.{nothing}
-use Rattle.partition_core.specs.declared.event.BackCause.{BackCause}
 use Rattle.partition_core.specs.declared.event.BackCause.TheVariants as back
 use Rattle.partition_core.specs.declared.event.Event.{Event}
 use Rattle.partition_core.specs.declared.event.Event.TheVariants.{Keep, Start, Finish, Fail, Skip, Back}
@@ -46,7 +45,8 @@ pub record HoldsKept (kept : Kept) (held : Holding) : Type 0 where
 pub record AreReady (o : Opening) (folders : List FolderKnown) : Type 0 where
   pub places : length folders ≡ length o.plan.jobs
   pub fresh : (place : ℕ) (folder : FolderKnown) → slice_get folders place ≡ Some folder → folder.faults ≡ 0
-  pub kept : (place : ℕ) (folder : FolderKnown) (kept : Kept) → slice_get folders place ≡ Some folder → at o.kept place ≡ Some kept → IfSome folder.held (HoldsKept kept)
+  pub kept : (place : ℕ) (folder : FolderKnown) (kept : Kept) → slice_get folders place ≡ Some folder → at o.kept place ≡ Some kept
+      → IfSome folder.held (HoldsKept kept)
 
 -- ---- the history and the fates
 

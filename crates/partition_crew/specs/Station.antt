@@ -102,8 +102,10 @@ pub record WorksOn (nature : Nature) (o : Opening) (worked : Worked) (old new : 
 
 -- something was done
 pub data Moves (nature : Nature) (o : Opening) (old new : Station) : Type 0 where
-  keeps : (place : ℕ) → IsLegal o (replay o old.events) (Keep place 1) → new ≡ record old { events = old.events ++ Keep place 1 ∷ [] } → Moves nature o old new
-  skips : (place need : ℕ) → IsLegal o (replay o old.events) (Skip place need 1) → new ≡ record old { events = old.events ++ Skip place need 1 ∷ [] } → Moves nature o old new
+  keeps : (place : ℕ) → IsLegal o (replay o old.events) (Keep place 1) → new ≡ record old { events = old.events ++ Keep place 1 ∷ [] }
+      → Moves nature o old new
+  skips : (place need : ℕ) → IsLegal o (replay o old.events) (Skip place need 1) → new ≡ record old { events = old.events ++ Skip place need 1 ∷ [] }
+      → Moves nature o old new
   works : (worked : Worked) → WorksOn nature o worked old new → told_by worked ≡ Ok true → Moves nature o old new
 
 -- the build ends before each place has a fate
@@ -149,7 +151,8 @@ pub record IsStation (nature : Nature) (o : Opening) (first now : Station) : Typ
   pub deaths : now.counts.deaths ≡ first.counts.deaths
   pub homes : AreHome o (replay o now.events).fates first.folders now.folders
   pub stay : nature.honest → Sound nature.compile o → StayFor nature.compile (inputs_of nature.compile o.plan.jobs) first.folders now.folders
-  pub starts : nature.honest → Sound nature.compile o → count_below (is_covered nature.compile o (replay o now.events).fates) (length o.plan.jobs) ≤ count_by is_start now.events
+  pub starts : nature.honest → Sound nature.compile o → count_below (is_covered nature.compile o (replay o now.events).fates)
+      (length o.plan.jobs) ≤ count_by is_start now.events
 
 -- the build has come to its end, or was cut
 abbrev pub Ends : Nature → Opening → Station → Station → Option BuildFault → Type 0

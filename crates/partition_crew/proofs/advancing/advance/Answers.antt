@@ -1,4 +1,4 @@
-use Rattle.std.proofs.Common.{◌≡◌, ◌<◌, length, map, refl, ap, arith}
+use Rattle.std.proofs.Common.{map, refl, ap, arith}
 use Rattle.partition_core.specs.declared.event.Event.TheVariants.{Keep, Start, Skip}
 use Rattle.partition_core.specs.Story.{Story}
 use Rattle.partition_core.proofs.Tidy.{places_all}
@@ -24,12 +24,14 @@ unreachable-requires g c =
 pub returns-in-Keep-clause-advances : goal.returns-in-Keep-clause-advances
 returns-in-Keep-clause-advances g c =
     keeps c.in-Keep.place (c.in-Keep.ensures.legal (Keep c.in-Keep.place 1) refl)
-    (ap (λ (story : Story). station_by story.events (map g.F.Folder.known c.args.folders.now.items) (g.P.Partition.counted c.args.partition.now)) c.make.ensures)
+    (ap (λ (story : Story). station_by story.events (map g.F.Folder.known c.args.folders.now.items)
+    (g.P.Partition.counted c.args.partition.now)) c.make.ensures)
 
 pub returns-in-Skip-clause-advances : goal.returns-in-Skip-clause-advances
 returns-in-Skip-clause-advances g c =
     skips c.in-Skip.place c.in-Skip.need (c.in-Skip.ensures.legal (Skip c.in-Skip.place c.in-Skip.need 1) refl)
-    (ap (λ (story : Story). station_by story.events (map g.F.Folder.known c.args.folders.now.items) (g.P.Partition.counted c.args.partition.now)) c.make-in-Skip.ensures)
+    (ap (λ (story : Story). station_by story.events (map g.F.Folder.known c.args.folders.now.items)
+    (g.P.Partition.counted c.args.partition.now)) c.make-in-Skip.ensures)
 
 pub returns-in-Over-clause-advances : goal.returns-in-Over-clause-advances
 returns-in-Over-clause-advances g c =

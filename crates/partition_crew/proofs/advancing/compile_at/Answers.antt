@@ -20,7 +20,8 @@ returns-clause-works g c =
       after = after;
       there = folder_there known c.args.folders.now.items c.args.place c.index_mut-folder.result.now c.requires.within c.index_mut-folder.ensures.value;
       folders = folder_set known c.args.folders.now.items c.args.place c.compile_into.new.folder;
-      came = subst (λ (worked : Worked). HasWorked given worked before after) (sym c.of.ensures) (worked_done given c.compile_into.result before after c.compile_into.ensures.done);
+      came = subst (λ (worked : Worked). HasWorked given worked before after) (sym c.of.ensures)
+          (worked_done given c.compile_into.result before after c.compile_into.ensures.done);
       meant = λ honest. subst (IsMeant outcome) (sym c.of.ensures)
           (told_must Holding (IsMeant outcome (worked_of c.compile_into.result)) before.held (g.met.F.Folder.told honest.1 c.index_mut-folder.result.now)
           (meant_told outcome before.held c.compile_into.result (c.compile_into.ensures.meant honest.0)));

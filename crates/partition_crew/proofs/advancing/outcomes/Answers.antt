@@ -12,6 +12,8 @@ pub returns : goal.returns
 returns g c =
     let o = c.args.core.now.opening in
     let job : Job = c.index-as_slice-place.result in
-    let here = job_here c.as_slice.result.now o.plan.jobs c.args.place job (c.as_slice.ensures ∙ ap (λ (plan : Plan). plan.jobs) c.plan.ensures.value) c.requires c.index-as_slice-place.is in
+    let here = job_here c.as_slice.result.now o.plan.jobs c.args.place job
+    (c.as_slice.ensures ∙ ap (λ (plan : Plan). plan.jobs) c.plan.ensures.value) c.requires c.index-as_slice-place.is in
     let own : c.loop-need.outcomes.items ≡ outcomes_now (state_now c.args.core.now).fates c.as_slice-need-items.result.now = grind (arith, common_steps) in
-    own ∙ ap (outcomes_now (state_now c.args.core.now).fates) c.as_slice-need-items.ensures ∙ sym (start_outcomes o (state_now c.args.core.now) c.args.place job here)
+    own ∙ ap (outcomes_now (state_now c.args.core.now).fates) c.as_slice-need-items.ensures
+    ∙ sym (start_outcomes o (state_now c.args.core.now) c.args.place job here)
