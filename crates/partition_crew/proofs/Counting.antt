@@ -61,7 +61,8 @@ tree_with_twin twin = at (twin.event.status == 0)
 -- ---- a partition's counts
 
 -- it didn't run
-pub counted_unrun : (lasting : Type 0) (counts : Counts) (worked : Worked) → has_run worked ≡ false → false ≡ has_died worked → IsCounted lasting counts counts worked
+pub counted_unrun : (lasting : Type 0) (counts : Counts) (worked : Worked) → has_run worked ≡ false → false ≡ has_died worked
+    → IsCounted lasting counts counts worked
 counted_unrun lasting counts worked unrun lives = record {
   later = omega arith;
   few = omega arith;

@@ -22,7 +22,8 @@ moments_of_both : (told : Option (List Moment)) (ms ns : List Moment) → after_
 moments_of_both None ms ns = refl
 moments_of_both (Some before) ms ns = ap (λ (all : List Moment). Some all) (append_assoc before ms ns)
 
-held_after_both : (told : Option Holding) (ms ns : List Moment) → option_map (after_all ns) (option_map (after_all ms) told) ≡ option_map (after_all (ms ++ ns)) told
+held_after_both : (told : Option Holding) (ms ns : List Moment) → option_map (after_all ns) (option_map (after_all ms) told) ≡ option_map
+    (after_all (ms ++ ns)) told
 held_after_both None ms ns = refl
 held_after_both (Some held) ms ns = ap (λ (h : Holding). Some h) (sym (after_both ms ns held))
 
@@ -45,7 +46,8 @@ wrote_one write old new is = record {
 pub wrote_emptied : (a b c : FolderKnown) → b ≡ written Unmark Whole b.faults a → c ≡ written Clear Whole c.faults b → Wrote emptied a c
 wrote_emptied a b c first next = wrote_then (whole Unmark ∷ []) (whole Clear ∷ []) a b c (wrote_one Unmark a b first) (wrote_one Clear b c next)
 
-pub on_emptied : {X : Type 0} (a b c : FolderKnown) (result : Result X StoreFault) → b ≡ written Unmark Whole b.faults a → Writes Clear b c result → OnOk result (Wrote emptied a c)
+pub on_emptied : {X : Type 0} (a b c : FolderKnown) (result : Result X StoreFault) → b ≡ written Unmark Whole b.faults a → Writes Clear b c result
+    → OnOk result (Wrote emptied a c)
 on_emptied a b c (Ok x) first writes = wrote_emptied a b c first writes.ended
 on_emptied a b c (Err e) first writes = tt
 
@@ -57,14 +59,17 @@ pub emptied_bare : (a b : FolderKnown) → Wrote emptied a b → IsBare b
 emptied_bare a b wrote = at a.held refl
   where
     at : (told : Option Holding) → a.held ≡ told → IsBare b
-    at None is = subst (λ (o : Option Holding). IfSome o (λ held. (held.files ≡ []) × (held.mark ≡ None))) (sym (wrote.held ∙ ap (option_map (after_all emptied)) is)) tt
-    at (Some held) is = subst (λ (o : Option Holding). IfSome o (λ held. (held.files ≡ []) × (held.mark ≡ None))) (sym (emptied_holds a b wrote held is)) (refl, refl)
+    at None is = subst (λ (o : Option Holding). IfSome o (λ held. (held.files ≡ []) × (held.mark ≡ None)))
+        (sym (wrote.held ∙ ap (option_map (after_all emptied)) is)) tt
+    at (Some held) is = subst (λ (o : Option Holding). IfSome o (λ held. (held.files ≡ []) × (held.mark ≡ None))) (sym (emptied_holds a b wrote held is))
+        (refl, refl)
 
 -- it was emptied, a run wrote into it, and then there was one write more
 pub course_of : (last : Write) (a b c d : FolderKnown) → Wrote emptied a b → NeverMarks b c → Wrote (whole last ∷ []) c d → IsCourse last a d
 course_of last a b c d first ran ended = record {
   run = ran.more;
-  wrote = wrote_then emptied (ran.more ++ whole last ∷ []) a b d first (wrote_then ran.more (whole last ∷ []) b c d (record { told = ran.told; held = ran.held; key = ran.key }) ended);
+  wrote = wrote_then emptied (ran.more ++ whole last ∷ []) a b d first (wrote_then ran.more (whole last ∷ []) b c d
+      (record { told = ran.told; held = ran.held; key = ran.key }) ended);
   unmarked = if_told a.held (λ held is image i.
       told_has (λ h. (image : Holding) → IsImage ran.more h image → image.mark ≡ None) b.held nothing (emptied_holds a b first held is) ran.each image i);
 }
@@ -80,7 +85,8 @@ touches_then a b c failed first next = record {
 pub touches_still : (a : FolderKnown) → Touches a a false
 touches_still a = record { key = refl; cause = counted_still a.faults }
 
-pub touches_write : {X : Type 0} (write : Write) (a b : FolderKnown) (result : Result X StoreFault) → Writes write a b result → Touches a b (fails blame_of result)
+pub touches_write : {X : Type 0} (write : Write) (a b : FolderKnown) (result : Result X StoreFault) → Writes write a b result
+    → Touches a b (fails blame_of result)
 touches_write write a b result writes = record { key = writes_key write a b result writes; cause = writes.cause }
 
 pub touches_look : (a b : FolderKnown) (failed : Bool) → Looks a b failed → Touches a b failed

@@ -1,5 +1,13 @@
+pub mod Beginning
 pub mod Counting
 pub mod Courses
+pub mod Ending
+pub mod Growing
+pub mod Homes
+pub mod Inputs
+pub mod Moving
 pub mod Planning
 pub mod Settling
+pub mod Starting
 pub mod Stopping
+pub mod Unbegun

@@ -34,7 +34,8 @@ same_held one other e = cc
 -- ---- what a verdict means
 
 -- it was built, and the folder has the outcome's files
-pub verdict_built : (o : Outcome) (folder : FolderKnown) (verdict : Verdict) (held : Holding) → IsVerdictOf o folder verdict → folder.held ≡ Some held → verdict.status ≡ 0
+pub verdict_built : (o : Outcome) (folder : FolderKnown) (verdict : Verdict) (held : Holding) → IsVerdictOf o folder verdict → folder.held ≡ Some held
+    → verdict.status ≡ 0
     → outcome_with 0 verdict.text held.files ≡ o
 verdict_built o folder verdict held is told zero =
     let files : held.files ≡ o.files = ap (λ (h : Holding). h.files) (same_held held (only_files o.files) (sym told ∙ is.files zero)) in
@@ -42,7 +43,8 @@ verdict_built o folder verdict held is told zero =
     ∙ ap (λ (n : ℕ). outcome_with n o.text o.files) (sym zero ∙ is.status) ∙ outcome_again o
 
 -- it wasn't built, and the outcome has no files
-pub verdict_failed : (o : Outcome) (folder : FolderKnown) (verdict : Verdict) → IsVerdictOf o folder verdict → o.files ≡ [] → outcome_with verdict.status verdict.text [] ≡ o
+pub verdict_failed : (o : Outcome) (folder : FolderKnown) (verdict : Verdict) → IsVerdictOf o folder verdict → o.files ≡ []
+    → outcome_with verdict.status verdict.text [] ≡ o
 verdict_failed o folder verdict is bare =
     ap (λ (n : ℕ). outcome_with n verdict.text []) is.status ∙ ap (λ (t : List ℕ). outcome_with o.status t []) is.text
     ∙ ap (λ (fs : List File). outcome_with o.status o.text fs) (sym bare) ∙ outcome_again o
@@ -53,12 +55,14 @@ outcome_built verdict files zero = ap (λ (n : ℕ). outcome_with n verdict.text
 pub outcome_failed : (verdict : Verdict) (files : List File) → verdict.status ≢ 0 → outcome_by verdict files ≡ outcome_with verdict.status verdict.text []
 outcome_failed verdict files other = at (verdict.status == 0) refl
   where
-    at : (zero : Bool) → (verdict.status == 0) ≡ zero → outcome_with verdict.status verdict.text (cond zero files []) ≡ outcome_with verdict.status verdict.text []
+    at : (zero : Bool) → (verdict.status == 0) ≡ zero → outcome_with verdict.status verdict.text
+        (cond zero files []) ≡ outcome_with verdict.status verdict.text []
     at true e = absurd (other (eqb-true verdict.status 0 e))
     at false e = refl
 
 -- the outcome that a verdict and the files beside it make is the one that was meant
-pub verdict_outcome : (o : Outcome) (folder : FolderKnown) (verdict : Verdict) (held : Holding) → (o.status ≢ 0 → o.files ≡ []) → IsVerdictOf o folder verdict → folder.held ≡ Some held
+pub verdict_outcome : (o : Outcome) (folder : FolderKnown) (verdict : Verdict) (held : Holding) → (o.status ≢ 0 → o.files ≡ []) → IsVerdictOf o folder verdict
+    → folder.held ≡ Some held
     → outcome_by verdict held.files ≡ o
 verdict_outcome o folder verdict held bare is told = at (verdict.status == 0) refl
   where
@@ -86,8 +90,10 @@ meant_of compile given a b c verdict outcome bare first ran means is =
     if_told a.held (λ held told.
     let empty : b.held ≡ Some nothing = emptied_holds a b first held told in
     let now : c.held ≡ Some (after_all ran.more nothing) = ran.held ∙ ap (option_map (after_all ran.more)) empty in
-    let says : IsVerdictOf (outcome_of compile given) c verdict = told_has (λ _. IsVerdictOf (outcome_of compile given) c verdict) b.held nothing empty means in
-    let own : outcome ≡ outcome_by verdict (after_all ran.more nothing).files = told_has (λ h. outcome ≡ outcome_by verdict h.files) c.held (after_all ran.more nothing) now is in
+    let says : IsVerdictOf (outcome_of compile given) c verdict = told_has
+    (λ _. IsVerdictOf (outcome_of compile given) c verdict) b.held nothing empty means in
+    let own : outcome ≡ outcome_by verdict (after_all ran.more nothing).files = told_has (λ h. outcome ≡ outcome_by verdict h.files) c.held
+    (after_all ran.more nothing) now is in
     own ∙ verdict_outcome (outcome_of compile given) c verdict (after_all ran.more nothing) (bare (content given)) says now)
 
 -- ---- what the folder then holds
@@ -95,9 +101,11 @@ meant_of compile given a b c verdict outcome bare first ran means is =
 -- the mark was written beside what stood there
 marked_holds : (bytes : List ℕ) (files : List File) (a b : FolderKnown) → Wrote (whole (Mark bytes) ∷ []) a b → IfSome a.held (λ held. held.files ≡ files)
     → IfSome b.held (λ held. held ≡ marked bytes (only_files files))
-marked_holds bytes files a b wrote same = subst (λ (o : Option Holding). IfSome o (λ held. held ≡ marked bytes (only_files files))) (sym wrote.held) (at a.held same)
+marked_holds bytes files a b wrote same = subst (λ (o : Option Holding). IfSome o (λ held. held ≡ marked bytes (only_files files))) (sym wrote.held)
+    (at a.held same)
   where
-    at : (told : Option Holding) → IfSome told (λ held. held.files ≡ files) → IfSome (option_map (after_all (whole (Mark bytes) ∷ [])) told) (λ held. held ≡ marked bytes (only_files files))
+    at : (told : Option Holding) → IfSome told (λ held. held.files ≡ files)
+        → IfSome (option_map (after_all (whole (Mark bytes) ∷ [])) told) (λ held. held ≡ marked bytes (only_files files))
     at None is = tt
     at (Some held) is = ap (λ (fs : List File). record { files = fs; mark = Some bytes }) is
 
@@ -111,12 +119,15 @@ cleared_holds a b bare wrote = subst (λ (o : Option Holding). IfSome o (λ held
 
 -- ---- a built outcome
 
-pub twin_told : (told : Option Holding) (text : List ℕ) (outcome event : Outcome) → event ≡ outcome → IfSome told (λ held. outcome ≡ outcome_with 0 text held.files)
+pub twin_told : (told : Option Holding) (text : List ℕ) (outcome event : Outcome) → event ≡ outcome
+    → IfSome told (λ held. outcome ≡ outcome_with 0 text held.files)
     → IfSome told (λ held. event ≡ outcome_with 0 text held.files)
 twin_told told text outcome event same is = if_told told (λ held here. same ∙ told_has (λ h. outcome ≡ outcome_with 0 text h.files) told held here is)
 
-pub compiled_marked : (given : Given) (text : List ℕ) (outcome : Outcome) (twin : Twin) (bytes : List ℕ) (a m b : FolderKnown) → Looks a m false → outcome.status ≡ 0
-    → IfSome a.held (λ held. outcome ≡ outcome_with 0 text held.files) → Spells bytes (mark_of given.job given.needs outcome) → twin.event ≡ outcome → twin.fate ≡ outcome
+pub compiled_marked : (given : Given) (text : List ℕ) (outcome : Outcome) (twin : Twin) (bytes : List ℕ) (a m b : FolderKnown) → Looks a m false
+    → outcome.status ≡ 0
+    → IfSome a.held (λ held. outcome ≡ outcome_with 0 text held.files) → Spells bytes (mark_of given.job given.needs outcome) → twin.event ≡ outcome
+    → twin.fate ≡ outcome
     → b ≡ written (Mark bytes) Whole b.faults m → IsCompiled given twin a b
 compiled_marked given text outcome twin bytes a m b looks status own spells event fate is =
     let wrote : Wrote (whole (Mark bytes) ∷ []) a b = wrote_one (Mark bytes) a b (is ∙ ap (written (Mark bytes) Whole b.faults) (looks_still a m looks)) in
@@ -124,15 +135,18 @@ compiled_marked given text outcome twin bytes a m b looks status own spells even
     if_told a.held (λ held here. ap (λ (o : Outcome). o.files) (sym (event ∙ told_has (λ h. outcome ≡ outcome_with 0 text h.files) a.held held here own))) in
     record {
       last = Mark bytes;
-      settles = built bytes (ap (λ (o : Outcome). o.status) event ∙ status) (subst (λ (o : Outcome). Spells bytes (mark_of given.job given.needs o)) (sym event) spells)
+      settles = built bytes (ap (λ (o : Outcome). o.status) event ∙ status)
+          (subst (λ (o : Outcome). Spells bytes (mark_of given.job given.needs o)) (sym event) spells)
           (marked_holds bytes twin.event.files a b wrote files);
       wrote = wrote;
       copies = fate ∙ sym event;
     }
 
-pub stops_finish : {X : Type 0} (compile : Content → Outcome) (given : Given) (known : List Given) (text : List ℕ) (outcome : Outcome) (bytes : List ℕ) (a m b : FolderKnown)
+pub stops_finish : {X : Type 0} (compile : Content → Outcome) (given : Given) (known : List Given) (text : List ℕ) (outcome : Outcome) (bytes : List ℕ)
+    (a m b : FolderKnown)
     (result : Result X StoreFault) → IsUnmarked a → Looks a m false → outcome.status ≡ 0 → IfSome a.held (λ held. outcome ≡ outcome_with 0 text held.files)
-    → Spells bytes (mark_of given.job given.needs outcome) → Writes (Mark bytes) m b result → IfSome a.held (λ held. outcome_with 0 text held.files ≡ outcome_of compile given)
+    → Spells bytes (mark_of given.job given.needs outcome) → Writes (Mark bytes) m b result
+    → IfSome a.held (λ held. outcome_with 0 text held.files ≡ outcome_of compile given)
     → StopsIn (IsHonest compile (given ∷ known)) a b
 stops_finish compile given known text outcome bytes a m b result bare looks status own spells writes meant =
     stops_marking compile given known outcome bytes a b result bare spells status
@@ -144,32 +158,38 @@ stops_finish compile given known text outcome bytes a m b result bare looks stat
 -- ---- by the status of the verdict
 
 pub outcome_then : (verdict : Verdict) (told : Option Holding) (result : Result Twin StoreFault) → verdict.status ≡ 0
-    → IfOk result (λ twin. IfSome told (λ held. twin.event ≡ outcome_with 0 verdict.text held.files)) → IfOk result (λ twin. IfSome told (λ held. twin.event ≡ outcome_by verdict held.files))
+    → IfOk result (λ twin. IfSome told (λ held. twin.event ≡ outcome_with 0 verdict.text held.files))
+    → IfOk result (λ twin. IfSome told (λ held. twin.event ≡ outcome_by verdict held.files))
 outcome_then verdict told (Err e) zero is = tt
 outcome_then verdict None (Ok twin) zero is = tt
 outcome_then verdict (Some held) (Ok twin) zero is = is ∙ sym (outcome_built verdict held.files zero)
 
 pub outcome_else : (verdict : Verdict) (told : Option Holding) (result : Result Twin StoreFault) → verdict.status ≢ 0
-    → IfOk result (IsTwinOf (outcome_with verdict.status verdict.text [])) → IfOk result (λ twin. IfSome told (λ held. twin.event ≡ outcome_by verdict held.files))
+    → IfOk result (IsTwinOf (outcome_with verdict.status verdict.text []))
+    → IfOk result (λ twin. IfSome told (λ held. twin.event ≡ outcome_by verdict held.files))
 outcome_else verdict told (Err e) other is = tt
 outcome_else verdict None (Ok twin) other is = tt
 outcome_else verdict (Some held) (Ok twin) other is = is.event ∙ sym (outcome_failed verdict held.files other)
 
 pub compiled_else : (given : Given) (verdict : Verdict) (a b : FolderKnown) (result : Result Twin StoreFault) → IsUnmarked a → verdict.status ≢ 0
-    → IfOk result (IsTwinOf (outcome_with verdict.status verdict.text [])) → OnOk result (Wrote (whole Clear ∷ []) a b) → IfOk result (λ twin. IsCompiled given twin a b)
+    → IfOk result (IsTwinOf (outcome_with verdict.status verdict.text [])) → OnOk result (Wrote (whole Clear ∷ []) a b)
+    → IfOk result (λ twin. IsCompiled given twin a b)
 compiled_else given verdict a b (Err e) bare other is wrote = tt
 compiled_else given verdict a b (Ok twin) bare other is wrote = record {
   last = Clear;
-  settles = failed (λ zero. other (ap (λ (o : Outcome). o.status) (sym is.event) ∙ zero)) (ap (λ (o : Outcome). o.files) is.event) (cleared_holds a b bare wrote);
+  settles = failed (λ zero. other (ap (λ (o : Outcome). o.status) (sym is.event) ∙ zero)) (ap (λ (o : Outcome). o.files) is.event)
+      (cleared_holds a b bare wrote);
   wrote = wrote;
   copies = is.fate ∙ sym is.event;
 }
 
 -- what a verdict means is what is made of it, where it was built
 pub meant_then : (compile : Content → Outcome) (given : Given) (verdict : Verdict) (folder : FolderKnown) → verdict.status ≡ 0
-    → IfSome folder.held (λ _. IsVerdictOf (outcome_of compile given) folder verdict) → IfSome folder.held (λ held. outcome_with 0 verdict.text held.files ≡ outcome_of compile given)
+    → IfSome folder.held (λ _. IsVerdictOf (outcome_of compile given) folder verdict)
+    → IfSome folder.held (λ held. outcome_with 0 verdict.text held.files ≡ outcome_of compile given)
 meant_then compile given verdict folder zero is =
-    if_told folder.held (λ held here. verdict_built (outcome_of compile given) folder verdict held (told_has (λ _. IsVerdictOf (outcome_of compile given) folder verdict) folder.held held here is) here zero)
+    if_told folder.held (λ held here. verdict_built (outcome_of compile given) folder verdict held
+    (told_has (λ _. IsVerdictOf (outcome_of compile given) folder verdict) folder.held held here is) here zero)
 
 -- ---- the whole
 
@@ -183,7 +203,8 @@ done_of given a b c d twin first ran compiled = record {
 
 -- ---- by the answer
 
-pub worked_done : (given : Given) (result : Result Twin RunFault) (a b : FolderKnown) → IfOk result (λ twin. IsDone given twin a b) → HasWorked given (worked_of result) a b
+pub worked_done : (given : Given) (result : Result Twin RunFault) (a b : FolderKnown) → IfOk result (λ twin. IsDone given twin a b)
+    → HasWorked given (worked_of result) a b
 worked_done given (Ok twin) a b done = at (twin.event.status == 0) refl
   where
     at : (zero : Bool) → (twin.event.status == 0) ≡ zero → HasWorked given (cond zero (Finished twin) (Failed twin)) a b

@@ -55,9 +55,11 @@ clear_keeps_mark (Begun count) held = refl
 clear_keeps_mark (Those stays) held = refl
 
 pub stops_unmark : {X : Type 0} (a b : FolderKnown) (result : Result X StoreFault) → Writes Unmark a b result → StopsIn (IsAsBefore a.held) a b
-stops_unmark a b result writes = stops_at_write (IsAsBefore a.held) Unmark a b result writes (if_told a.held (λ held is part. unmark_as_before a.held held is part))
+stops_unmark a b result writes = stops_at_write (IsAsBefore a.held) Unmark a b result writes
+    (if_told a.held (λ held is part. unmark_as_before a.held held is part))
 
-pub stops_clear : {X : Type 0} (told : Option Holding) (b c : FolderKnown) (result : Result X StoreFault) → IsUnmarked b → Writes Clear b c result → StopsIn (IsAsBefore told) b c
+pub stops_clear : {X : Type 0} (told : Option Holding) (b c : FolderKnown) (result : Result X StoreFault) → IsUnmarked b → Writes Clear b c result
+    → StopsIn (IsAsBefore told) b c
 stops_clear told b c result bare writes =
     stops_at_write (IsAsBefore told) Clear b c result writes
     (if_told b.held (λ held is part. inr (clear_keeps_mark part held ∙ told_has (λ h. h.mark ≡ None) b.held held is bare)))
@@ -82,26 +84,32 @@ stops_before compile given known a b honest stops = stops_wider (IsAsBefore a.he
 pub stops_never : (compile : Content → Outcome) (known : List Given) (a b : FolderKnown) → NeverMarks a b → StopsIn (IsHonest compile known) a b
 stops_never compile known a b never = stops_wider (λ h. h.mark ≡ None) (IsHonest compile known) a b (unmarked_honest compile known) never
 
-pub stops_look : (compile : Content → Outcome) (known : List Given) (a b : FolderKnown) → IsUnmarked a → b ≡ record a { faults = b.faults } → StopsIn (IsHonest compile known) a b
+pub stops_look : (compile : Content → Outcome) (known : List Given) (a b : FolderKnown) → IsUnmarked a → b ≡ record a { faults = b.faults }
+    → StopsIn (IsHonest compile known) a b
 stops_look compile known a b bare same =
-    stops_still (IsHonest compile known) a b same (if_told a.held (λ held is. unmarked_honest compile known held (told_has (λ h. h.mark ≡ None) a.held held is bare)))
+    stops_still (IsHonest compile known) a b same (if_told a.held (λ held is. unmarked_honest compile known held
+    (told_has (λ h. h.mark ≡ None) a.held held is bare)))
 
 -- while the mark of an input is written beside its outcome's files
-pub stops_marking : {X : Type 0} (compile : Content → Outcome) (given : Given) (known : List Given) (outcome : Outcome) (bytes : List ℕ) (a b : FolderKnown) (result : Result X StoreFault)
+pub stops_marking : {X : Type 0} (compile : Content → Outcome) (given : Given) (known : List Given) (outcome : Outcome) (bytes : List ℕ) (a b : FolderKnown)
+    (result : Result X StoreFault)
     → IsUnmarked a → Spells bytes (mark_of given.job given.needs outcome) → outcome.status ≡ 0
-    → IfSome a.held (λ held. (held.files ≡ outcome.files) × (outcome ≡ outcome_of compile given)) → Writes (Mark bytes) a b result → StopsIn (IsHonest compile (given ∷ known)) a b
+    → IfSome a.held (λ held. (held.files ≡ outcome.files) × (outcome ≡ outcome_of compile given)) → Writes (Mark bytes) a b result
+    → StopsIn (IsHonest compile (given ∷ known)) a b
 stops_marking compile given known outcome bytes a b result bare spells built meant writes =
     stops_at_write (IsHonest compile (given ∷ known)) (Mark bytes) a b result writes
     (if_told a.held (λ held is part. at held (told_has (λ h. h.mark ≡ None) a.held held is bare)
     (told_has (λ h. (h.files ≡ outcome.files) × (outcome ≡ outcome_of compile given)) a.held held is meant) part))
   where
-    at : (held : Holding) → held.mark ≡ None → (held.files ≡ outcome.files) × (outcome ≡ outcome_of compile given) → (part : Part) → IsHonest compile (given ∷ known) (leaves (Mark bytes) part held)
+    at : (held : Holding) → held.mark ≡ None → (held.files ≡ outcome.files) × (outcome ≡ outcome_of compile given) → (part : Part)
+        → IsHonest compile (given ∷ known) (leaves (Mark bytes) part held)
     at held none is part =
         let files : held.files ≡ (outcome_of compile given).files = is.0 ∙ ap (λ (o : Outcome). o.files) is.1 in
         let own : held ≡ only_files (outcome_of compile given).files =
         ap (λ (m : Option (List ℕ)). record { files = held.files; mark = m }) none ∙ ap only_files files in
         subst (λ (h : Holding). IsHonest compile (given ∷ known) (leaves (Mark bytes) part h)) (sym own)
-        (marking_honest compile (given ∷ known) given (first_among given known) (ap (λ (o : Outcome). o.status) (sym is.1) ∙ built) bytes (mark_of given.job given.needs outcome) spells
+        (marking_honest compile (given ∷ known) given (first_among given known) (ap (λ (o : Outcome). o.status) (sym is.1) ∙ built) bytes
+        (mark_of given.job given.needs outcome) spells
         (inr (ap (mark_of given.job given.needs) is.1)) part)
 
 -- what stays honest wherever a stop comes is honest in the end

@@ -1,1 +1,3 @@
+pub mod Build
+pub mod Station
 pub mod Work

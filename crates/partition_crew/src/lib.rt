@@ -4,9 +4,16 @@
 //! run left. So what a stop leaves is no mark, or one that tells what it was made from.
 #![tactic(auto)]
 
+mod advancing;
+mod building;
 mod compiling;
+mod meant;
+mod one;
 mod worked;
 mod working;
 
+pub use building::build_one;
+pub use meant::Meant;
+pub use one::{BuildFault, One};
 pub use worked::Worked;
 pub use working::work;

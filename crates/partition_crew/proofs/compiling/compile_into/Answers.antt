@@ -28,10 +28,12 @@ returns-in_err-verdict-clause-honest g c = λ honest.
     let given = given_by c.args.job.now c.args.needs.now in
     let b : FolderKnown = g.F.Folder.known c.empty.new.folder in
     let ran : FolderKnown = g.F.Folder.known c.run.new.folder in
-    stays_then compile given (g.F.Folder.known c.args.folder.now) b ran c.in_ok-empty.ensures.stops (λ known. stops_never compile (given ∷ known) b ran c.run.ensures.unmarked)
+    stays_then compile given (g.F.Folder.known c.args.folder.now) b ran c.in_ok-empty.ensures.stops
+    (λ known. stops_never compile (given ∷ known) b ran c.run.ensures.unmarked)
 
 pub settle-requires-clause-unmarked : goal.settle-requires-clause-unmarked
-settle-requires-clause-unmarked g c = stops_end (λ h. h.mark ≡ None) (g.F.Folder.known c.empty.new.folder) (g.F.Folder.known c.run.new.folder) c.run.ensures.unmarked
+settle-requires-clause-unmarked g c = stops_end (λ h. h.mark ≡ None) (g.F.Folder.known c.empty.new.folder)
+    (g.F.Folder.known c.run.new.folder) c.run.ensures.unmarked
 
 pub returns-in_err-settle-clause-honest : goal.returns-in_err-settle-clause-honest
 returns-in_err-settle-clause-honest g c = λ honest.
@@ -42,11 +44,13 @@ returns-in_err-settle-clause-honest g c = λ honest.
     let end : FolderKnown = g.F.Folder.known c.settle.new.folder in
     stays_then compile given (g.F.Folder.known c.args.folder.now) b end c.in_ok-empty.ensures.stops (λ known.
     stops_then (IsHonest compile (given ∷ known)) b ran end (stops_never compile (given ∷ known) b ran c.run.ensures.unmarked)
-    (c.settle.ensures.stops compile known (told_after (IsVerdictOf (outcome_of compile given) ran c.in_ok-verdict.verdict) b ran c.run.ensures.unmarked (c.in_ok-verdict.ensures.meaning honest))))
+    (c.settle.ensures.stops compile known (told_after (IsVerdictOf (outcome_of compile given) ran c.in_ok-verdict.verdict) b ran c.run.ensures.unmarked
+    (c.in_ok-verdict.ensures.meaning honest))))
 
 pub returns-clause-done : goal.returns-clause-done
 returns-clause-done g c =
-    done_of (given_by c.args.job.now c.args.needs.now) (g.F.Folder.known c.args.folder.now) (g.F.Folder.known c.empty.new.folder) (g.F.Folder.known c.run.new.folder)
+    done_of (given_by c.args.job.now c.args.needs.now) (g.F.Folder.known c.args.folder.now) (g.F.Folder.known c.empty.new.folder)
+    (g.F.Folder.known c.run.new.folder)
     (g.F.Folder.known c.settle.new.folder) c.in_ok-settle.field-0 c.in_ok-empty.ensures.emptied c.run.ensures.unmarked c.in_ok-settle.ensures.compiled
 
 pub returns-clause-meant : goal.returns-clause-meant
@@ -64,7 +68,8 @@ returns-clause-honest g c = λ honest.
     let end : FolderKnown = g.F.Folder.known c.settle.new.folder in
     stays_then compile given (g.F.Folder.known c.args.folder.now) b end c.in_ok-empty.ensures.stops (λ known.
     stops_then (IsHonest compile (given ∷ known)) b ran end (stops_never compile (given ∷ known) b ran c.run.ensures.unmarked)
-    (c.settle.ensures.stops compile known (told_after (IsVerdictOf (outcome_of compile given) ran c.in_ok-verdict.verdict) b ran c.run.ensures.unmarked (c.in_ok-verdict.ensures.meaning honest))))
+    (c.settle.ensures.stops compile known (told_after (IsVerdictOf (outcome_of compile given) ran c.in_ok-verdict.verdict) b ran c.run.ensures.unmarked
+    (c.in_ok-verdict.ensures.meaning honest))))
 
 pub returns-clause-counts : goal.returns-clause-counts
 returns-clause-counts g c =
@@ -78,4 +83,5 @@ returns-clause-folder g c =
     let ran : FolderKnown = g.F.Folder.known c.run.new.folder in
     let end : FolderKnown = g.F.Folder.known c.settle.new.folder in
     subst (λ (failed : Bool). Touches a end failed) (tree_with_twin c.in_ok-settle.field-0)
-    (touches_then a ran end false (touches_then a b ran false c.in_ok-empty.ensures.folder (record { key = c.run.ensures.unmarked.key; cause = c.in_ok-verdict.ensures.tree })) c.in_ok-settle.ensures.folder)
+    (touches_then a ran end false (touches_then a b ran false c.in_ok-empty.ensures.folder
+    (record { key = c.run.ensures.unmarked.key; cause = c.in_ok-verdict.ensures.tree })) c.in_ok-settle.ensures.folder)

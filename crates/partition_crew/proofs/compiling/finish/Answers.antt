@@ -10,17 +10,20 @@ use Rattle.partition_crew.proofs.compiling.finish.Goals as goal
 
 pub returns-in_err-outcome-clause-stops : goal.returns-in_err-outcome-clause-stops
 returns-in_err-outcome-clause-stops g c = λ compile known meant.
-    stops_look compile (given_by c.args.input.now.job.now c.args.input.now.needs.now ∷ known) (g.F.Folder.known c.args.folder.now) (g.F.Folder.known c.outcome_in.new.folder)
+    stops_look compile (given_by c.args.input.now.job.now c.args.input.now.needs.now ∷ known) (g.F.Folder.known c.args.folder.now)
+    (g.F.Folder.known c.outcome_in.new.folder)
     c.requires.unmarked c.in_err-outcome.ensures.looks.same
 
 pub returns-in_err-bytes-clause-stops : goal.returns-in_err-bytes-clause-stops
 returns-in_err-bytes-clause-stops g c = λ compile known meant.
-    stops_look compile (given_by c.args.input.now.job.now c.args.input.now.needs.now ∷ known) (g.F.Folder.known c.args.folder.now) (g.F.Folder.known c.outcome_in.new.folder)
+    stops_look compile (given_by c.args.input.now.job.now c.args.input.now.needs.now ∷ known) (g.F.Folder.known c.args.folder.now)
+    (g.F.Folder.known c.outcome_in.new.folder)
     c.requires.unmarked c.in_ok-outcome.ensures.looks.same
 
 pub returns-in_err-twin-clause-stops : goal.returns-in_err-twin-clause-stops
 returns-in_err-twin-clause-stops g c = λ compile known meant.
-    stops_look compile (given_by c.args.input.now.job.now c.args.input.now.needs.now ∷ known) (g.F.Folder.known c.args.folder.now) (g.F.Folder.known c.outcome_in.new.folder)
+    stops_look compile (given_by c.args.input.now.job.now c.args.input.now.needs.now ∷ known) (g.F.Folder.known c.args.folder.now)
+    (g.F.Folder.known c.outcome_in.new.folder)
     c.requires.unmarked c.in_ok-outcome.ensures.looks.same
 
 pub returns-in_err-mark-clause-stops : goal.returns-in_err-mark-clause-stops
@@ -29,7 +32,8 @@ returns-in_err-mark-clause-stops g c = λ compile known meant.
     stops_finish compile given known c.args.text c.in_ok-outcome.outcome c.as_slice.result.now
     (g.F.Folder.known c.args.folder.now) (g.F.Folder.known c.outcome_in.new.folder) (g.F.Folder.known c.mark.new.self) c.mark.result
     c.requires.unmarked c.in_ok-outcome.ensures.looks c.in_ok-outcome.ensures.status c.in_ok-outcome.ensures.outcome
-    (subst (λ (b : List ℕ). Spells b (mark_of given.job given.needs c.in_ok-outcome.outcome)) (sym c.as_slice.ensures) c.in_ok-bytes.ensures) c.mark.ensures meant
+    (subst (λ (b : List ℕ). Spells b (mark_of given.job given.needs c.in_ok-outcome.outcome))
+    (sym c.as_slice.ensures) c.in_ok-bytes.ensures) c.mark.ensures meant
 
 pub returns-clause-compiled : goal.returns-clause-compiled
 returns-clause-compiled g c =
@@ -42,7 +46,8 @@ returns-clause-compiled g c =
 
 pub returns-clause-outcome : goal.returns-clause-outcome
 returns-clause-outcome g c =
-    twin_told (g.F.Folder.known c.args.folder.now).held c.args.text c.in_ok-outcome.outcome c.in_ok-twin.twin.event c.in_ok-twin.ensures.0 c.in_ok-outcome.ensures.outcome
+    twin_told
+    (g.F.Folder.known c.args.folder.now).held c.args.text c.in_ok-outcome.outcome c.in_ok-twin.twin.event c.in_ok-twin.ensures.0 c.in_ok-outcome.ensures.outcome
 
 pub returns-clause-stops : goal.returns-clause-stops
 returns-clause-stops g c = λ compile known meant.
@@ -50,7 +55,8 @@ returns-clause-stops g c = λ compile known meant.
     stops_finish compile given known c.args.text c.in_ok-outcome.outcome c.as_slice.result.now
     (g.F.Folder.known c.args.folder.now) (g.F.Folder.known c.outcome_in.new.folder) (g.F.Folder.known c.mark.new.self) c.mark.result
     c.requires.unmarked c.in_ok-outcome.ensures.looks c.in_ok-outcome.ensures.status c.in_ok-outcome.ensures.outcome
-    (subst (λ (b : List ℕ). Spells b (mark_of given.job given.needs c.in_ok-outcome.outcome)) (sym c.as_slice.ensures) c.in_ok-bytes.ensures) c.mark.ensures meant
+    (subst (λ (b : List ℕ). Spells b (mark_of given.job given.needs c.in_ok-outcome.outcome))
+    (sym c.as_slice.ensures) c.in_ok-bytes.ensures) c.mark.ensures meant
 
 pub returns-clause-folder : goal.returns-clause-folder
 returns-clause-folder g c =

@@ -11,11 +11,13 @@ returns-then-status-eq0-clause-outcome g c =
 pub returns-then-status-eq0-clause-stops : goal.returns-then-status-eq0-clause-stops
 returns-then-status-eq0-clause-stops g c = λ compile known means.
     c.finish.ensures.stops compile known
-    (meant_then compile (given_by c.args.input.now.job.now c.args.input.now.needs.now) c.args.verdict (g.F.Folder.known c.args.folder.now) c.if-status-eq0.true means)
+    (meant_then compile (given_by c.args.input.now.job.now c.args.input.now.needs.now) c.args.verdict
+    (g.F.Folder.known c.args.folder.now) c.if-status-eq0.true means)
 
 pub returns-else-status-eq0-clause-compiled : goal.returns-else-status-eq0-clause-compiled
 returns-else-status-eq0-clause-compiled g c =
-    compiled_else (given_by c.args.input.now.job.now c.args.input.now.needs.now) c.args.verdict (g.F.Folder.known c.args.folder.now) (g.F.Folder.known c.fail.new.folder) c.fail.result
+    compiled_else (given_by c.args.input.now.job.now c.args.input.now.needs.now) c.args.verdict (g.F.Folder.known c.args.folder.now)
+    (g.F.Folder.known c.fail.new.folder) c.fail.result
     c.requires.unmarked c.if-status-eq0.false c.fail.ensures.outcome c.fail.ensures.cleared
 
 pub returns-else-status-eq0-clause-outcome : goal.returns-else-status-eq0-clause-outcome
@@ -24,4 +26,5 @@ returns-else-status-eq0-clause-outcome g c =
 
 pub returns-else-status-eq0-clause-stops : goal.returns-else-status-eq0-clause-stops
 returns-else-status-eq0-clause-stops g c = λ compile known means.
-    stops_never compile (given_by c.args.input.now.job.now c.args.input.now.needs.now ∷ known) (g.F.Folder.known c.args.folder.now) (g.F.Folder.known c.fail.new.folder) c.fail.ensures.unmarked
+    stops_never compile (given_by c.args.input.now.job.now c.args.input.now.needs.now ∷ known) (g.F.Folder.known c.args.folder.now)
+    (g.F.Folder.known c.fail.new.folder) c.fail.ensures.unmarked
