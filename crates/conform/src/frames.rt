@@ -1,4 +1,5 @@
 // Cases of frames.
+ghost use Rattle.partition_frames.specs.Frame.{IsFrame};
 
 use crate::fields::{Fault, number_of, word};
 use crate::shown::{push_after, refused, say};
@@ -67,7 +68,10 @@ fn push_given(
     Ok(true)
 }
 
-fn push_frame(alloc: Global, out: &mut String, frame: &Frame) -> Result<(), Fault> {
+#[tactic(auto, using(crate::proofs::ReadFrames::frames_have_folders))]
+fn push_frame(alloc: Global, out: &mut String, frame: &Frame) -> Result<(), Fault>
+    requires { IsFrame frame.now }
+{
     let bytes = write_frame(alloc, frame)?;
     push_after(alloc, out, " ", bytes.as_slice())
 }
