@@ -2,15 +2,11 @@
 ghost use Rattle.std.specs.Prelude.{◌≡◌};
 ghost use Rattle.tree_store.specs.Slot.Slot.{Out};
 
-use mx_base::{AppName, Bytes, FaultPlan, NoFaults, RelPath};
-use std::alloc::{AllocError, Global};
+use crate::given::{failing_at, path};
+use mx_base::{AppName, Bytes, NoFaults, RelPath};
+use std::alloc::Global;
 use std::test::Fail;
 use tree_store::{ConstStore, Contents, Folder, MemStore, Store, StoreFault};
-
-// Only this call fails, and none at 0.
-fn failing_at(alloc: Global, call: u64) -> Result<FaultPlan, AllocError> {
-    Ok(FaultPlan::new([call].to_vec(alloc)?))
-}
 
 fn length_of(bytes: Option<Bytes>) -> usize {
     match bytes {
@@ -62,10 +58,25 @@ fn changed<S: Store>(
     Ok((length_of(there), length_of(left)))
 }
 
+// What is answered where these calls of the store and of its folder fail.
+fn marked_at(
+    alloc: Global,
+    store_fails: u64,
+    folder_fails: u64,
+) -> Result<Result<(usize, usize, usize), StoreFault>, Fail> {
+    let name = AppName::of(alloc, b"dev")?;
+    let mut store = MemStore::new(
+        alloc,
+        Contents::new(alloc),
+        failing_at(alloc, store_fails)?,
+        failing_at(alloc, 0)?,
+        failing_at(alloc, folder_fails)?,
+    );
+    Ok(marked(alloc, &mut store, &name))
+}
+
 #[test]
 fn an_older_mark_stands_where_the_next_fails(rt: HostRuntime) -> Result<(), Fail> {
-    let alloc = rt.alloc();
-    let name = AppName::of(alloc, b"dev")?;
     let failed = Err(StoreFault::Failed);
     let cases = [
         (0, 0, Ok((6, 1, 1))),
@@ -79,19 +90,19 @@ fn an_older_mark_stands_where_the_next_fails(rt: HostRuntime) -> Result<(), Fail
         (0, 4, Ok((6, 1, 1))),
     ];
     for (store_fails, folder_fails, wanted) in cases {
-        let mut store = MemStore::new(
-            alloc,
-            Contents::new(alloc),
-            failing_at(alloc, store_fails)?,
-            failing_at(alloc, 0)?,
-            failing_at(alloc, folder_fails)?,
-        );
-        let seen = marked(alloc, &mut store, &name);
+        let seen = marked_at(rt.alloc(), store_fails, folder_fails)?;
         assert!(rt;
             seen == wanted,
             "store's call {store_fails}, folder's call {folder_fails}"
         );
     }
+    Ok(())
+}
+
+#[test]
+fn a_build_is_marked_where_nothing_fails(rt: HostRuntime) -> Result<(), Fail> {
+    let alloc = rt.alloc();
+    let name = AppName::of(alloc, b"dev")?;
     let mut store: ConstStore = MemStore::new(
         alloc,
         Contents::new(alloc),
@@ -103,10 +114,21 @@ fn an_older_mark_stands_where_the_next_fails(rt: HostRuntime) -> Result<(), Fail
     Ok(())
 }
 
+// What is answered where this call of the store fails.
+fn changed_at(alloc: Global, fails: u64) -> Result<Result<(usize, usize), StoreFault>, Fail> {
+    let path = path(alloc, "a/x")?;
+    let mut store = MemStore::new(
+        alloc,
+        Contents::new(alloc),
+        failing_at(alloc, fails)?,
+        failing_at(alloc, 0)?,
+        failing_at(alloc, 0)?,
+    );
+    Ok(changed(alloc, &mut store, &path))
+}
+
 #[test]
 fn each_failing_change_is_answered(rt: HostRuntime) -> Result<(), Fail> {
-    let alloc = rt.alloc();
-    let path = RelPath::join(alloc, &RelPath::root(alloc), b"a/x")?;
     let failed = Err(StoreFault::Failed);
     let cases = [
         (0, Ok((3, 0))),
@@ -117,14 +139,7 @@ fn each_failing_change_is_answered(rt: HostRuntime) -> Result<(), Fail> {
         (5, Ok((3, 0))),
     ];
     for (fails, wanted) in cases {
-        let mut store = MemStore::new(
-            alloc,
-            Contents::new(alloc),
-            failing_at(alloc, fails)?,
-            failing_at(alloc, 0)?,
-            failing_at(alloc, 0)?,
-        );
-        let seen = changed(alloc, &mut store, &path);
+        let seen = changed_at(rt.alloc(), fails)?;
         assert!(rt; seen == wanted, "store's call {fails}");
     }
     Ok(())

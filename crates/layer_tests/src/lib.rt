@@ -4,6 +4,8 @@
 #[cfg(test)]
 mod build_tests;
 #[cfg(test)]
+mod given;
+#[cfg(test)]
 mod partition_tests;
 #[cfg(test)]
 mod row_tests;

@@ -4,13 +4,14 @@ ghost use Rattle.compile_model.specs.Planned.{IsNamed};
 ghost use Rattle.tree_store.specs.FolderKnown.{IsBare};
 ghost use Rattle.partition_face.specs.Counts.{CanRun};
 
+use crate::given::{failing_at, only};
 use compile_model::{How, Input, Job, Origin, Verdict};
-use mx_base::{AppName, Bytes, FaultPlan, Files, ListOf, Listing, RelPath, Text};
+use mx_base::{AppName, Bytes, Files, ListOf, Listing, RelPath, Text};
 use partition_face::{
     Counts, EchoMaker, EchoPartition, FakePartition, ListMaker, Maker, MakerFault, Partition,
     RunFault,
 };
-use std::alloc::{AllocError, Global};
+use std::alloc::Global;
 use std::test::Fail;
 use tree_store::{Contents, Folder, MemFolder, MemStore, Store};
 
@@ -34,11 +35,6 @@ fn job_of(alloc: Global, app: AppName, dir: RelPath) -> Job
     }
 }
 
-// The only call of it that fails, and none at 0.
-fn failing_at(alloc: Global, call: u64) -> Result<Vec<u64>, AllocError> {
-    [call].to_vec(alloc)
-}
-
 // What a partition answers of it, and how many files its folder then has.
 fn ran<P: Partition>(
     alloc: Global,
@@ -52,9 +48,9 @@ fn ran<P: Partition>(
     let mut store = MemStore::new(
         alloc,
         Contents::new(alloc),
-        FaultPlan::new(failing_at(alloc, 0)?),
-        FaultPlan::new(failing_at(alloc, 0)?),
-        FaultPlan::new(failing_at(alloc, fails)?),
+        failing_at(alloc, 0)?,
+        failing_at(alloc, 0)?,
+        failing_at(alloc, fails)?,
     );
     let Ok(mut folder) = store.folder(alloc, &app, &app) else {
         return Err(Fail::new("no folder"));
@@ -75,7 +71,7 @@ fn ran<P: Partition>(
 fn a_partition_dies_at_the_runs_of_its_list(rt: HostRuntime) -> Result<(), Fail> {
     let alloc = rt.alloc();
     for (dies, fails, files, deaths) in [(1, 0, 1, 1), (2, 0, 1, 0), (1, 1, 0, 0), (2, 1, 0, 0)] {
-        let mut partition = FakePartition::new(failing_at(alloc, dies)?);
+        let mut partition = FakePartition::new(only(alloc, dies)?);
         let (answer, found) = ran(alloc, &mut partition, fails)?;
         assert!(rt; found == files, "dies {dies}, fails {fails}");
         assert!(rt; partition.counts() == Counts { runs: 1, deaths });
@@ -114,13 +110,18 @@ fn started<M: Maker>(alloc: Global, maker: &mut M, n: u32) -> Result<usize, Make
 fn a_maker_starts_as_many_as_it_has(rt: HostRuntime) -> Result<(), Fail> {
     let alloc = rt.alloc();
     let partitions = vec![in alloc; EchoPartition::new(), EchoPartition::new()]?;
-    let mut maker = ListMaker::new(partitions, failing_at(alloc, 2)?);
+    let mut maker = ListMaker::new(partitions, only(alloc, 2)?);
     let failed = Err(MakerFault::Failed);
     for wanted in [Ok(1), failed, Ok(1), failed] {
         assert!(rt; started(alloc, &mut maker, 1) == wanted);
     }
     assert!(rt; started(alloc, &mut maker, 0) == Ok(0));
-    assert!(rt; started(alloc, &mut EchoMaker::new(), 64) == Ok(64));
+    Ok(())
+}
+
+#[test]
+fn a_maker_of_echoes_starts_all(rt: HostRuntime) -> Result<(), Fail> {
+    assert!(rt; started(rt.alloc(), &mut EchoMaker::new(), 64) == Ok(64));
     Ok(())
 }
 

@@ -2,8 +2,9 @@
 ghost use Rattle.std.specs.Prelude.{◌≡◌};
 ghost use Rattle.tree_store.specs.Slot.Slot.{Out};
 
+use crate::given::{failing_at, path};
 use mx_base::{AppName, Bytes, FaultPlan, NoFaults, RelPath};
-use std::alloc::{AllocError, Global};
+use std::alloc::Global;
 use std::test::Fail;
 use tree_store::{ConstStore, Contents, Folder, MemFolder, MemStore, Store, StoreFault};
 
@@ -15,10 +16,6 @@ const FILES: [(&str, &str); 4] = [
     ("a-b", "three"),
 ];
 
-fn path(alloc: Global, text: &str) -> Result<RelPath, Fail> {
-    Ok(RelPath::join(alloc, &RelPath::root(alloc), text.as_bytes())?)
-}
-
 fn project(alloc: Global) -> Result<Contents, Fail> {
     let mut files = Contents::new(alloc);
     for (text, bytes) in FILES {
@@ -28,11 +25,6 @@ fn project(alloc: Global) -> Result<Contents, Fail> {
         )?;
     }
     Ok(files)
-}
-
-// Only this call fails, and none at 0.
-fn failing_at(alloc: Global, call: u64) -> Result<FaultPlan, AllocError> {
-    Ok(FaultPlan::new([call].to_vec(alloc)?))
 }
 
 // Writes the file anew, and answers how many there are.
@@ -84,11 +76,26 @@ fn stores_and_folders_may_cross_threads() {
     may_cross_threads::<MemFolder<FaultPlan>>();
 }
 
-#[test]
-fn each_failing_call_is_answered(rt: HostRuntime) -> Result<(), Fail> {
-    let alloc = rt.alloc();
+// What is answered where these calls of the store and of its folder fail.
+fn rebuilt_at(
+    alloc: Global,
+    store_fails: u64,
+    folder_fails: u64,
+) -> Result<Result<(usize, usize, usize), StoreFault>, Fail> {
     let name = AppName::of(alloc, b"dev")?;
     let path = path(alloc, "a/x")?;
+    let mut store = MemStore::new(
+        alloc,
+        project(alloc)?,
+        failing_at(alloc, store_fails)?,
+        failing_at(alloc, 0)?,
+        failing_at(alloc, folder_fails)?,
+    );
+    Ok(rebuilt(alloc, &mut store, &name, &path))
+}
+
+#[test]
+fn each_failing_call_is_answered(rt: HostRuntime) -> Result<(), Fail> {
     let whole = Ok((3, 1, 1));
     let failed = Err(StoreFault::Failed);
     let cases = [
@@ -105,20 +112,21 @@ fn each_failing_call_is_answered(rt: HostRuntime) -> Result<(), Fail> {
         (0, 5, whole),
     ];
     for (store_fails, folder_fails, wanted) in cases {
-        let mut store = MemStore::new(
-            alloc,
-            project(alloc)?,
-            failing_at(alloc, store_fails)?,
-            failing_at(alloc, 0)?,
-            failing_at(alloc, folder_fails)?,
-        );
-        let seen = rebuilt(alloc, &mut store, &name, &path);
+        let seen = rebuilt_at(rt.alloc(), store_fails, folder_fails)?;
         assert!(rt;
             seen == wanted,
             "store's call {store_fails}, folder's call {folder_fails}"
         );
     }
+    Ok(())
+}
+
+#[test]
+fn a_project_is_rebuilt_where_nothing_fails(rt: HostRuntime) -> Result<(), Fail> {
+    let alloc = rt.alloc();
+    let name = AppName::of(alloc, b"dev")?;
+    let path = path(alloc, "a/x")?;
     let mut store: ConstStore = MemStore::new(alloc, project(alloc)?, NoFaults, NoFaults, NoFaults);
-    assert!(rt; rebuilt(alloc, &mut store, &name, &path) == whole);
+    assert!(rt; rebuilt(alloc, &mut store, &name, &path) == Ok((3, 1, 1)));
     Ok(())
 }
