@@ -1,6 +1,8 @@
 pub mod Beginning
 pub mod Counting
 pub mod Courses
+pub mod Covering
+pub mod Cutting
 pub mod Ending
 pub mod Growing
 pub mod Homes
@@ -8,6 +10,8 @@ pub mod Inputs
 pub mod Moving
 pub mod Planning
 pub mod Settling
+pub mod Standing
 pub mod Starting
 pub mod Stopping
+pub mod Telling
 pub mod Unbegun

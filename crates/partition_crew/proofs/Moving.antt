@@ -1,26 +1,21 @@
 -- What one step does to a build on its way.
-use Rattle.std.proofs.Common.{◌≡◌, ℕ, ◌+◌, ◌≤◌, inl, inr, Bool, true, false, not, ◌&&◌, cond, List, [], ◌∷◌, ◌++◌, length, count_by, Option, Some, None, is_some, is_none, option_map, slice_get, slice_set, Ok, refl, sym, ◌∙◌, ap, subst, arith}
-use Rattle.std.proofs.lemmas.Bool.{and_parts, cases_eq}
+use Rattle.std.proofs.Common.{◌≡◌, ℕ, ◌+◌, Bool, true, false, cond, List, [], ◌∷◌, ◌++◌, length, count_by, Option, Some, None, option_map, slice_get, slice_set, Ok, refl, sym, ◌∙◌, ap, subst, arith}
 use Rattle.std.proofs.lemmas.List.{length-set}
-use Rattle.compile_model.specs.declared.outcome.Outcome.{Outcome}
 use Rattle.compile_model.specs.declared.outcome.Fate.{Fate}
 use Rattle.compile_model.specs.declared.outcome.Fate.TheVariants.{Built, Failed as NotBuilt, Skipped}
 use Rattle.compile_model.specs.declared.outcome.Twin.{Twin}
-use Rattle.compile_model.specs.Content.{Content}
 use Rattle.compile_model.specs.Planned.{ArePlanned}
-use Rattle.compile_model.specs.Seq.{seq, first_unbuilt, outcomes_of}
+use Rattle.compile_model.specs.Seq.{seq}
 use Rattle.staleness.specs.declared.kept.Kept.{Kept}
 use Rattle.tree_store.specs.FolderKnown.{FolderKnown}
 use Rattle.partition_core.specs.declared.event.Event.{Event}
-use Rattle.partition_core.specs.declared.event.Event.TheVariants.{Keep, Start, Skip}
+use Rattle.partition_core.specs.declared.event.Event.TheVariants.{Keep, Skip}
 use Rattle.partition_core.specs.declared.event.Standing.TheVariants.{Idle, Runs}
-use Rattle.partition_core.specs.State.{Opening, State, at, first_open, kept_matches, missing, needs_at, outcomes_now, stands, standing, start_of}
-use Rattle.partition_core.specs.Steps.{Holds, IsLegal, after}
-use Rattle.partition_core.specs.Histories.{Agrees, AreFaithful, Faithful, IsFaithful, Legal, Sound, after_all, replay}
+use Rattle.partition_core.specs.State.{Opening, State, at, needs_at, outcomes_now, standing}
+use Rattle.partition_core.specs.Steps.{IsLegal, after}
+use Rattle.partition_core.specs.Histories.{Agrees, IsFaithful, Sound, replay}
 use Rattle.partition_core.specs.Counts.{count_below, is_back, is_compiled, is_start}
 use Rattle.partition_core.proofs.Confluent.{confluent}
-use Rattle.partition_core.proofs.CountsBelow.{count_le, count_less}
-use Rattle.partition_core.proofs.Needs.{all_outcomes, first_since}
 use Rattle.partition_core.proofs.Places.{kept_parts, set_other, set_same}
 use Rattle.partition_core.proofs.Tidy.{legal_more, replay_more}
 use Rattle.partition_crew.specs.declared.worked.Worked.{Worked}
@@ -28,139 +23,12 @@ use Rattle.partition_crew.specs.declared.worked.Worked.TheVariants.{Finished, Fa
 use Rattle.partition_crew.specs.Build.{AreReady}
 use Rattle.partition_crew.specs.Station.{AreHome, IsHome, IsStation, Moves, Nature, Station, WorksOn, event_by, given_now, is_covered, told_by}
 use Rattle.partition_crew.specs.Station.Moves.{keeps, skips, works}
-use Rattle.partition_crew.specs.Work.{HasWorked, has_died}
-use Rattle.partition_crew.proofs.Growing.{at_other, count_end}
+use Rattle.partition_crew.specs.Work.{has_died}
+use Rattle.partition_crew.proofs.Growing.{count_end}
 use Rattle.partition_crew.proofs.Homes.{built_home, failed_home, homes_settled, kept_home, skipped_home}
 use Rattle.partition_crew.proofs.Inputs.{stay_worked}
-use Rattle.partition_crew.proofs.Starting.{meant_event, start_ready}
-
--- ---- one event more
-
-are_faithful_more : (compile : Content → Outcome) (o : Opening) (s : State) (events : List Event) (event : Event) → AreFaithful compile o s events
-    → IsFaithful compile o (after_all o s events) event
-    → AreFaithful compile o s (events ++ event ∷ [])
-are_faithful_more compile o s [] event faithful now = (now, tt)
-are_faithful_more compile o s (first ∷ events) event faithful now = (faithful.0, are_faithful_more compile o (after o s first) events event faithful.1 now)
-
-faithful_more : (compile : Content → Outcome) (o : Opening) (events : List Event) (event : Event) → Faithful compile o events
-    → IsFaithful compile o (replay o events) event
-    → Faithful compile o (events ++ event ∷ [])
-faithful_more compile o events event faithful now = are_faithful_more compile o (start_of o) events event faithful now
-
--- ---- a start, and what is told of it
-
-module _ (nature : Nature) (o : Opening) (worked : Worked) (old new : Station) (w : WorksOn nature o worked old new) where
-  abbrev s : State
-  s = replay o old.events
-
-  abbrev started : State
-  started = after o s (Start w.place 1)
-
-  abbrev with_start : List Event
-  with_start = old.events ++ Start w.place 1 ∷ []
-
-  pub started_is : replay o with_start ≡ started
-  started_is = replay_more o old.events (Start w.place 1)
-
-  pub replayed : replay o new.events ≡ after o started (event_by w.place worked)
-  replayed = ap (replay o) w.events ∙ replay_more o with_start (event_by w.place worked) ∙ ap (λ (t : State). after o t (event_by w.place worked)) started_is
-
-  pub runs_it : Holds started w.place 1
-  runs_it = set_same s.standings 0 (Runs w.place) Idle w.legal.0.idle
-
-  legal_event : (came : Worked) → HasWorked (given_now o old.events w.job) came w.works.before w.works.after → IsLegal o started (event_by w.place came)
-  legal_event (Finished twin) done = (runs_it, done.0)
-  legal_event (Failed twin) done = (runs_it, done.0)
-  legal_event Died done = runs_it
-  legal_event TreeFailed done = runs_it
-  legal_event NoMemory done = runs_it
-
-  pub legal_works : Legal o old.events → Legal o new.events
-  legal_works legal =
-      subst (Legal o) (sym w.events)
-      (legal_more o with_start (event_by w.place worked) (legal_more o old.events (Start w.place 1) legal w.legal)
-      (subst (λ (t : State). IsLegal o t (event_by w.place worked)) (sym started_is) (legal_event worked w.works.came)))
-
-  pub faithful_works : nature.honest → Faithful nature.compile o old.events → Faithful nature.compile o new.events
-  faithful_works honest faithful =
-      subst (Faithful nature.compile o) (sym w.events)
-      (faithful_more nature.compile o with_start (event_by w.place worked) (faithful_more nature.compile o old.events (Start w.place 1) faithful tt)
-      (subst (λ (t : State). IsFaithful nature.compile o t (event_by w.place worked)) (sym started_is)
-      (meant_event nature.compile o s w.place w.job worked w.here (w.works.meant honest))))
-
-  -- its needs are all built
-  pub works_ready : first_open s.fates w.job.needs ≡ None
-  works_ready = start_ready o s w.place w.job w.here w.legal.1
-
-  pub counted_works : (test : Event → Bool) → test (Start w.place 1) ≡ false
-      → count_by test new.events ≡ count_by test old.events + cond (test (event_by w.place worked)) 1 0
-  counted_works test unlike =
-      let first = count_end test old.events (Start w.place 1) in
-      let next = count_end test with_start (event_by w.place worked) in
-      ap (count_by test) w.events ∙ next
-      ∙ ap (λ (n : ℕ). n + cond (test (event_by w.place worked)) 1 0) (first ∙ ap (λ (b : Bool). count_by test old.events + cond b 1 0) unlike
-      ∙ (omega arith))
-
-  event_starts : (came : Worked) → is_start (event_by w.place came) ≡ false
-  event_starts (Finished twin) = refl
-  event_starts (Failed twin) = refl
-  event_starts Died = refl
-  event_starts TreeFailed = refl
-  event_starts NoMemory = refl
-
-  pub starts_works : count_by is_start new.events ≡ count_by is_start old.events + 1
-  starts_works =
-      let first : count_by is_start with_start ≡ count_by is_start old.events + 1 = count_end is_start old.events (Start w.place 1) in
-      let next = count_end is_start with_start (event_by w.place worked) in
-      ap (count_by is_start) w.events ∙ next ∙ ap (λ (b : Bool). count_by is_start with_start + cond b 1 0) (event_starts worked) ∙ (omega (arith, first))
-
--- ---- which places are covered
-
-covered_at : (compile : Content → Outcome) (o : Opening) (fates next : List (Option Fate)) (p : ℕ) → at next p ≡ at fates p
-    → is_covered compile o next p ≡ true → is_covered compile o fates p ≡ true
-covered_at compile o fates next p same e = ap (λ (fate : Option Fate). is_compiled compile o p && is_some fate) (sym same) ∙ e
-
--- a place that isn't compiled covers nothing more
-pub covered_no_more : (compile : Content → Outcome) (o : Opening) (fates : List (Option Fate)) (place : ℕ) (fate : Option Fate)
-    → (is_compiled compile o place ≡ true → ⊥)
-    → count_below (is_covered compile o (slice_set fates place fate)) (length o.plan.jobs) ≤ count_below (is_covered compile o fates) (length o.plan.jobs)
-covered_no_more compile o fates place fate uncompiled =
-    count_le (is_covered compile o (slice_set fates place fate)) (is_covered compile o fates) (length o.plan.jobs)
-    (λ p below e. elim (cases_eq p place) [
-      | inl same ↦ absurd (uncompiled (ap (is_compiled compile o) (sym same)
-          ∙ (and_parts (is_compiled compile o p) (is_some (at (slice_set fates place fate) p)) e).0))
-      | inr other ↦ covered_at compile o fates (slice_set fates place fate) p (at_other fates place p fate other) e
-    ])
-
-pub covered_one_more : (compile : Content → Outcome) (o : Opening) (fates : List (Option Fate)) (place : ℕ) (fate : Option Fate)
-    → count_below (is_covered compile o (slice_set fates place fate)) (length o.plan.jobs) ≤ count_below (is_covered compile o fates) (length o.plan.jobs) + 1
-covered_one_more compile o fates place fate =
-    count_less (is_covered compile o (slice_set fates place fate)) (is_covered compile o fates) (length o.plan.jobs) place
-    (λ p below other e. covered_at compile o fates (slice_set fates place fate) p (at_other fates place p fate other) e)
-
-kept_uncompiled : (compile : Content → Outcome) (o : Opening) (s : State) (place : ℕ) → Agrees s.fates (seq compile o.plan.jobs) → missing o s place ≡ None
-    → stands o s place ≡ true
-    → is_compiled compile o place ≡ true → ⊥
-kept_uncompiled compile o s place agrees ready match compiled =
-    let all = seq compile o.plan.jobs in
-    let a : Bool = is_none (first_unbuilt all (needs_at o place)) in
-    let same : kept_matches (at o.kept place) (slice_get o.plan.jobs place) (outcomes_of all (needs_at o place)) ≡ true =
-    ap (kept_matches (at o.kept place) (slice_get o.plan.jobs place)) (sym (all_outcomes s.fates all agrees (needs_at o place) ready)) ∙ match in
-    let no : not (kept_matches (at o.kept place) (slice_get o.plan.jobs place) (outcomes_of all (needs_at o place))) ≡ true =
-    (and_parts (is_none (first_unbuilt all (needs_at o place))) (not (kept_matches (at o.kept place) (slice_get o.plan.jobs place)
-    (outcomes_of all (needs_at o place)))) compiled).1 in
-    let clash : false ≡ true = ap not (sym same) ∙ no in cc
-
-skipped_uncompiled : (compile : Content → Outcome) (o : Opening) (s : State) (place need : ℕ) → Agrees s.fates (seq compile o.plan.jobs)
-    → missing o s place ≡ Some need
-    → is_some (at s.fates need) ≡ true → is_compiled compile o place ≡ true → ⊥
-skipped_uncompiled compile o s place need agrees open_need fate compiled =
-    let all = seq compile o.plan.jobs in
-    let first : first_unbuilt all (needs_at o place) ≡ Some need = first_since s.fates all agrees (needs_at o place) need fate open_need in
-    let yes : is_none (first_unbuilt all (needs_at o place)) ≡ true =
-    (and_parts (is_none (first_unbuilt all (needs_at o place))) (not (kept_matches (at o.kept place) (slice_get o.plan.jobs place)
-    (outcomes_of all (needs_at o place)))) compiled).0 in
-    let clash : false ≡ true = ap (λ (n : Option ℕ). is_none n) (sym first) ∙ yes in cc
+use Rattle.partition_crew.proofs.Telling.{faithful_more, starts_works, legal_works, faithful_works, works_ready, replayed, counted_works}
+use Rattle.partition_crew.proofs.Covering.{covered_no_more, covered_one_more, kept_uncompiled, skipped_uncompiled}
 
 -- ---- the moves
 

@@ -39,7 +39,8 @@ pub(crate) fn advance<P: Partition, F: Folder>(
     requires places { length folders.old.items ≡ length core.old.opening.plan.jobs }
     requires able { CanRun (P.counted partition.old) }
     ensures opening { core.new.opening ≡ core.old.opening }
-    ensures advances { Advances (nature_by (P.honest × F.tells) P.lasting P.compile_of) core.old.opening
+    ensures advances { Advances (nature_by (P.honest × F.tells) P.lasting P.compile_of)
+        core.old.opening
         (station_by core.old.events (map F.known folders.old.items) (P.counted partition.old))
         (station_by core.new.events (map F.known folders.new.items) (P.counted partition.new))
         result }
@@ -79,7 +80,8 @@ fn start<P: Partition, F: Folder>(
     requires places { length folders.old.items ≡ length core.old.opening.plan.jobs }
     requires able { CanRun (P.counted partition.old) }
     ensures opening { core.new.opening ≡ core.old.opening }
-    ensures advances { Advances (nature_by (P.honest × F.tells) P.lasting P.compile_of) core.old.opening
+    ensures advances { Advances (nature_by (P.honest × F.tells) P.lasting P.compile_of)
+        core.old.opening
         (station_by core.old.events (map F.known folders.old.items) (P.counted partition.old))
         (station_by core.new.events (map F.known folders.new.items) (P.counted partition.new))
         result }

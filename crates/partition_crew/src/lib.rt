@@ -13,7 +13,6 @@ mod worked;
 mod working;
 
 pub use building::build_one;
-pub use meant::Meant;
 pub use one::{BuildFault, One};
 pub use worked::Worked;
 pub use working::work;

@@ -1,13 +1,12 @@
 // What a build's outcomes mean.
-
 use compile_model::Meaning;
 use partition_face::Partition;
 use std::marker::PhantomData;
 use tree_store::Folder;
 
-/// The meaning of a build by partitions and folders of these types: that of the partitions. It is honest where they
-/// are and the folders tell what they hold.
-pub struct Meant<P: Partition, F: Folder> {
+// The meaning of a build by partitions and folders of these types: that of the partitions. It is honest where they
+// are and the folders tell what they hold.
+pub(crate) struct Meant<P: Partition, F: Folder> {
     partitions: PhantomData<P>,
     folders: PhantomData<F>,
 }
