@@ -71,6 +71,7 @@ fn how_of(alloc: Global, how: &str) -> Result<How, Fault> {
     }
 }
 
+#[tactic(auto, using(mx_base::proofs::ListingLemmas::apart_from_order))]
 fn job_of(alloc: Global, how: How, sources: Files, need_apps: Names) -> Result<Job, Fault> {
     let mut needs = Places::new(alloc);
     for _ in need_apps.as_slice() {

@@ -77,7 +77,16 @@ fn told(alloc: Global, line: &str) -> Result<String, AllocError> {
 fn answer(alloc: Global, out: &mut String, line: &str) -> Result<(), Fault> {
     let (kind, rest) = line.split_once(' ').ok_or(Fault::Form)?;
     let texts = fields_of(alloc, rest)?;
-    let texts = texts.as_slice();
+    text_answer(alloc, out, kind, texts.as_slice())
+}
+
+/// Answers a case about texts: what they say, and how it is written.
+fn text_answer(
+    alloc: Global,
+    out: &mut String,
+    kind: &str,
+    texts: &[Vec<u8>],
+) -> Result<(), Fault> {
     match kind {
         "term" => term_case(alloc, out, texts),
         "print" => print_case(alloc, out, texts),
@@ -90,14 +99,30 @@ fn answer(alloc: Global, out: &mut String, line: &str) -> Result<(), Fault> {
         "message" => message_case(alloc, out, texts),
         "write" => write_case(alloc, out, texts),
         "unit" => unit_case(alloc, out, texts),
-        "unit_compile" => compiled_case(alloc, out, texts),
         "decls" => decls_case(alloc, out, texts),
         "project" => project_case(alloc, out, texts),
+        "lock" => lock_case(alloc, out, texts),
+        "listing" => listing_case(alloc, out, texts),
+        "mark" => mark_case(alloc, out, texts),
+        "frame" => frame_case(alloc, out, texts),
+        "frames" => frames_case(alloc, out, texts),
+        _ => call_answer(alloc, out, kind, texts),
+    }
+}
+
+/// Answers a case about projects, registries, graphs and builds.
+fn call_answer(
+    alloc: Global,
+    out: &mut String,
+    kind: &str,
+    texts: &[Vec<u8>],
+) -> Result<(), Fault> {
+    match kind {
+        "unit_compile" => compiled_case(alloc, out, texts),
         "manifest" => manifest_case(alloc, out, texts),
         "registry" => registry_case(alloc, out, texts),
         "pick" => pick_case(alloc, out, texts),
         "breach" => breach_case(alloc, out, texts),
-        "lock" => lock_case(alloc, out, texts),
         "settings" => settings_case(alloc, out, texts),
         "manager" => manager_case(alloc, out, texts),
         "command" => command_case(alloc, out, texts),
@@ -109,11 +134,7 @@ fn answer(alloc: Global, out: &mut String, line: &str) -> Result<(), Fault> {
         "reach_for" => reach_for_case(alloc, out, texts),
         "plan" => plan_case(alloc, out, texts),
         "plan_for" => plan_for_case(alloc, out, texts),
-        "listing" => listing_case(alloc, out, texts),
-        "mark" => mark_case(alloc, out, texts),
         "core" => core_case(alloc, out, texts),
-        "frame" => frame_case(alloc, out, texts),
-        "frames" => frames_case(alloc, out, texts),
         "run" => run_case(alloc, out, texts),
         _ => Err(Fault::Form),
     }
