@@ -21,7 +21,7 @@ print("load: %.1f, %d processors\n" % (os.getloadavg()[0], os.cpu_count()))
 print("| releases | bytes | seconds | microseconds a release |\n|---|---|---|---|")
 for count in [int(word) for word in sys.argv[2:]] or [500, 5000, 20000]:
     text = lock(count).encode()
-    spent = asked_alone(program, "lock", text.hex(), "ok " + text.hex())
+    spent = asked_alone(program, "lock", text.hex(), "ok %d bytes" % len(text))
     each.append(spent / count)
     print("| %d | %d | %.3f | %.2f |" % (count, len(text), spent, 1e6 * spent / count))
 print("\ngrowth: %.2f" % (each[-1] / each[0]))
