@@ -1,0 +1,4 @@
+pub mod AmongLemmas
+pub mod ClearLemmas
+pub mod KeptLemmas
+pub mod LeftLemmas
