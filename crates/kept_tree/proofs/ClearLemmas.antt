@@ -1,5 +1,5 @@
 -- Builds that are cleared one after another.
-use Rattle.std.proofs.Common.{◌≡◌, ◌⊎◌, inl, inr, ℕ, suc, ◌+◌, ◌<◌, Bool, true, false, cond, not, ◌&&◌, ◌||◌, Option, Some, None, List, [], ◌∷◌, take, filter, length, get_or, Contains, bytes_eq, option_map, IsTrue, refl, sym, ◌∙◌, ap, ap₂, subst}
+use Rattle.std.proofs.Common.{◌≡◌, ◌⊎◌, inl, inr, ℕ, suc, ◌+◌, ◌<◌, Bool, true, false, cond, not, ◌&&◌, ◌||◌, Option, Some, None, List, [], ◌∷◌, take, filter, length, get_or, Contains, bytes_eq, option_map, Result, Ok, Err, OnOk, IsTrue, refl, sym, ◌∙◌, ap, ap₂, subst}
 use Rattle.std.proofs.lemmas.Bool.{and_parts}
 use Rattle.mx_base.specs.declared.file.File.{File}
 use Rattle.tree_store.specs.declared.holding.Holding.{Holding}
@@ -49,10 +49,10 @@ partly_twice is old mid new first next q = at (first q) (next q)
     at : (mid q ≡ old q) ⊎ (IsTrue (is q) × IsLeftAt (old q) (mid q)) → (new q ≡ mid q) ⊎ (IsTrue (is q) × IsLeftAt (mid q) (new q)) →
         (new q ≡ old q) ⊎ (IsTrue (is q) × IsLeftAt (old q) (new q))
     at (inl a) (inl b) = inl (b ∙ a)
-    at (inl a) (inr (those, stays, b)) = inr (those, stays, b ∙ ap (changed_slot (left_of stays)) a)
-    at (inr (those, stays, a)) (inl b) = inr (those, stays, b ∙ a)
-    at (inr (those, stays, a)) (inr (too, more, b)) =
-        inr (those, (λ x. stays x && more x), b ∙ ap (changed_slot (left_of more)) a ∙ slot_twice stays more (old q))
+    at (inl a) (inr (those, (stays, b))) = inr (those, (stays, b ∙ ap (changed_slot (left_of stays)) a))
+    at (inr (those, (stays, a))) (inl b) = inr (those, (stays, b ∙ a))
+    at (inr (those, (stays, a))) (inr (too, (more, b))) =
+        inr (those, ((λ x. stays x && more x), b ∙ ap (changed_slot (left_of more)) a ∙ slot_twice stays more (old q)))
 
 -- one app more is cleared in part
 pub partly_app : (env : List ℕ) (apps : List (List ℕ)) (i : ℕ) (app : List ℕ) (old mid new : BuildKey → Slot) → i < length apps →
@@ -153,3 +153,21 @@ clears_apart env stays apps old new lists clears q = in_env (is_in_env env q) re
         e ∙ ap (λ (b : Bool). cond ((not (is_among stays q.app) && is_among apps q.app) && b) (emptied_slot (old q)) (old q)) is
         ∙ ap (λ (b : Bool). cond b (emptied_slot (old q)) (old q)) (none (not (is_among stays q.app) && is_among apps q.app) ∙ sym (none (not (is_among stays q.app))))
         ∙ ap (λ (b : Bool). cond (not (is_among stays q.app) && b) (emptied_slot (old q)) (old q)) (sym is)
+
+pub apart_cleared : (env : List ℕ) (stays apps those : List (List ℕ)) (old mid new : BuildKey → Slot) → mid ≡ old → those ≡ apart_of stays apps →
+    ((app : List ℕ) → Lists (old (record { env = env; app = app })) apps app) → Clears (is_of env those) mid new → Clears (is_apart env stays) old new
+apart_cleared env stays apps those old mid new same are lists clears =
+    clears_apart env stays apps old new lists
+    (subst (λ (slots : BuildKey → Slot). Clears (is_of env (apart_of stays apps)) slots new) same
+    (subst (λ (names : List (List ℕ)). Clears (is_of env names) mid new) are clears))
+
+pub apart_partly : (env : List ℕ) (stays apps those : List (List ℕ)) (old mid new : BuildKey → Slot) → mid ≡ old → those ≡ apart_of stays apps →
+    ClearsPartly (is_of env those) mid new → ClearsPartly (is_apart env stays) old new
+apart_partly env stays apps those old mid new same are left =
+    more_partly (is_of env (apart_of stays apps)) (is_apart env stays) old new (λ q e. apart_listed env stays apps q e)
+    (subst (λ (slots : BuildKey → Slot). ClearsPartly (is_of env (apart_of stays apps)) slots new) same
+    (subst (λ (names : List (List ℕ)). ClearsPartly (is_of env names) mid new) are left))
+
+pub map_ok : {T E : Type 0} (r : Result T E) (P Q : Type 0) → (P → Q) → OnOk r P → OnOk r Q
+map_ok (Ok x) P Q step holds = step holds
+map_ok (Err e) P Q step holds = tt

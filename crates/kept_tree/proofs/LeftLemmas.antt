@@ -95,7 +95,7 @@ lent_left key back_key held left old mid new out own back is kept q = at kept
 
     part : (stays : File → Bool) (b : Bool) → is_same_build key q ≡ b → new q ≡ cond b (changed_slot (left_of stays) (old q)) (old q) →
         (new q ≡ old q) ⊎ (IsTrue (is_same_build key q) × IsLeftAt (old q) (new q))
-    part stays true b e = inr (b, stays, e)
+    part stays true b e = inr (b, (stays, e))
     part stays false b e = inl e
 
     at : IsLeft held left → (new q ≡ old q) ⊎ (IsTrue (is_same_build key q) × IsLeftAt (old q) (new q))
@@ -126,4 +126,4 @@ left_tree_honest compile known is old new honest left q = at (left q)
   where
     at : (new q ≡ old q) ⊎ (IsTrue (is q) × IsLeftAt (old q) (new q)) → IsHonestSlot compile known (new q)
     at (inl same) = subst (IsHonestSlot compile known) (sym same) (honest q)
-    at (inr (those, stays, now)) = subst (IsHonestSlot compile known) (sym now) (left_slot_honest compile known stays (old q))
+    at (inr (those, (stays, now))) = subst (IsHonestSlot compile known) (sym now) (left_slot_honest compile known stays (old q))
