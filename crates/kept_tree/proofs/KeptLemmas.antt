@@ -1,16 +1,22 @@
 -- What is read of a build.
 use Rattle.std.proofs.Common.{◌≡◌, ◌⊎◌, inl, inr, ℕ, suc, zero, ◌+◌, ◌<◌, ◌≤◌, Bool, true, false, cond, Option, Some, None, IfSome, List, [], ◌∷◌, ◌++◌, length, get_or, All, Result, Ok, Err, nat_lt, refl, sym, ◌∙◌, ap, subst, arith}
 use Rattle.std.specs.List.{slice_get}
+use Rattle.std.proofs.lemmas.Bool.{both_ways, lt-ltb}
 use Rattle.std.proofs.lemmas.Option.{slice_get-get_or}
 use Rattle.mx_base.specs.Blame.{fails, is_outside}
 use Rattle.mx_base.specs.Causes.{Counted, Rose}
 use Rattle.mx_base.specs.declared.file.File.{File}
+use Rattle.mx_base.specs.declared.row.FileRow.{FileRow}
 use Rattle.mx_base.specs.Listing.{rows_of}
 use Rattle.compile_model.specs.declared.job.Job.{Job}
+use Rattle.compile_model.specs.declared.outcome.Outcome.{Outcome}
+use Rattle.compile_model.specs.Content.{outcome_with}
 use Rattle.build_manifest.specs.Mark.{MarkView}
 use Rattle.build_manifest.specs.Text.{Spells}
 use Rattle.build_manifest.proofs.Whole.{one_mark}
 use Rattle.staleness.specs.declared.kept.Kept.{Kept}
+use Rattle.staleness.specs.Matching.{same_rows}
+use Rattle.staleness.proofs.DescribedLemmas.{rows_are, rows_themselves}
 use Rattle.tree_store.specs.declared.holding.Holding.{Holding}
 use Rattle.tree_store.specs.declared.key.BuildKey.{BuildKey}
 use Rattle.tree_store.specs.declared.store.StoreFault.{StoreFault}
@@ -31,11 +37,11 @@ use Rattle.kept_tree.specs.Reading.{IsKeptWith, IsMarkIn, IsWhole}
 
 -- nothing is kept where no mark stands that reads
 none_kept : (held : Holding) → IsMarkIn held.mark None → IsKeptOf held None
-none_kept held no kept is = at held.mark no is.marked
+none_kept held unread kept is = at held.mark unread is.marked
   where
     at : (mark : Option (List ℕ)) → IsMarkIn mark None → mark ≡ Some is.bytes → ⊥
-    at None no e = cc
-    at (Some bytes) no e = no (kept.mark, subst (λ (b : List ℕ). Spells b kept.mark) (sym (same_bytes bytes is.bytes e)) is.read)
+    at None unread e = cc
+    at (Some bytes) unread e = unread (kept.mark, subst (λ (b : List ℕ). Spells b kept.mark) (sym (same_bytes bytes is.bytes e)) is.read)
 
 -- a mark that reads has a text
 mark_text : (held : Holding) (mark : MarkView) → IsMarkIn held.mark (Some mark) → (bytes : List ℕ) × (held.mark ≡ Some bytes) × Spells bytes mark
@@ -43,24 +49,24 @@ mark_text held mark reads = at held.mark reads
   where
     at : (told : Option (List ℕ)) → IsMarkIn told (Some mark) → (bytes : List ℕ) × (told ≡ Some bytes) × Spells bytes mark
     at None reads = absurd (cc)
-    at (Some bytes) reads = (bytes, (refl, reads))
+    at (Some bytes) reads = (bytes, refl, reads)
 
 -- what is kept by a mark and the files
 with_kept : (held : Holding) (mark : MarkView) (files : List File) (entry : Option Kept) → IsMarkIn held.mark (Some mark) → files ≡ held.files →
     IsKeptWith mark files entry → IsKeptOf held entry
 with_kept held mark files (Some kept) reads own (listed, is) =
     let text = mark_text held mark reads in
-    subst (IsKept held) (sym (is ∙ ap (kept_with mark) own)) (some_kept held text.0 mark text.1.0 text.1.1 (listed ∙ ap rows_of own))
-with_kept held mark files None reads own unlisted kept is =
+    subst (IsKept held) (sym (is ∙ ap (kept_with mark) own)) (some_kept held text.0 mark text.1 text.2 (listed ∙ ap rows_of own))
+with_kept held mark files None reads own unlisted = λ kept is.
     let text = mark_text held mark reads in
-    let bytes : is.bytes ≡ text.0 = same_bytes is.bytes text.0 (sym is.marked ∙ text.1.0) in
-    let one : kept.mark ≡ mark = one_mark text.0 kept.mark mark (subst (λ (b : List ℕ). Spells b kept.mark) bytes is.read) text.1.1 in
+    let bytes : is.bytes ≡ text.0 = same_bytes is.bytes text.0 (sym is.marked ∙ text.1) in
+    let one : kept.mark ≡ mark = one_mark text.0 kept.mark mark (subst (λ (b : List ℕ). Spells b kept.mark) bytes is.read) text.2 in
     unlisted (ap (λ (m : MarkView). m.outputs) (sym one) ∙ is.listed ∙ ap rows_of (sym own))
 
 -- the same where it is told
 pub told_none : (told : Option Holding) → IfSome told (λ held. IsMarkIn held.mark None) → IfSome told (λ held. IsKeptOf held None)
-told_none None no = tt
-told_none (Some held) no = none_kept held no
+told_none None unread = tt
+told_none (Some held) unread = none_kept held unread
 
 pub told_with : (told : Option Holding) (mark : MarkView) (files : List File) (entry : Option Kept) →
     IfSome told (λ held. IsMarkIn held.mark (Some mark)) → IfSome told (λ held. files ≡ held.files) → IsKeptWith mark files entry →
@@ -84,16 +90,6 @@ pub told_still : (P : Holding → Type 0) (old new : FolderKnown) (failed : Bool
 told_still P old new failed looks has = subst (λ (told : Option Holding). IfSome told P) (ap (λ (f : FolderKnown). f.held) looks.same) has
 
 -- ---- in a store
-
--- no folder was handed out
-pub unlent : {X : Type 0} (old new : Known) (fault : StoreFault) → new.slot ≡ old.slot →
-    new ≡ record old { slot = new.slot; faults = new.faults } → Counted old.faults new.faults (is_outside (blame_of fault)) →
-    ReadsBuilds {X = X} (Err (of_read fault)) old new
-unlent old new Failed same rest cause =
-    inl (cause.rose refl, rest ∙ ap (λ (slots : BuildKey → Slot). record old { slot = slots; faults = new.faults }) same)
-unlent old new OutOfMemory same rest cause =
-    rest ∙ ap (λ (slots : BuildKey → Slot). record old { slot = slots; faults = new.faults }) same
-    ∙ ap (λ (n : ℕ). record old { faults = n }) (cause.kept refl)
 
 -- a folder was handed out, was read and came back
 module _ (key : BuildKey) (first last : FolderKnown) (old mid new : Known) (failed : Bool) (out : SetsSlot key Out old.slot mid.slot)
@@ -139,15 +135,15 @@ module _ (key : BuildKey) (first last : FolderKnown) (old mid new : Known) (fail
     where
       above : (n : ℕ) → Rose 0 n → nat_lt 0 n ≡ true
       above zero rose = absurd (omega (arith, rose))
-      above (suc n) rose = refl
+      above (suc n) rose = lt-ltb 0 (suc n) (omega arith)
 
-pub lent_read : {X : Type 0} (key : BuildKey) (first last : FolderKnown) (old mid new : Known) (fault : StoreFault) →
+pub lent_read : (X : Type 0) (key : BuildKey) (first last : FolderKnown) (old mid new : Known) (fault : StoreFault) →
     SetsSlot key Out old.slot mid.slot → mid ≡ record old { slot = mid.slot; faults = mid.faults } → mid.faults ≡ old.faults →
     IsLent key (old.slot key) first → Looks first last (is_outside (blame_of fault)) → TakesBack last mid new →
     ReadsBuilds {X = X} (Err (of_read fault)) old new
-lent_read key first last old mid new Failed out lent calm is looks back =
+lent_read X key first last old mid new Failed out lent calm is looks back =
     inr (rose_back key first last old mid new true out lent calm is looks back refl, came_back key first last old mid new true out lent calm is looks back)
-lent_read key first last old mid new OutOfMemory out lent calm is looks back =
+lent_read X key first last old mid new OutOfMemory out lent calm is looks back =
     calm_back key first last old mid new false out lent calm is looks back refl
 
 -- what a folder that was handed out tells, its slot tells
@@ -190,3 +186,17 @@ kept_more slots env jobs kept job entry within own so_far now place other one th
         let which : job ≡ other = cc in
         subst (λ (j : Job). IsKeptAt (slots (record { env = env; app = j.app })) one) which
         (subst (λ (e : Option Kept). IsKeptAt (slots (record { env = env; app = job.app })) e) same now)
+
+-- ---- a mark with the outcome of files
+
+pub not_listed : (outputs rows : List FileRow) (files : List File) → rows ≡ rows_of files → same_rows outputs rows ≡ false → outputs ≡ rows_of files → ⊥
+not_listed outputs rows files are differ same =
+    both_ways (same_rows outputs rows) differ
+    (subst (λ (others : List FileRow). same_rows outputs others ≡ true) (same ∙ sym are) (rows_themselves outputs))
+
+pub listed : (mark : MarkView) (files : List File) (outcome : Outcome) (text : List ℕ) → outcome ≡ outcome_with 0 text files → text ≡ mark.text →
+    same_rows mark.outputs outcome.rows ≡ true → IsKeptWith mark files (Some (record { mark = mark; outcome = outcome }))
+listed mark files outcome text is copy same = (
+  rows_are mark.outputs outcome.rows same ∙ ap (λ (o : Outcome). o.rows) is,
+  ap (λ (o : Outcome). record { mark = mark; outcome = o }) (is ∙ ap (λ (t : List ℕ). outcome_with 0 t files) copy),
+)
