@@ -18,13 +18,13 @@ loop-job-preserved g c =
     let slots = (g.S.Store.known c.args.store.now).slot in
     let each = c.loop-job.invariant.each in
     let at : c.loop-job.job-index < length jobs = omega arith in
-    let within : length kept < length jobs = omega (at, each) in
+    let within : length kept < length jobs = omega (arith, at, each) in
     let own : job ≡ get_or jobs (length kept) job = c.job-item.is ∙ ap (λ (n : ℕ). get_or jobs n job) (sym each) in
     let pushed : c.push.new.self.items ≡ kept ++ entry ∷ [] = c.in_ok-push.ensures.items in
     let now : IsKeptAt (slots (record { env = env; app = job.app })) entry =
     subst (λ (k : Known). IsKeptAt (k.slot (record { env = env; app = job.app })) entry) c.loop-job.invariant.same c.in_ok-entry.ensures.kept in
     record {
-      each = ap length pushed ∙ length-append kept (entry ∷ []) ∙ omega each;
+      each = ap length pushed ∙ length-append kept (entry ∷ []) ∙ omega (arith, each);
       so_far = subst (AreKeptSoFar slots env jobs) (sym pushed) (kept_more slots env jobs kept job entry within own c.loop-job.invariant.so_far now);
       whole = subst (All (λ (e : Option Kept). IfSome e IsWhole)) (sym pushed)
           (All-push (λ (e : Option Kept). IfSome e IsWhole) kept entry c.loop-job.invariant.whole c.in_ok-entry.ensures.whole);
