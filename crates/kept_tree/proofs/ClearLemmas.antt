@@ -1,5 +1,5 @@
 -- Builds that are cleared one after another.
-use Rattle.std.proofs.Common.{◌≡◌, ◌⊎◌, inl, inr, ℕ, suc, ◌+◌, ◌<◌, Bool, true, false, cond, not, ◌&&◌, ◌||◌, Option, Some, None, List, [], ◌∷◌, take, filter, length, get_or, Contains, bytes_eq, option_map, Result, Ok, Err, OnOk, IsTrue, refl, sym, ◌∙◌, ap, ap₂, subst}
+use Rattle.std.proofs.Common.{◌≡◌, ◌⊎◌, inl, inr, ℕ, ◌+◌, ◌<◌, Bool, true, false, cond, not, ◌&&◌, ◌||◌, Option, Some, None, List, [], ◌∷◌, take, filter, length, get_or, Result, Ok, Err, OnOk, IsTrue, refl, sym, ◌∙◌, ap, ap₂, subst}
 use Rattle.std.proofs.lemmas.Bool.{and_parts}
 use Rattle.mx_base.specs.declared.file.File.{File}
 use Rattle.tree_store.specs.declared.holding.Holding.{Holding}
@@ -101,7 +101,7 @@ pub apart_listed : (env : List ℕ) (stays apps : List (List ℕ)) (q : BuildKey
 apart_listed env stays apps q e =
     let parts = and_parts (is_among (apart_of stays apps) q.app) (is_in_env env q) e in
     let among = and_parts (not (is_among stays q.app)) (is_among apps q.app)
-        (sym (among_filter (λ app. not (is_among stays app)) apps q.app) ∙ parts.0) in
+    (sym (among_filter (λ app. not (is_among stays app)) apps q.app) ∙ parts.0) in
     ap₂ (λ (a b : Bool). a && b) among.0 parts.1
 
 bare_is_nothing : (files : List File) (mark : Option (List ℕ)) → any_of files mark ≡ false → record { files = files; mark = mark } ≡ nothing

@@ -1,9 +1,9 @@
 -- What is read of a build.
-use Rattle.std.proofs.Common.{◌≡◌, ◌⊎◌, inl, inr, ℕ, suc, zero, ◌+◌, ◌<◌, ◌≤◌, Bool, true, false, cond, Option, Some, None, IfSome, List, [], ◌∷◌, ◌++◌, length, get_or, All, Result, Ok, Err, nat_lt, refl, sym, ◌∙◌, ap, subst, arith}
+use Rattle.std.proofs.Common.{◌≡◌, ◌⊎◌, inl, inr, ℕ, suc, zero, ◌<◌, Bool, true, false, cond, Option, Some, None, IfSome, List, [], ◌∷◌, ◌++◌, length, get_or, Err, nat_lt, refl, sym, ◌∙◌, ap, subst, arith}
 use Rattle.std.specs.List.{slice_get}
 use Rattle.std.proofs.lemmas.Bool.{both_ways, lt-ltb}
 use Rattle.std.proofs.lemmas.Option.{slice_get-get_or}
-use Rattle.mx_base.specs.Blame.{fails, is_outside}
+use Rattle.mx_base.specs.Blame.{is_outside}
 use Rattle.mx_base.specs.Causes.{Counted, Rose}
 use Rattle.mx_base.specs.declared.file.File.{File}
 use Rattle.mx_base.specs.declared.row.FileRow.{FileRow}
@@ -27,7 +27,6 @@ use Rattle.tree_store.specs.Key.{is_same_build}
 use Rattle.tree_store.specs.Known.{Known, IsLent, TakesBack}
 use Rattle.tree_store.specs.Slot.{Slot, SetsSlot}
 use Rattle.tree_store.specs.Slot.Slot.{Here, Out}
-use Rattle.tree_store.proofs.MomentLemmas.{if_told, told_has}
 use Rattle.tree_store.proofs.StoreLemmas.{lent_and_back}
 use Rattle.honest_tree.specs.KeptOf.{IsKept, IsKeptAt, IsKeptOf, kept_with}
 use Rattle.honest_tree.proofs.HonestLemmas.{same_bytes}

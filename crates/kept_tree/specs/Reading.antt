@@ -5,7 +5,6 @@ use Rattle.mx_base.specs.Listing.{rows_of}
 use Rattle.build_manifest.specs.Mark.{MarkView}
 use Rattle.build_manifest.specs.Text.{IsSpelled, Spells}
 use Rattle.staleness.specs.declared.kept.Kept.{Kept}
-use Rattle.tree_store.specs.declared.holding.Holding.{Holding}
 use Rattle.honest_tree.specs.KeptOf.{kept_with}
 
 -- what holds of each kept entry, whatever the store tells

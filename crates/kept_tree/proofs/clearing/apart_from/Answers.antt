@@ -1,4 +1,4 @@
-use Rattle.std.proofs.Common.{not, map, rules, ℕ, List, ◌≡◌, refl}
+use Rattle.std.proofs.Common.{not, map, rules, ℕ, List}
 use Rattle.std.proofs.lemmas.Fn.{filter_same}
 use Rattle.kept_tree.specs.Clearing.{is_among}
 use Rattle.kept_tree.proofs.clearing.apart_from.Goals as goal

@@ -1,8 +1,6 @@
-use Rattle.std.proofs.Common.{◌≡◌, ◌∙◌, ap, map, subst, sym, List, ℕ}
-use Rattle.tree_store.specs.declared.key.BuildKey.{BuildKey}
+use Rattle.std.proofs.Common.{◌≡◌, ◌∙◌, ap, map, List, ℕ}
 use Rattle.tree_store.specs.Known.{Known}
-use Rattle.tree_store.specs.Slot.{Slot}
-use Rattle.kept_tree.proofs.ClearLemmas.{apart_cleared, apart_partly, map_ok, same_partly}
+use Rattle.kept_tree.proofs.ClearLemmas.{apart_cleared, apart_partly, map_ok}
 use Rattle.kept_tree.proofs.clearing.clear_apart.Goals as goal
 
 pub returns-clause-cleared : goal.returns-clause-cleared

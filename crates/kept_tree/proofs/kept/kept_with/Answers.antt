@@ -1,4 +1,4 @@
-use Rattle.std.proofs.Common.{◌≡◌, ◌∙◌, true, false, Some, ap, ap₂, sym, subst, rules}
+use Rattle.std.proofs.Common.{◌≡◌, ◌∙◌, Some, ap, ap₂, sym, subst, rules}
 use Rattle.compile_model.specs.declared.outcome.Outcome.{Outcome}
 use Rattle.staleness.specs.Matching.{same_rows}
 use Rattle.kept_tree.specs.Reading.{IsKeptWith}

@@ -1,4 +1,4 @@
-use Rattle.std.proofs.Common.{◌≡◌, Option, Some, IfSome, false, subst}
+use Rattle.std.proofs.Common.{◌≡◌, Option, IfSome, false, subst}
 use Rattle.build_manifest.specs.Mark.{MarkView}
 use Rattle.kept_tree.specs.Reading.{IsMarkIn}
 use Rattle.kept_tree.proofs.KeptLemmas.{told_still, told_with}

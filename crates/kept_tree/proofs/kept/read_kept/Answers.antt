@@ -1,7 +1,6 @@
-use Rattle.std.proofs.Common.{◌≡◌, ◌<◌, ◌∙◌, ℕ, List, [], ◌∷◌, ◌++◌, All, IfSome, Option, length, length-append, get_or, ap, subst, sym, arith}
+use Rattle.std.proofs.Common.{◌≡◌, ◌<◌, ◌∙◌, ℕ, [], ◌∷◌, ◌++◌, All, IfSome, Option, length, length-append, get_or, ap, subst, sym, arith}
 use Rattle.std.proofs.lemmas.List.Elements.{All-push}
 use Rattle.staleness.specs.declared.kept.Kept.{Kept}
-use Rattle.tree_store.specs.declared.key.BuildKey.{BuildKey}
 use Rattle.tree_store.specs.Known.{Known}
 use Rattle.honest_tree.specs.KeptOf.{IsKeptAt}
 use Rattle.kept_tree.specs.Reading.{IsWhole}
