@@ -1,3 +1,4 @@
 pub mod Clearing
 pub mod Faults
 pub mod Reading
+pub mod Rewriting

@@ -73,8 +73,8 @@ fn read_folder<F: Folder>(alloc: Global, folder: &mut F) -> Result<Option<Kept>,
     Ok(kept_with(alloc, mark, files)?)
 }
 
-// The mark of a folder, where one stands that reads.
-fn mark_of_folder<F: Folder>(alloc: Global, folder: &mut F) -> Result<Option<Mark>, StoreFault>
+/// The mark of a folder, where one stands that reads.
+pub(crate) fn mark_of_folder<F: Folder>(alloc: Global, folder: &mut F) -> Result<Option<Mark>, StoreFault>
     ensures mark { IfOk result (λ mark. IfSome (F.known folder.old).held
         (λ held. IsMarkIn held.mark mark)) }
     ensures looks { Looks (F.known folder.old) (F.known folder.new) (fails blame_of result) }

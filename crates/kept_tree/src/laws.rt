@@ -8,6 +8,7 @@ ghost use Rattle.tree_store.specs.Slot.{Slot};
 ghost use Rattle.honest_tree.specs.Given.{Given};
 ghost use Rattle.honest_tree.specs.Honest.{Honest, IsHonest};
 ghost use Rattle.kept_tree.specs.Clearing.{ClearsPartly, IsLeftOf};
+ghost use Rattle.kept_tree.specs.Rewriting.{IsRewriting};
 
 /// An honest folder is honest at each stop while it is emptied, and an honest tree after builds of it were cleared,
 /// in full or in part.
@@ -17,4 +18,10 @@ pub fn clearing_is_honest()
     ensures tree { (compile : Content → Outcome) (known : List Given) (is : BuildKey → Bool)
         (old new : BuildKey → Slot)
         → Honest compile known old → ClearsPartly is old new → Honest compile known new }
+{}
+
+/// An honest folder is honest at each stop while its mark is written again, and after it.
+pub fn rewriting_is_honest()
+    ensures { (compile : Content → Outcome) (known : List Given) (held image : Holding)
+        → IsHonest compile known held → IsRewriting held image → IsHonest compile known image }
 {}

@@ -8,8 +8,10 @@ mod clearing;
 mod fault;
 mod kept;
 mod laws;
+mod rewriting;
 
 pub use clearing::{clean, clear_apart, empty};
 pub use fault::KeptFault;
 pub use kept::read_kept;
-pub use laws::clearing_is_honest;
+pub use laws::{clearing_is_honest, rewriting_is_honest};
+pub use rewriting::rewrite;
