@@ -1,5 +1,8 @@
 -- Marks that are replaced.
-use Rattle.std.proofs.Common.{◌≡◌, ◌⊎◌, inl, inr, ℕ, Bool, Option, Some, None, IfSome, List, Contains, option_map, Result, refl, sym, ◌∙◌, ap, subst}
+use Rattle.std.proofs.Common.{◌≡◌, ◌⊎◌, inl, inr, ℕ, zero, suc, ◌≤◌, Bool, true, false, Ok, Err, nat_lt, arith, Option, Some, None, IfSome, List, Contains, option_map, Result, refl, sym, ◌∙◌, ap, subst}
+use Rattle.std.proofs.lemmas.Bool.{lt-ltb}
+use Rattle.mx_base.specs.Blame.{fails}
+use Rattle.mx_base.specs.Causes.{Counted, Rose}
 use Rattle.mx_base.specs.declared.file.File.{File}
 use Rattle.compile_model.specs.declared.outcome.Outcome.{Outcome}
 use Rattle.compile_model.specs.Content.{Content}
@@ -12,11 +15,17 @@ use Rattle.tree_store.specs.Holding.{marked, only_files, unmarked}
 use Rattle.tree_store.specs.Moment.{IsImage, Part, leaves}
 use Rattle.tree_store.specs.Moment.Part.{Whole, Untouched, Gone, Begun, Those}
 use Rattle.tree_store.specs.Moment.Write.{Mark, Unmark}
-use Rattle.tree_store.proofs.MomentLemmas.{if_told, stops_at_write, stops_still, stops_then, told_has}
+use Rattle.tree_store.specs.Known.{Known}
+use Rattle.tree_store.specs.Moment.{after_all}
+use Rattle.tree_store.specs.Slot.{Slot}
+use Rattle.tree_store.specs.Slot.Slot.{Here, Out}
+use Rattle.tree_store.proofs.MomentLemmas.{if_told, stops_at_write, stops_end, stops_still, stops_then, told_has}
 use Rattle.honest_tree.specs.Given.{Given, outcome_of}
 use Rattle.honest_tree.specs.Honest.{IsHonest, IsMadeFrom, IsMarkOf}
 use Rattle.honest_tree.proofs.HonestLemmas.{marking_honest}
-use Rattle.kept_tree.specs.Rewriting.{IsRenewal, IsReplacing, IsReplacingIn, IsRewriting, IsRewritingIn, IsTextIn}
+use Rattle.kept_tree.specs.declared.fault.KeptFault.{KeptFault}
+use Rattle.kept_tree.specs.declared.fault.KeptFault.TheVariants.{Read, Tree, OutOfMemory}
+use Rattle.kept_tree.specs.Rewriting.{CountsRewriting, IsRewritingAt, IsRewrittenAt, IsRewrittenIn, blame_of, IsRenewal, IsReplacing, IsReplacingIn, IsRewriting, IsRewritingIn, IsTextIn}
 
 unmark_replaces : (text : List ℕ) (held : Holding) (part : Part) → IsReplacing text held (leaves Unmark part held)
 unmark_replaces text held Whole = inr (Untouched, refl)
@@ -100,3 +109,57 @@ rewriting_honest compile known held image honest (inl same) = subst (IsHonest co
 rewriting_honest compile known held image honest (inr (text, renewal, inl same)) = subst (IsHonest compile known) (sym same) honest
 rewriting_honest compile known held image honest (inr (text, renewal, inr (part, is))) =
     renewed_honest compile known held image text honest renewal part is
+
+-- ---- in a store
+
+-- what stops leave in a folder is left of its build
+pub rewriting_at : (first last : FolderKnown) (old new : Slot) → StopsIn (IsRewritingIn first.held) first last → Here first.held ≡ old →
+    new ≡ Here last.held → IsRewritingAt old new
+rewriting_at first last old new stops was is =
+    subst (λ (s : Slot). IsRewritingAt s new) was (subst (λ (s : Slot). IsRewritingAt (Here first.held) s) (sym is)
+    (at first.held last.held stops.held (stops_end (IsRewritingIn first.held) first last stops)))
+  where
+    at : (told now : Option Holding) → now ≡ option_map (after_all stops.more) told → IfSome now (IsRewritingIn told) → IsRewritingAt (Here told) (Here now)
+    at None now is left = ap Here is
+    at (Some held) None is left = cc
+    at (Some held) (Some image) is left = left
+
+pub same_rewriting : (old new : Slot) → new ≡ old → IsRewritingAt old new
+same_rewriting old new same = subst (IsRewritingAt old) (sym same) (at old)
+  where
+    at : (s : Slot) → IsRewritingAt s s
+    at (Here None) = refl
+    at (Here (Some held)) = inl refl
+    at Out = refl
+
+pub rewritten_at : (told now : Option Holding) (old new : Slot) → IsRewrittenIn told now → Here told ≡ old → new ≡ Here now → IsRewrittenAt old new
+rewritten_at told now old new rewritten was is =
+    subst (λ (s : Slot). IsRewrittenAt s new) was (subst (λ (s : Slot). IsRewrittenAt (Here told) s) (sym is) rewritten)
+
+-- what was counted, by what the folder counted
+pub counts_back : (T : Type 0) (result : Result T KeptFault) (first last : FolderKnown) (old mid new : Known) → mid.faults ≡ old.faults →
+    mid.returned ≡ old.returned → new.faults ≡ mid.faults → first.faults ≡ 0 → Counted first.faults last.faults (fails blame_of result) →
+    Counted mid.returned new.returned (nat_lt 0 last.faults) → CountsRewriting result old new
+counts_back T result first last old mid new calm before still fresh own back = at result own
+  where
+    faults : new.faults ≡ old.faults
+    faults = still ∙ calm
+
+    counted : Counted old.returned new.returned (nat_lt 0 last.faults)
+    counted = subst (λ (n : ℕ). Counted n new.returned (nat_lt 0 last.faults)) before back
+
+    none : last.faults ≡ first.faults → new.returned ≡ old.returned
+    none same = counted.kept (ap (nat_lt 0) (same ∙ fresh))
+
+    above : (n : ℕ) → Rose 0 n → nat_lt 0 n ≡ true
+    above zero rose = absurd (omega (arith, rose))
+    above (suc n) rose = lt-ltb 0 (suc n) (omega arith)
+
+    some : Rose first.faults last.faults → Rose old.returned new.returned
+    some rose = counted.rose (above last.faults (subst (λ (n : ℕ). Rose n last.faults) fresh rose))
+
+    at : (r : Result T KeptFault) → Counted first.faults last.faults (fails blame_of r) → CountsRewriting r old new
+    at (Ok x) own = (faults, none (own.kept refl))
+    at (Err Read) own = inr (faults, some (own.rose refl))
+    at (Err Tree) own = (faults, some (own.rose refl))
+    at (Err OutOfMemory) own = (faults, none (own.kept refl))

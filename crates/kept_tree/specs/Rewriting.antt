@@ -8,9 +8,7 @@ use Rattle.build_manifest.specs.Mark.{MarkView}
 use Rattle.build_manifest.specs.MarkOf.{upgraded}
 use Rattle.build_manifest.specs.Text.{Spells}
 use Rattle.tree_store.specs.declared.holding.Holding.{Holding}
-use Rattle.tree_store.specs.declared.key.BuildKey.{BuildKey}
 use Rattle.tree_store.specs.Holding.{marked, unmarked}
-use Rattle.tree_store.specs.Key.{is_same_build}
 use Rattle.tree_store.specs.Known.{Known}
 use Rattle.tree_store.specs.Moment.{Part, leaves}
 use Rattle.tree_store.specs.Moment.Write.{Mark}
@@ -72,3 +70,24 @@ abbrev pub IsRewrittenIn : Option Holding → Option Holding → Type 0
 IsRewrittenIn (Some held) (Some new) = IsRewritten held new
 IsRewrittenIn (Some held) None = ⊥
 IsRewrittenIn None new = new ≡ None
+
+-- the same of a build
+abbrev pub IsRewritingAt : Slot → Slot → Type 0
+IsRewritingAt (Here (Some held)) (Here (Some image)) = IsRewriting held image
+IsRewritingAt (Here (Some held)) (Here None) = ⊥
+IsRewritingAt (Here (Some held)) Out = ⊥
+IsRewritingAt (Here None) new = new ≡ Here None
+IsRewritingAt Out new = new ≡ Out
+
+abbrev pub IsRewrittenAt : Slot → Slot → Type 0
+IsRewrittenAt (Here told) (Here now) = IsRewrittenIn told now
+IsRewrittenAt (Here told) Out = ⊥
+IsRewrittenAt Out new = new ≡ Out
+
+-- a mark was read and written: either count rose where reading failed, and that of folders with a fault where writing did
+abbrev pub CountsRewriting : {X : Type 0} → Result X KeptFault → Known → Known → Type 0
+CountsRewriting (Ok x) old new = IsCalm old new
+CountsRewriting (Err Read) old new =
+    (Rose old.faults new.faults × (new.returned ≡ old.returned)) ⊎ ((new.faults ≡ old.faults) × Rose old.returned new.returned)
+CountsRewriting (Err Tree) old new = (new.faults ≡ old.faults) × Rose old.returned new.returned
+CountsRewriting (Err OutOfMemory) old new = IsCalm old new

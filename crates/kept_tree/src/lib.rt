@@ -14,4 +14,4 @@ pub use clearing::{clean, clear_apart, empty};
 pub use fault::KeptFault;
 pub use kept::read_kept;
 pub use laws::{clearing_is_honest, rewriting_is_honest};
-pub use rewriting::rewrite;
+pub use rewriting::{rewrite, rewrite_mark};

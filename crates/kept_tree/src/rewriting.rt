@@ -1,20 +1,56 @@
 // Writing older marks again.
-ghost use Rattle.std.specs.Prelude.{◌≡◌, IfOk, IfSome, OnOk, option_map};
+ghost use Rattle.std.specs.Prelude.{◌≡◌, IfOk, IfSome, OnOk, false, option_map};
 ghost use Rattle.mx_base.specs.Blame.{fails};
 ghost use Rattle.mx_base.specs.Causes.{Counted};
 ghost use Rattle.tree_store.specs.Blame as store;
 ghost use Rattle.tree_store.specs.FolderKnown.{Looks, StopsIn};
 ghost use Rattle.tree_store.specs.Holding.{marked};
+ghost use Rattle.tree_store.specs.declared.key.BuildKey.{BuildKey};
+ghost use Rattle.tree_store.specs.Key.{is_same_build};
+ghost use Rattle.tree_store.specs.Slot.{AllHere};
+ghost use Rattle.kept_tree.specs.Faults.{KeepsRest};
 ghost use Rattle.build_manifest.specs.MarkOf.{upgraded};
 ghost use Rattle.build_manifest.specs.Text.{Spells};
-ghost use Rattle.kept_tree.specs.Rewriting.{IsReplacingIn, IsRewritingIn, IsRewrittenIn, IsTextFor, IsTextIn, blame_of};
+ghost use Rattle.kept_tree.specs.Rewriting.{CountsRewriting, IsReplacingIn, IsRewritingAt, IsRewritingIn, IsRewrittenAt, IsRewrittenIn, IsTextFor, IsTextIn, blame_of};
 
 use crate::fault::KeptFault;
 use crate::kept::mark_of_folder;
 use build_manifest::{Mark, MarkFormat, upgrade, write_mark};
-use mx_base::Bytes;
+use mx_base::{AppName, Bytes};
 use std::alloc::{AllocError, Global};
-use tree_store::{Folder, StoreFault};
+use tree_store::{Folder, Store, StoreFault};
+
+/// Writes the mark of an app's build in the environment again in the second form, where it reads and is in the first.
+///
+/// # Errors
+///
+/// `Read` where the store failed or the mark wasn't read, `Tree` where it wasn't written: the build is then as it was,
+/// or has the same files with no mark or a part of the new one.
+pub fn rewrite<S: Store>(
+    alloc: Global,
+    store: &mut S,
+    env: &AppName,
+    app: &AppName,
+) -> Result<(), KeptFault>
+    requires { AllHere (S.known store.old).slot }
+    ensures rewritten { OnOk result (IsRewrittenAt
+        ((S.known store.old).slot (record { env = env.now; app = app.now }))
+        ((S.known store.new).slot (record { env = env.now; app = app.now }))) }
+    ensures part { IsRewritingAt ((S.known store.old).slot (record { env = env.now; app = app.now }))
+        ((S.known store.new).slot (record { env = env.now; app = app.now })) }
+    ensures others { (q : BuildKey) → is_same_build (record { env = env.now; app = app.now }) q
+        ≡ false → (S.known store.new).slot q ≡ (S.known store.old).slot q }
+    ensures keeps { KeepsRest (S.known store.old) (S.known store.new) }
+    ensures counts { CountsRewriting result (S.known store.old) (S.known store.new) }
+{
+    let mut folder = store.folder(alloc, env, app)?;
+    let rewritten = rewrite_mark(alloc, &mut folder);
+    store.give_back(folder);
+    match rewritten {
+        Ok(()) => Ok(()),
+        Err(fault) => Err(fault),
+    }
+}
 
 /// Writes the mark of a folder again in the second form, where it reads and is in the first. A stop on the way leaves
 /// what was there, or the same files with no mark or a part of the new one.
@@ -22,7 +58,7 @@ use tree_store::{Folder, StoreFault};
 /// # Errors
 ///
 /// `Read` where the mark wasn't read, `Tree` where it wasn't written.
-pub fn rewrite<F: Folder>(alloc: Global, folder: &mut F) -> Result<(), KeptFault>
+pub fn rewrite_mark<F: Folder>(alloc: Global, folder: &mut F) -> Result<(), KeptFault>
     ensures rewritten { OnOk result (IsRewrittenIn (F.known folder.old).held
         (F.known folder.new).held) }
     ensures stops { StopsIn (IsRewritingIn (F.known folder.old).held) (F.known folder.old)
