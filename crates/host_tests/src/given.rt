@@ -3,6 +3,7 @@
 use mx_base::{AppName, RelPath};
 use std::alloc::{AllocError, Global};
 use std::fs;
+use std::os::unix::fs::symlink;
 use std::test::Fail;
 use tree_store::StoreFault;
 
@@ -43,7 +44,12 @@ pub(crate) fn same(found: &str, wanted: &str) -> Result<(), Fail> {
     Err(Fail::new("another text"))
 }
 
-// A name of 256 bytes.
+// The file has this text.
+pub(crate) fn reads(rt: HostRuntime, file: &str, wanted: &str) -> Result<(), Fail> {
+    same(fs::read_to_string(&rt, file)?.as_str(), wanted)
+}
+
+// A name of 256 bytes, which no system takes.
 pub(crate) fn long_name(alloc: Global) -> Result<String, AllocError> {
     let mut name = String::new(alloc);
     for _ in 0..256 {
@@ -59,6 +65,14 @@ pub(crate) fn write_files(rt: HostRuntime, folder: &str, files: &[&str]) -> Resu
         let (parent, _) = path.as_str().rsplit_once('/').ok_or("no folder")?;
         fs::create_dir_all(&rt, parent)?;
         fs::write(&rt, path.as_str(), *file)?;
+    }
+    Ok(())
+}
+
+// Makes links, each to what stands before it.
+pub(crate) fn write_links(rt: HostRuntime, links: &[(&str, &str)]) -> Result<(), Fail> {
+    for (to, link) in links {
+        symlink(&rt, *to, *link)?;
     }
     Ok(())
 }

@@ -1,40 +1,61 @@
 // Marks of real files, and which build a folder is of.
 
 use crate::folder_tests::folder_of;
-use crate::given::{failed, name, same, told, write_files};
-use mx_base::Bytes;
+use crate::given::{failed, name, reads, same, told, write_files};
 use std::alloc::Global;
 use std::test::Fail;
-use std::{fs, str};
 use tree_host::{HostFolder, HostStore};
 use tree_store::{Folder, Store};
 
 // The mark of outputs that no files and no needs gave, of 59 bytes.
 const MARK: &str = "mark 1\noptions 1\nx\nsources 0\nneeds 0\noutputs 0\ntext 0\n\nend\n";
 
-fn is_read_back(
-    alloc: Global,
+fn has_mark(
     folder: &mut HostFolder<HostRuntime>,
-    bytes: &[u8],
-) -> Result<bool, Fail> {
-    let found = told(folder.read_mark(alloc))?;
-    Ok(found.is_some_and(|mark: Bytes| mark.as_slice() == bytes))
+    alloc: Global,
+    wanted: &[u8],
+) -> Result<(), Fail> {
+    let mark = told(folder.read_mark(alloc))?.ok_or("no mark")?;
+    if mark.as_slice() == wanted {
+        return Ok(());
+    }
+    Err(Fail::new("another mark"))
+}
+
+fn has_no_mark(folder: &mut HostFolder<HostRuntime>, alloc: Global) -> Result<(), Fail> {
+    match told(folder.read_mark(alloc))? {
+        Some(_) => Err(Fail::new("a mark")),
+        None => Ok(()),
+    }
+}
+
+#[test]
+fn a_folder_gives_back_its_mark(rt: HostRuntime) -> Result<(), Fail> {
+    let alloc = rt.alloc();
+    let mut folder = folder_of(rt, alloc, "marked")?;
+    told(folder.unmark(alloc))?;
+    has_no_mark(&mut folder, alloc)?;
+    told(folder.mark(alloc, b"longer"))?;
+    told(folder.mark(alloc, b"2"))?;
+    has_mark(&mut folder, alloc, b"2")?;
+    reads(rt, "marked/_build/dev/marks/a", "2")?;
+    told(folder.unmark(alloc))?;
+    has_no_mark(&mut folder, alloc)
 }
 
 // The second folder is of a store of its own, as that of a later run.
+fn comes_back_later(rt: HostRuntime, alloc: Global, bytes: &[u8]) -> Result<(), Fail> {
+    let mut folder = folder_of(rt, alloc, "cut")?;
+    told(folder.mark(alloc, bytes))?;
+    let mut later = folder_of(rt, alloc, "cut")?;
+    has_mark(&mut later, alloc, bytes)
+}
+
 #[test]
 fn a_cut_mark_is_read_back(rt: HostRuntime) -> Result<(), Fail> {
-    let alloc = rt.alloc();
     for count in 0..60 {
-        let Some(bytes) = MARK.as_bytes().get(..count) else {
-            return Err(Fail::new("a shorter mark"));
-        };
-        let mut folder = folder_of(rt, alloc, "cut")?;
-        told(folder.mark(alloc, bytes))?;
-        let mut later = folder_of(rt, alloc, "cut")?;
-        if !is_read_back(alloc, &mut later, bytes)? {
-            return Err(Fail::new("another mark"));
-        }
+        let bytes = MARK.as_bytes().get(..count).ok_or("a shorter mark")?;
+        comes_back_later(rt, rt.alloc(), bytes)?;
     }
     Ok(())
 }
@@ -49,10 +70,7 @@ fn a_mark_leaves_the_files_as_they_are(rt: HostRuntime) -> Result<(), Fail> {
         return Err(Fail::new("other files"));
     }
     told(folder.unmark(alloc))?;
-    same(
-        fs::read_to_string(&rt, "beside/_build/dev/lib/a/x")?.as_str(),
-        "x",
-    )
+    reads(rt, "beside/_build/dev/lib/a/x", "x")
 }
 
 // A folder in its place is no mark that could be read, taken away or written.

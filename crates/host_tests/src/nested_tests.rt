@@ -1,6 +1,6 @@
 // A project of real files whose dependencies have dependencies.
 
-use crate::given::same;
+use crate::given::{reads, same};
 use compile_model::EchoCompiler;
 use mix_main::run;
 use mx_base::MemSink;
@@ -61,7 +61,7 @@ fn the_built_files_are_read_back(rt: HostRuntime) -> Result<(), Fail> {
         ("_build/dev/lib/core/core.out", "C\nL\n"),
         ("_build/dev/lib/web/web.out", "W\nL\nC\nL\n"),
     ] {
-        same(fs::read_to_string(&rt, *path)?.as_str(), *text)?;
+        reads(rt, *path, *text)?;
     }
     Ok(())
 }

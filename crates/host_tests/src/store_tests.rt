@@ -1,9 +1,9 @@
 // What a store over a real folder answers.
 
-use crate::given::{failed, long_name, name, path, same, told, write_files};
+use crate::given::{failed, long_name, name, path, same, told, write_files, write_links};
 use mx_base::Bytes;
 use std::alloc::Global;
-use std::os::unix::fs::{PermissionsExt, symlink};
+use std::os::unix::fs::PermissionsExt;
 use std::test::Fail;
 use std::{fs, str};
 use tree_host::HostStore;
@@ -28,34 +28,43 @@ fn push_listed(
     Ok(())
 }
 
-#[test]
-fn a_store_lists_files_in_byte_order(rt: HostRuntime) -> Result<(), Fail> {
+// What `push_listed` adds for each folder.
+fn listed(rt: HostRuntime, root: &str, dirs: &[&str]) -> Result<String, Fail> {
     let alloc = rt.alloc();
-    let files = ["a/b", "a-b", "a/c/d", "project.exs", "_build/x", "z/_build"];
-    write_files(rt, "listed", &files)?;
-    symlink(&rt, "a/b", "listed/file_link")?;
-    symlink(&rt, "a", "listed/folder_link")?;
-    symlink(&rt, "nowhere", "listed/empty_link")?;
-    symlink(&rt, "circle", "listed/circle")?;
     let mut text = String::new(alloc);
-    let mut store = HostStore::new(rt, alloc, "listed")?;
-    for dir in &[
-        "",
-        "a",
-        "a/c",
-        "folder_link",
-        "folder_link/c",
-        "a/b",
-        "missing",
-    ] {
+    let mut store = HostStore::new(rt, alloc, root)?;
+    for dir in dirs {
         push_listed(&mut store, alloc, &mut text, *dir)?;
     }
-    let mut missing = HostStore::new(rt, alloc, "missing")?;
-    push_listed(&mut missing, alloc, &mut text, "")?;
+    Ok(text)
+}
+
+#[test]
+fn a_store_lists_files_in_byte_order(rt: HostRuntime) -> Result<(), Fail> {
+    let files = ["a/b", "a-b", "a/c/d", "project.exs", "_build/x", "z/_build"];
+    write_files(rt, "listed", &files)?;
+    let text = listed(rt, "listed", &["", "a", "a/c", "a/b", "missing"])?;
     same(
         text.as_str(),
-        "a-b a/b a/c/d file_link project.exs z/_build ;a/b a/c/d ;a/c/d ;;;;;;",
-    )
+        "a-b a/b a/c/d project.exs z/_build ;a/b a/c/d ;a/c/d ;;;",
+    )?;
+    same(listed(rt, "missing", &[""])?.as_str(), ";")
+}
+
+#[test]
+fn a_store_lists_what_links_to_files_lead_to(rt: HostRuntime) -> Result<(), Fail> {
+    write_files(rt, "linked", &["a/b", "a/c/d"])?;
+    write_links(
+        rt,
+        &[
+            ("a/b", "linked/file_link"),
+            ("a", "linked/folder_link"),
+            ("nowhere", "linked/empty_link"),
+            ("circle", "linked/circle"),
+        ],
+    )?;
+    let text = listed(rt, "linked", &["", "folder_link", "folder_link/c"])?;
+    same(text.as_str(), "a/b a/c/d file_link ;;;")
 }
 
 fn answer(
@@ -85,32 +94,45 @@ fn push_read(
     Ok(())
 }
 
-#[test]
-fn a_store_reads_files(rt: HostRuntime) -> Result<(), Fail> {
+// What `push_read` adds for each file.
+fn read(rt: HostRuntime, root: &str, files: &[&str]) -> Result<String, Fail> {
     let alloc = rt.alloc();
-    write_files(rt, "read", &["a/b"])?;
-    symlink(&rt, "a/b", "read/file_link")?;
-    symlink(&rt, "circle", "read/circle")?;
     let mut text = String::new(alloc);
-    let mut store = HostStore::new(rt, alloc, "read")?;
-    for file in &["a/b", "file_link", "circle", "missing", "a/b/c"] {
+    let mut store = HostStore::new(rt, alloc, root)?;
+    for file in files {
         push_read(&mut store, alloc, &mut text, *file)?;
     }
+    Ok(text)
+}
+
+fn cannot_read(rt: HostRuntime, root: &str, file: &str) -> Result<(), Fail> {
+    let alloc = rt.alloc();
+    let mut store = HostStore::new(rt, alloc, root)?;
+    failed(answer(&mut store, alloc, file)?)
+}
+
+#[test]
+fn a_store_reads_files(rt: HostRuntime) -> Result<(), Fail> {
+    write_files(rt, "read", &["a/b"])?;
+    write_links(rt, &[("a/b", "read/file_link"), ("circle", "read/circle")])?;
+    let text = read(
+        rt,
+        "read",
+        &["a/b", "file_link", "circle", "missing", "a/b/c"],
+    )?;
     same(text.as_str(), "a/b;a/b;-;-;-;")?;
-    failed(answer(&mut store, alloc, "a")?)
+    cannot_read(rt, "read", "a")
 }
 
 // Where no permission stops this user the test has nothing to show.
 #[test]
 fn a_file_that_may_not_be_read_is_a_fault(rt: HostRuntime) -> Result<(), Fail> {
-    let alloc = rt.alloc();
     write_files(rt, "guarded", &["closed"])?;
     fs::set_permissions(&rt, "guarded/closed", PermissionsExt::from_mode(0))?;
     if fs::read(&rt, "guarded/closed").is_ok() {
         return Ok(());
     }
-    let mut store = HostStore::new(rt, alloc, "guarded")?;
-    failed(answer(&mut store, alloc, "closed")?)
+    cannot_read(rt, "guarded", "closed")
 }
 
 // Adds the apps of an environment, with a blank after each, and a semicolon.
@@ -129,39 +151,46 @@ fn push_apps(
     Ok(())
 }
 
-#[test]
-fn a_store_lists_apps_that_have_files(rt: HostRuntime) -> Result<(), Fail> {
+// What `push_apps` adds for each environment.
+fn apps(rt: HostRuntime, root: &str, envs: &[&str]) -> Result<String, Fail> {
     let alloc = rt.alloc();
-    let files = ["b/x/y", "a/z", "a-b/z", "_c/z"];
-    write_files(rt, "apps/_build/dev/lib", &files)?;
-    fs::create_dir_all(&rt, "apps/_build/dev/lib/empty/e")?;
-    symlink(&rt, "a", "apps/_build/dev/lib/link")?;
     let mut text = String::new(alloc);
-    let mut store = HostStore::new(rt, alloc, "apps")?;
-    push_apps(&mut store, alloc, &mut text, "dev")?;
-    push_apps(&mut store, alloc, &mut text, "test")?;
-    same(text.as_str(), "_c a b ;;")
+    let mut store = HostStore::new(rt, alloc, root)?;
+    for env in envs {
+        push_apps(&mut store, alloc, &mut text, *env)?;
+    }
+    Ok(text)
 }
 
-#[test]
-fn a_store_lists_what_has_a_mark_alone(rt: HostRuntime) -> Result<(), Fail> {
+// The environments, with a blank after each.
+fn environments(rt: HostRuntime, root: &str) -> Result<String, Fail> {
     let alloc = rt.alloc();
-    write_files(
-        rt,
-        "marks/_build",
-        &["dev/lib/a/z", "dev/marks/b", "test/marks/a", "-/marks/a"],
-    )?;
-    fs::create_dir_all(&rt, "marks/_build/none/lib/a")?;
-    fs::create_dir_all(&rt, "marks/_build/none/marks/a")?;
     let mut text = String::new(alloc);
-    let mut store = HostStore::new(rt, alloc, "marks")?;
-    push_apps(&mut store, alloc, &mut text, "dev")?;
-    push_apps(&mut store, alloc, &mut text, "none")?;
+    let mut store = HostStore::new(rt, alloc, root)?;
     for env in &told(store.environments(alloc))? {
         text.push_str(env.as_str())?;
         text.push(' ')?;
     }
-    same(text.as_str(), "a b ;;dev test ")
+    Ok(text)
+}
+
+#[test]
+fn a_store_lists_apps_that_have_files(rt: HostRuntime) -> Result<(), Fail> {
+    let files = ["b/x/y", "a/z", "a-b/z", "_c/z"];
+    write_files(rt, "apps/_build/dev/lib", &files)?;
+    fs::create_dir_all(&rt, "apps/_build/dev/lib/empty/e")?;
+    write_links(rt, &[("a", "apps/_build/dev/lib/link")])?;
+    same(apps(rt, "apps", &["dev", "test"])?.as_str(), "_c a b ;;")
+}
+
+#[test]
+fn a_store_lists_what_has_a_mark_alone(rt: HostRuntime) -> Result<(), Fail> {
+    let files = ["dev/lib/a/z", "dev/marks/b", "test/marks/a", "-/marks/a"];
+    write_files(rt, "marks/_build", &files)?;
+    fs::create_dir_all(&rt, "marks/_build/none/lib/a")?;
+    fs::create_dir_all(&rt, "marks/_build/none/marks/a")?;
+    same(apps(rt, "marks", &["dev", "none"])?.as_str(), "a b ;;")?;
+    same(environments(rt, "marks")?.as_str(), "dev test ")
 }
 
 // Puts a file of the project, or removes it where there are no bytes.
@@ -200,20 +229,29 @@ fn a_store_changes_files(rt: HostRuntime) -> Result<(), Fail> {
     failed(change(&mut store, alloc, "b", Some("a folder"))?)
 }
 
-// No system takes a name of 256 bytes.
-#[test]
-fn each_call_of_a_store_fails_in_a_root_that_cannot_be(rt: HostRuntime) -> Result<(), Fail> {
-    let alloc = rt.alloc();
+fn store_that_cannot_be(rt: HostRuntime, alloc: Global) -> Result<HostStore<HostRuntime>, Fail> {
     let root = long_name(alloc)?;
-    let mut store = HostStore::new(rt, alloc, root.as_str())?;
-    failed(answer(&mut store, alloc, "x")?)?;
+    Ok(HostStore::new(rt, alloc, root.as_str())?)
+}
+
+#[test]
+fn files_fail_in_a_root_that_cannot_be(rt: HostRuntime) -> Result<(), Fail> {
+    let alloc = rt.alloc();
     let here = path(alloc, "")?;
     if here.is_in_build() {
         return Err(Fail::new("a folder of builds"));
     }
+    let mut store = store_that_cannot_be(rt, alloc)?;
     failed(store.list(alloc, &here))?;
     failed(store.put(alloc, &here, b""))?;
-    failed(store.remove(alloc, &here))?;
+    failed(store.remove(alloc, &here))
+}
+
+#[test]
+fn builds_fail_in_a_root_that_cannot_be(rt: HostRuntime) -> Result<(), Fail> {
+    let alloc = rt.alloc();
+    let mut store = store_that_cannot_be(rt, alloc)?;
+    failed(answer(&mut store, alloc, "x")?)?;
     failed(store.environments(alloc))?;
     failed(store.apps(alloc, &name(alloc, "dev")?))
 }
