@@ -2,7 +2,7 @@
 ghost use Rattle.std.specs.Prelude.{◌≡◌};
 ghost use Rattle.tree_store.specs.Slot.Slot.{Out};
 
-use crate::given::{failing_at, path};
+use crate::given::{path, store_of};
 use mx_base::{AppName, Bytes, NoFaults, RelPath};
 use std::alloc::Global;
 use std::test::Fail;
@@ -22,8 +22,7 @@ fn marked_twice<F: Folder>(alloc: Global, folder: &mut F) -> Result<usize, Store
 {
     folder.mark(alloc, b"one")?;
     let _ = folder.mark(alloc, b"second");
-    let mark = folder.read_mark(alloc)?;
-    Ok(length_of(mark))
+    Ok(length_of(folder.read_mark(alloc)?))
 }
 
 // How long the mark of a build is then, and how many environments and apps there are.
@@ -37,9 +36,9 @@ fn marked<S: Store>(
     let mut folder = store.folder(alloc, name, name)?;
     let mark = marked_twice(alloc, &mut folder);
     store.give_back(folder);
-    let envs = store.environments(alloc)?;
-    let apps = store.apps(alloc, name)?;
-    Ok((mark?, envs.len(), apps.len()))
+    let envs = store.environments(alloc)?.len();
+    let apps = store.apps(alloc, name)?.len();
+    Ok((mark?, envs, apps))
 }
 
 // How long a file is once it was put, and once it was taken away again.
@@ -52,10 +51,10 @@ fn changed<S: Store>(
         return Err(StoreFault::Failed);
     }
     store.put(alloc, path, b"new")?;
-    let there = store.get(alloc, path)?;
+    let there = length_of(store.get(alloc, path)?);
     store.remove(alloc, path)?;
-    let left = store.get(alloc, path)?;
-    Ok((length_of(there), length_of(left)))
+    let left = length_of(store.get(alloc, path)?);
+    Ok((there, left))
 }
 
 // What is answered where these calls of the store and of its folder fail.
@@ -65,13 +64,7 @@ fn marked_at(
     folder_fails: u64,
 ) -> Result<Result<(usize, usize, usize), StoreFault>, Fail> {
     let name = AppName::of(alloc, b"dev")?;
-    let mut store = MemStore::new(
-        alloc,
-        Contents::new(alloc),
-        failing_at(alloc, store_fails)?,
-        failing_at(alloc, 0)?,
-        failing_at(alloc, folder_fails)?,
-    );
+    let mut store = store_of(alloc, Contents::new(alloc), store_fails, folder_fails)?;
     Ok(marked(alloc, &mut store, &name))
 }
 
@@ -117,13 +110,7 @@ fn a_build_is_marked_where_nothing_fails(rt: HostRuntime) -> Result<(), Fail> {
 // What is answered where this call of the store fails.
 fn changed_at(alloc: Global, fails: u64) -> Result<Result<(usize, usize), StoreFault>, Fail> {
     let path = path(alloc, "a/x")?;
-    let mut store = MemStore::new(
-        alloc,
-        Contents::new(alloc),
-        failing_at(alloc, fails)?,
-        failing_at(alloc, 0)?,
-        failing_at(alloc, 0)?,
-    );
+    let mut store = store_of(alloc, Contents::new(alloc), fails, 0)?;
     Ok(changed(alloc, &mut store, &path))
 }
 

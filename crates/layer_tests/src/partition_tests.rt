@@ -4,7 +4,7 @@ ghost use Rattle.compile_model.specs.Planned.{IsNamed};
 ghost use Rattle.tree_store.specs.FolderKnown.{IsBare};
 ghost use Rattle.partition_face.specs.Counts.{CanRun};
 
-use crate::given::{failing_at, only};
+use crate::given::{only, store_of};
 use compile_model::{How, Input, Job, Origin, Verdict};
 use mx_base::{AppName, Bytes, Files, ListOf, Listing, RelPath, Text};
 use partition_face::{
@@ -13,7 +13,7 @@ use partition_face::{
 };
 use std::alloc::Global;
 use std::test::Fail;
-use tree_store::{Contents, Folder, MemFolder, MemStore, Store};
+use tree_store::{Contents, Folder, Store};
 
 // A job without sources.
 fn job_of(alloc: Global, app: AppName, dir: RelPath) -> Job
@@ -45,13 +45,7 @@ fn ran<P: Partition>(
 {
     let app = AppName::of(alloc, b"a")?;
     let dir = RelPath::join(alloc, &RelPath::root(alloc), b"a")?;
-    let mut store = MemStore::new(
-        alloc,
-        Contents::new(alloc),
-        failing_at(alloc, 0)?,
-        failing_at(alloc, 0)?,
-        failing_at(alloc, fails)?,
-    );
+    let mut store = store_of(alloc, Contents::new(alloc), 0, fails)?;
     let Ok(mut folder) = store.folder(alloc, &app, &app) else {
         return Err(Fail::new("no folder"));
     };

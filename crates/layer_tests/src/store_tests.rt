@@ -2,7 +2,7 @@
 ghost use Rattle.std.specs.Prelude.{◌≡◌};
 ghost use Rattle.tree_store.specs.Slot.Slot.{Out};
 
-use crate::given::{failing_at, path};
+use crate::given::{path, store_of};
 use mx_base::{AppName, Bytes, FaultPlan, NoFaults, RelPath};
 use std::alloc::Global;
 use std::test::Fail;
@@ -55,7 +55,7 @@ fn rebuilt<S: Store>(
     if path.is_in_build() {
         return Err(StoreFault::Failed);
     }
-    let listed = store.list(alloc, &RelPath::root(alloc))?;
+    let listed = store.list(alloc, &RelPath::root(alloc))?.len();
     let bytes = match store.get(alloc, path)? {
         Some(bytes) => bytes,
         None => Bytes::new(alloc),
@@ -63,8 +63,8 @@ fn rebuilt<S: Store>(
     let mut folder = store.folder(alloc, name, name)?;
     let files = refilled(alloc, &mut folder, path, bytes.as_slice());
     store.give_back(folder);
-    let apps = store.apps(alloc, name)?;
-    Ok((listed.len(), files?, apps.len()))
+    let apps = store.apps(alloc, name)?.len();
+    Ok((listed, files?, apps))
 }
 
 fn may_cross_threads<T: Send>() {}
@@ -84,13 +84,7 @@ fn rebuilt_at(
 ) -> Result<Result<(usize, usize, usize), StoreFault>, Fail> {
     let name = AppName::of(alloc, b"dev")?;
     let path = path(alloc, "a/x")?;
-    let mut store = MemStore::new(
-        alloc,
-        project(alloc)?,
-        failing_at(alloc, store_fails)?,
-        failing_at(alloc, 0)?,
-        failing_at(alloc, folder_fails)?,
-    );
+    let mut store = store_of(alloc, project(alloc)?, store_fails, folder_fails)?;
     Ok(rebuilt(alloc, &mut store, &name, &path))
 }
 
