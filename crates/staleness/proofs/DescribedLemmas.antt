@@ -31,7 +31,7 @@ row_itself row =
     (and_from (row.length == row.length) (bytes_eq row.digest row.digest) (eq-eqb row.length row.length refl) (bytes_itself row.digest))
     (bytes_itself row.path)
 
-rows_are : (rows others : List FileRow) → same_rows rows others ≡ true → rows ≡ others
+pub rows_are : (rows others : List FileRow) → same_rows rows others ≡ true → rows ≡ others
 rows_are [] [] e = refl
 rows_are [] (g ∷ gs) e = cc
 rows_are (f ∷ fs) [] e = cc
@@ -39,7 +39,7 @@ rows_are (f ∷ fs) (g ∷ gs) e =
     let parts = and_parts (same_row f g) (same_rows fs gs) e in
     ap (λ (x : FileRow). x ∷ fs) (row_is f g parts.0) ∙ ap (λ (xs : List FileRow). g ∷ xs) (rows_are fs gs parts.1)
 
-rows_themselves : (rows : List FileRow) → same_rows rows rows ≡ true
+pub rows_themselves : (rows : List FileRow) → same_rows rows rows ≡ true
 rows_themselves [] = refl
 rows_themselves (f ∷ fs) = and_from (same_row f f) (same_rows fs fs) (row_itself f) (rows_themselves fs)
 

@@ -13,6 +13,6 @@ mod why;
 
 pub use kept::Kept;
 pub use laws::{lists_no_match, matches_what_it_describes};
-pub use matching::{matches_job, matches_need, matches_now};
+pub use matching::{matches_job, matches_need, matches_now, same_rows};
 pub use report::stale_report;
 pub use why::Why;

@@ -49,8 +49,9 @@ fn same_needs(mark: &Mark, outcomes: &[Shared<Outcome>]) -> bool
     true
 }
 
+/// Whether rows are the same, one by one.
 #[tactic(auto, using(crate::proofs::MatchingLemmas::rows_differ))]
-fn same_rows(rows: &[FileRow], others: &[FileRow]) -> bool
+pub fn same_rows(rows: &[FileRow], others: &[FileRow]) -> bool
     ensures { result ≡ same_rows rows.now others.now }
 {
     if rows.len() != others.len() {

@@ -1,0 +1,5 @@
+pub mod AmongLemmas
+pub mod ClearLemmas
+pub mod KeptLemmas
+pub mod LeftLemmas
+pub mod RewriteLemmas

@@ -1,0 +1,5 @@
+pub mod Blame
+pub mod Clearing
+pub mod Faults
+pub mod Reading
+pub mod Rewriting
