@@ -5,7 +5,6 @@ pub mod EntryLemmas
 pub mod FactLemmas
 pub mod OneLemmas
 pub mod OptionLemmas
-pub mod OrderLemmas
 pub mod PrintLemmas
 pub mod PushLemmas
 pub mod ReadLemmas
