@@ -12,5 +12,4 @@ pub mod SomeLemmas
 pub mod SortLemmas
 pub mod SoundLemmas
 pub mod TermLemmas
-pub mod VersionLemmas
 pub mod ViewLemmas
