@@ -7,7 +7,7 @@ use lib.Utf8.{encode}
 use Rattle.std.proofs.lemmas.List.{take_all, take_more}
 use Rattle.project_file.specs.declared.project.Project.{Project}
 use Rattle.project_file.specs.Version.{is_version}
-use Rattle.project_file.proofs.VersionLemmas.{no_text}
+use Rattle.version_req.proofs.VersionLemmas.{no_text}
 use Rattle.std.proofs.lemmas.List.Elements.{All-nil, All-cons, All-head, All-tail}
 use Rattle.semver.proofs.OnLiterals.{semver_on_literals}
 use Rattle.semver.specs.Identifiers.{parts_of}

@@ -14,7 +14,7 @@ use Rattle.dep_options.specs.declared.error.OptionCause.TheVariants.{Shape, BadR
 use Rattle.dep_options.specs.declared.error.OptionError.{OptionError}
 use Rattle.dep_options.specs.Options.{first_of, first_fault, said, given, is_dep_folder, is_dep_source, open_folder, truth_of, names_of, compile_of, folder_of, package_of, manager_of, variables_of}
 use Rattle.term_values.specs.Views.{string_of, list_of, tuple_of, keywords_of, Named}
-use Rattle.dep_options.specs.Views.{app_of}
+use Rattle.term_values.specs.Apps.{app_of}
 
 -- what stands in a declaration
 pub record Written : Type 0 where

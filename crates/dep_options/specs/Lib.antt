@@ -1,5 +1,4 @@
 pub mod Blame
-pub mod Views
 pub mod Options
 pub mod Said
 pub mod Decls

@@ -17,7 +17,7 @@ use Rattle.mx_base.specs.declared.variable.Variable.{Variable}
 use Rattle.dep_options.specs.declared.error.OptionCause.{OptionCause}
 use Rattle.dep_options.specs.declared.error.OptionCause.TheVariants.{UnknownOption, UnsupportedSource, BadValue}
 use Rattle.term_values.specs.Views.{Pair, atom_of, string_of, list_of, map_of, pair_of, all_of, Named}
-use Rattle.dep_options.specs.Views.{if_app, app_of}
+use Rattle.term_values.specs.Apps.{if_app, app_of}
 
 -- the options by name
 abbrev pub options : List (List ℕ × Kind)

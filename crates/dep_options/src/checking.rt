@@ -9,12 +9,12 @@ ghost use Rattle.dep_options.specs.Options.{fits, is_unsupported, fault_of, firs
 use crate::error::OptionCause;
 use crate::kind::{Kind, kind_of};
 use crate::values::{
-    app_of, compile_of, folder_of, manager_of, names_of, package_of, truth_of, variables_of,
+    compile_of, folder_of, manager_of, names_of, package_of, truth_of, variables_of,
 };
 use crate::word::is_word;
 use mx_base::{RelPath, Text, copy_text};
 use std::alloc::{AllocError, Global};
-use term_values::Term;
+use term_values::{Term, app_of};
 
 /// Finds the first fault from the left. Of a repeated option the first counts, and the others are passed over.
 pub(crate) fn check_options(

@@ -4,15 +4,15 @@ ghost use Rattle.std.specs.Option.{option_copied};
 ghost use Rattle.term_values.specs.Views.{named};
 ghost use Rattle.dep_options.specs.declared.decl.CompileBy.TheVariants as by;
 ghost use Rattle.dep_options.specs.Options.{first_of, said, given, truth_of, names_of, compile_of, folder_of, package_of, manager_of, variables_of};
-ghost use Rattle.dep_options.specs.Views.{app_of};
+ghost use Rattle.term_values.specs.Apps.{app_of};
 
 use crate::decl::{CompileBy, Manager};
 use crate::values::{
-    app_of, compile_of, folder_of, manager_of, names_of, package_of, truth_of, variables_of,
+    compile_of, folder_of, manager_of, names_of, package_of, truth_of, variables_of,
 };
 use mx_base::{AppName, ListOf, Names, RelPath, Text, Variables};
 use std::alloc::{AllocError, Global};
-use term_values::Term;
+use term_values::{Term, app_of};
 
 /// The options of a declaration, in their order.
 pub(crate) type Options<'a> = &'a [(&'a Text, &'a Term)];

@@ -2,14 +2,13 @@
 ghost use Rattle.std.specs.Prelude.{◌≡◌, IfOk, option_map, option_and_then, map};
 ghost use Rattle.std.specs.Option.{option_copied};
 ghost use Rattle.term_values.specs.Views.{keywords_of};
-ghost use Rattle.dep_options.specs.Views.{app_of};
+ghost use Rattle.term_values.specs.Apps.{app_of};
 ghost use Rattle.dep_options.specs.Decls.{written_of};
 ghost use Rattle.dep_options.specs.Stated.{written_by, written_as};
 
-use crate::values::app_of;
 use mx_base::{AppName, Bytes, Text};
 use std::alloc::{AllocError, Global};
-use term_values::Term;
+use term_values::{Term, app_of};
 
 /// A term of the shape of a declaration, where nothing but the app was read yet.
 #[derive(Drop)]

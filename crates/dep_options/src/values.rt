@@ -1,39 +1,16 @@
 // What the values of options say.
-ghost use Rattle.std.specs.Prelude.{◌≡◌, not, ◌==◌, IfOk, if◌then◌else◌};
+ghost use Rattle.std.specs.Prelude.{◌≡◌, not, ◌==◌, IfOk};
 ghost use Rattle.std.specs.List.{list_any};
-ghost use Rattle.mx_base.specs.AppName.{is_app_name};
+ghost use Rattle.term_values.specs.Apps.{app_of};
 ghost use Rattle.term_values.specs.Views.{all_of};
-ghost use Rattle.dep_options.specs.Views.{app_of};
 ghost use Rattle.dep_options.specs.Options.{truth_of, names_of, compile_of, folder_of, package_of, manager_of, variable_of, tuple_variable_of, variables_of};
 
 use crate::decl::{CompileBy, Manager};
 use crate::kept_apart::is_dep_folder;
 use crate::word::is_word;
-use mx_base::{AppName, ListOf, NameError, Names, PathError, RelPath, Text, Variable, Variables};
+use mx_base::{AppName, ListOf, Names, PathError, RelPath, Text, Variable, Variables};
 use std::alloc::{AllocError, Global};
-use term_values::Term;
-
-// The name of an app, where the text is one.
-fn name_of(alloc: Global, text: &[u8]) -> Result<Option<AppName>, AllocError>
-    ensures { IfOk result (λ found.
-        found ≡ (if is_app_name text.now then Some text.now else None)) }
-{
-    match AppName::of(alloc, text) {
-        Ok(name) => Ok(Some(name)),
-        Err(NameError::OutOfMemory) => Err(AllocError),
-        Err(_) => Ok(None),
-    }
-}
-
-// An atom that is the name of an app.
-pub(crate) fn app_of(alloc: Global, term: &Term) -> Result<Option<AppName>, AllocError>
-    ensures { IfOk result (λ found. found ≡ app_of term.now) }
-{
-    match term.as_atom() {
-        Some(name) => name_of(alloc, name.as_slice()),
-        None => Ok(None),
-    }
-}
+use term_values::{Term, app_named, app_of};
 
 // An atom or a string that is the name of an app.
 pub(crate) fn package_of(alloc: Global, term: &Term) -> Result<Option<AppName>, AllocError>
@@ -43,7 +20,7 @@ pub(crate) fn package_of(alloc: Global, term: &Term) -> Result<Option<AppName>, 
         return Ok(Some(name));
     }
     match term.as_string() {
-        Some(text) => name_of(alloc, text.as_slice()),
+        Some(text) => app_named(alloc, text.as_slice()),
         None => Ok(None),
     }
 }

@@ -6,7 +6,7 @@ ghost use Rattle.elixir_terms.specs.Limits.{GivesWhere};
 ghost use Rattle.elixir_terms.specs.Within.{deepest};
 
 use crate::frame::Hole;
-use crate::stack::Stack;
+use mx_base::Stack;
 use std::alloc::Global;
 use std::marker::Model;
 use term_tokens::{Fault, TermCause};

@@ -19,7 +19,6 @@ mod keys;
 mod laws;
 mod opened;
 mod reading;
-mod stack;
 mod state;
 
 pub use error::TermError;

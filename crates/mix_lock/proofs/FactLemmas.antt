@@ -13,7 +13,9 @@ use Rattle.mix_lock.specs.declared.deps.Link.{Link}
 use Rattle.mix_lock.specs.declared.entry.LockDep.{LockDep}
 use Rattle.mix_lock.specs.Lock.{IsLockDep}
 use Rattle.mix_lock.specs.Says.{AreRead}
-use Rattle.mix_lock.specs.Terms.{if_app, app_of, names_of, is_version, version_of, is_lower_digit, if_decoded, bytes_in, bytes_of, under, truth_of, says_hexpm, link, three, link_of, dep, dep_by, dep_in, dep_of, deps_of}
+use Rattle.term_values.specs.Apps.{if_app, app_of}
+use Rattle.version_req.specs.Version.{is_version}
+use Rattle.mix_lock.specs.Terms.{names_of, version_of, is_lower_digit, if_decoded, bytes_in, bytes_of, under, truth_of, says_hexpm, link, three, link_of, dep, dep_by, dep_in, dep_of, deps_of}
 
 -- what an answer is made of
 pub record Chained {A B : Type 0} (o : Option A) (f : A → Option B) (b : B) : Type 0 where

@@ -5,7 +5,6 @@ pub mod EntryLemmas
 pub mod FactLemmas
 pub mod OneLemmas
 pub mod OptionLemmas
-pub mod OrderLemmas
 pub mod PrintLemmas
 pub mod PushLemmas
 pub mod ReadLemmas
@@ -13,5 +12,4 @@ pub mod SomeLemmas
 pub mod SortLemmas
 pub mod SoundLemmas
 pub mod TermLemmas
-pub mod VersionLemmas
 pub mod ViewLemmas

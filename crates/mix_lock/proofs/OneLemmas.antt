@@ -1,6 +1,8 @@
 -- The same text says one lock.
 use Rattle.std.proofs.Common.{◌≡◌, ℕ, List, ◌∷◌, Option, Some, None, Result, Ok, Err, refl, sym, ◌∙◌, ap, subst}
+use Rattle.std.specs.List.Sorted.{IsPermutation}
 use Rattle.std.proofs.lemmas.Bool.{true≢false}
+use Rattle.std.proofs.lemmas.List.Sorted.{IsPermutation-sym, IsPermutation-trans}
 use Rattle.std.proofs.lemmas.Option.{same_Some, none-some}
 use Rattle.elixir_terms.specs.declared.error.TermError.{TermError}
 use Rattle.elixir_terms.specs.Refusals.{IsRefusal}
@@ -9,6 +11,7 @@ use Rattle.term_print.specs.Spells.{Spells}
 use Rattle.term_tokens.specs.declared.cause.TermCause.{TermCause}
 use Rattle.term_values.specs.declared.term.Term.{Term}
 use Rattle.term_values.specs.Views.{Pair, map_of}
+use Rattle.mx_base.proofs.KeyedOrder.{one_sorting}
 use Rattle.mix_lock.specs.declared.entry.Entry.{Entry}
 use Rattle.mix_lock.specs.declared.entry.Entry.TheVariants.{Hex}
 use Rattle.mix_lock.specs.declared.entry.HexEntry.{HexEntry}
@@ -22,7 +25,6 @@ use Rattle.mix_lock.specs.Says.AreEntries.{end, refused, later, more}
 use Rattle.mix_lock.specs.Says.TermSays.{no_map, refused as refused_term, good}
 use Rattle.mix_lock.specs.Says.SaysLock.{unread, read}
 use Rattle.mix_lock.specs.Terms.{hex_of}
-use Rattle.mix_lock.proofs.SortLemmas.{one_sorting}
 
 -- no text spells two terms, is refused in two ways, or both spells a term within the limits and is refused
 pub record OneReading : Type 0 where
@@ -112,7 +114,9 @@ term_one {t = t} (good {pairs = ps} {entries = xs} is are same order) (refused_t
     absurd (err_not_ok e xs (same_entries (map_of t) qs ps (Err e) (Ok xs) also is tells are))
 term_one {t = t} (good {pairs = ps} {entries = xs} {sorted = us} is are same order) (good {pairs = qs} {entries = ys} {sorted = vs} also tells moved row) =
     let entries : xs ≡ ys = ok_one xs ys (same_entries (map_of t) ps qs (Ok xs) (Ok ys) is also are tells) in
-    ap (λ (es : List AppEntry). Ok es) (one_sorting xs ys us vs entries same moved order row)
+    let was : IsPermutation ys us = subst (λ (es : List AppEntry). IsPermutation es us) entries same in
+    let kept = IsPermutation-trans us ys vs (IsPermutation-sym ys us was) moved in
+    ap (λ (es : List AppEntry). Ok es) (one_sorting (λ (entry : AppEntry). entry.0) us vs kept order row)
 
 same_error : (d e : TermError) → d.at ≡ e.at → d.cause ≡ e.cause → d ≡ e
 same_error d e places causes =

@@ -22,7 +22,8 @@ use Rattle.mix_lock.specs.Says.IsPair.{good as good_pair, nameless, entryless}
 use Rattle.mix_lock.specs.Says.AreEntries.{end, refused, later, more}
 use Rattle.mix_lock.specs.Says.TermSays.{no_map, refused as refused_term, good}
 use Rattle.mix_lock.specs.Says.SaysLock.{unread, read}
-use Rattle.mix_lock.specs.Terms.{app_of, hex_of, is_hex}
+use Rattle.term_values.specs.Apps.{app_of}
+use Rattle.mix_lock.specs.Terms.{hex_of, is_hex}
 use Rattle.mix_lock.proofs.ApartLemmas.{apps_apart}
 use Rattle.mix_lock.proofs.SortLemmas.{sorted}
 use Rattle.mix_lock.proofs.ViewLemmas.{map_named}

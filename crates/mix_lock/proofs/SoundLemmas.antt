@@ -17,7 +17,9 @@ use Rattle.mix_lock.specs.Says.{AreRead, IsEntry, IsPair, AreEntries}
 use Rattle.mix_lock.specs.Says.IsEntry.{other, hex}
 use Rattle.mix_lock.specs.Says.IsPair.{good}
 use Rattle.mix_lock.specs.Says.AreEntries.{end, more}
-use Rattle.mix_lock.specs.Terms.{app_of, names_of, is_version, version_of, bytes_of, is_hexpm, deps_of, release, release_by, build, build_by, outer_of, hex_entry, with_rest, hex_in, hex_of}
+use Rattle.term_values.specs.Apps.{app_of}
+use Rattle.version_req.specs.Version.{is_version}
+use Rattle.mix_lock.specs.Terms.{names_of, version_of, bytes_of, is_hexpm, deps_of, release, release_by, build, build_by, outer_of, hex_entry, with_rest, hex_in, hex_of}
 use Rattle.mix_lock.proofs.FactLemmas.{AreNamed, chained, app_named, version_is, bytes_are, names_named, deps_named, sound_deps}
 
 record Released (name version inner : Option (List ℕ)) (r : Release) : Type 0 where

@@ -16,7 +16,9 @@ use Rattle.mix_lock.specs.declared.entry.LockDep.{LockDep}
 use Rattle.mix_lock.specs.declared.release.Build.{Build}
 use Rattle.mix_lock.specs.declared.release.Release.{Release}
 use Rattle.mix_lock.specs.Lock.{IsLockDep, IsHexEntry}
-use Rattle.mix_lock.specs.Terms.{is_named, is_hex, if_app, app_of, names_of, is_version, if_version, version_of, is_lower_digit, if_decoded, bytes_in, bytes_of, truth_of, is_hexpm, link, three, link_of, dep, dep_in, dep_of, deps_of, release, release_by, build, build_by, outer_of, hex_entry, with_rest, hex_in, hex_of}
+use Rattle.term_values.specs.Apps.{if_app, app_of}
+use Rattle.version_req.specs.Version.{is_version, if_version}
+use Rattle.mix_lock.specs.Terms.{is_named, is_hex, names_of, version_of, is_lower_digit, if_decoded, bytes_in, bytes_of, truth_of, is_hexpm, link, three, link_of, dep, dep_in, dep_of, deps_of, release, release_by, build, build_by, outer_of, hex_entry, with_rest, hex_in, hex_of}
 use Rattle.mix_lock.specs.Text.{truth_term, keyword, options_term, dep_term, bytes_term, hex_term}
 use Rattle.mix_lock.proofs.ViewLemmas.{atom_is, string_is, list_is, tuple_is, out_atom, out_tuple}
 

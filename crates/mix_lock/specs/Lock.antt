@@ -9,7 +9,8 @@ use Rattle.mix_lock.specs.declared.entry.Entry.{Entry}
 use Rattle.mix_lock.specs.declared.entry.Entry.TheVariants.{Hex, Other}
 use Rattle.mix_lock.specs.declared.entry.HexEntry.{HexEntry}
 use Rattle.mix_lock.specs.declared.entry.LockDep.{LockDep}
-use Rattle.mix_lock.specs.Terms.{is_hex, is_version}
+use Rattle.version_req.specs.Version.{is_version}
+use Rattle.mix_lock.specs.Terms.{is_hex}
 
 -- an app and what stands for it
 abbrev pub AppEntry : Type 0

@@ -17,7 +17,8 @@ use Rattle.mix_lock.specs.declared.entry.LockDep.{LockDep}
 use Rattle.mix_lock.specs.declared.error.LockError.{LockError}
 use Rattle.mix_lock.specs.declared.error.LockError.TheVariants as lock
 use Rattle.mix_lock.specs.Lock.{AppEntry, AreInOrder}
-use Rattle.mix_lock.specs.Terms.{app_of, hex_of, is_hex}
+use Rattle.term_values.specs.Apps.{app_of}
+use Rattle.mix_lock.specs.Terms.{hex_of, is_hex}
 
 -- each requirement is one
 abbrev pub AreRead : List LockDep → Type 0

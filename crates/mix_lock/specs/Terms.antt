@@ -1,13 +1,12 @@
 -- What terms say of a release.
-use Rattle.std.specs.Prelude.{ℕ, Bool, true, false, ◌&&◌, ◌||◌, nat_le, List, [], ◌∷◌, Option, Some, None, option_and_then, Result, Ok, Err, is_ok, if◌then◌else◌, codes, bytes_eq}
+use Rattle.std.specs.Prelude.{ℕ, Bool, true, false, ◌&&◌, ◌||◌, nat_le, List, [], ◌∷◌, Option, Some, None, option_and_then, Result, Ok, Err, if◌then◌else◌, codes, bytes_eq}
 use Rattle.std.specs.List.{list_all}
-use Rattle.std.specs.Str.{is_utf8}
 use Rattle.hex.specs.Hex.{decode_of}
 use Rattle.hex.specs.declared.error.FromHexError.{FromHexError}
-use Rattle.mx_base.specs.AppName.{is_app_name}
-use Rattle.semver.specs.Parse.{version_parts}
 use Rattle.term_values.specs.declared.term.Term.{Term}
+use Rattle.term_values.specs.Apps.{app_of}
 use Rattle.term_values.specs.Views.{Named, atom_of, string_of, list_of, tuple_of, keywords_of, all_of}
+use Rattle.version_req.specs.Version.{if_version}
 use Rattle.mix_lock.specs.declared.entry.HexEntry.{HexEntry}
 use Rattle.mix_lock.specs.declared.entry.LockDep.{LockDep}
 use Rattle.mix_lock.specs.declared.deps.Link.{Link}
@@ -31,23 +30,9 @@ tag_first (Some (tag ∷ ts)) = is_tag tag
 abbrev pub is_hex : Term → Bool
 is_hex t = tag_first (tuple_of t)
 
-abbrev pub if_app : List ℕ → Option (List ℕ)
-if_app name = if is_app_name name then Some name else None
-
--- an atom that is the name of an app
-abbrev pub app_of : Term → Option (List ℕ)
-app_of t = option_and_then if_app (atom_of t)
-
--- a list of such
+-- a list of names of apps
 abbrev pub names_of : Term → Option (List (List ℕ))
 names_of t = option_and_then (all_of app_of) (list_of t)
-
--- a version of Semantic Versioning 2.0.0
-abbrev pub is_version : List ℕ → Bool
-is_version text = is_utf8 text && is_ok (version_parts text)
-
-abbrev pub if_version : List ℕ → Option (List ℕ)
-if_version text = if is_version text then Some text else None
 
 -- a string that is a version
 abbrev pub version_of : Term → Option (List ℕ)
@@ -122,7 +107,7 @@ dep_in ts = None
 unfoldable pub dep_of : Term → Option LockDep
 dep_of t = option_and_then dep_in (tuple_of t)
 
--- a list of such
+-- a list of names of apps
 abbrev pub deps_of : Term → Option (List LockDep)
 deps_of t = option_and_then (all_of dep_of) (list_of t)
 

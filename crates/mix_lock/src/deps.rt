@@ -2,13 +2,15 @@
 ghost use Rattle.std.specs.Prelude.{◌≡◌, codes, IfOk, option_and_then};
 ghost use Rattle.std.specs.Option.{option_copied};
 ghost use Rattle.term_values.specs.Views.{all_of, named};
-ghost use Rattle.mix_lock.specs.Terms.{app_of, under, says_hexpm, truth_of, three, link_in, link_of, dep_by, dep_of, deps_of};
+ghost use Rattle.term_values.specs.Apps.{app_of};
+ghost use Rattle.mix_lock.specs.Terms.{under, says_hexpm, truth_of, three, link_in, link_of, dep_by, dep_of, deps_of};
 
 use crate::entry::{LockDep, LockDeps};
-use crate::scalars::{app_of, is_hexpm, truth_of};
+use crate::scalars::{is_hexpm, truth_of};
 use elixir_terms::Term;
 use mx_base::{AppName, Text};
 use std::alloc::{AllocError, Global};
+use term_values::app_of;
 
 // What the options of a dependency say.
 #[derive(Drop)]

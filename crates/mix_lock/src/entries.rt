@@ -9,10 +9,10 @@ ghost use Rattle.mix_lock.specs.Says.{AreRead, IsEntry, IsPair, AreEntries, key_
 use crate::entry::{Entry, LockDep};
 use crate::error::LockError;
 use crate::release::{hex_of, is_hex};
-use crate::scalars::app_of;
 use elixir_terms::{Pairs, Term};
 use mx_base::{AppName, Text, copy_text};
 use std::alloc::{AllocError, Global};
+use term_values::app_of;
 use version_req::{ReqError, Requirement};
 
 /// The apps and their entries, or the first key that is refused.

@@ -1,7 +1,7 @@
 //! The lock of a project: which release of each dependency was picked.
 //!
-//! `entry` has what stands for an app, `lock` the whole. It stands on the terms of `elixir_terms`, the
-//! requirements of `version_req` and the versions of `semver`. A layer above may rely on this: a `Lock` keeps to
+//! `entry` has what stands for an app, `lock` the whole. It stands on the terms of `elixir_terms` and the
+//! requirements and versions of `version_req`. A layer above may rely on this: a `Lock` keeps to
 //! what its text can say, `read_lock` answers exactly what a text says, or why it is refused, and `write_lock`
 //! gives the one text of a lock, which reads back.
 #![tactic(auto)]

@@ -5,10 +5,11 @@ ghost use Rattle.mix_lock.specs.Terms.{is_hexpm, is_tag, is_hex, release_by, bui
 
 use crate::deps::deps_of;
 use crate::entry::{HexEntry, LockDeps};
-use crate::scalars::{HEXPM, app_of, bytes_of, is_hexpm, names_of, version_of};
+use crate::scalars::{HEXPM, bytes_of, is_hexpm, names_of, version_of};
 use elixir_terms::Term;
 use mx_base::{AppName, Bytes, Names, Text};
 use std::alloc::{AllocError, Global};
+use term_values::app_of;
 
 // A release and the checksum of its files.
 #[derive(Drop)]

@@ -1,32 +1,19 @@
 // Names, versions, bytes and truths in terms.
 ghost use Rattle.std.specs.Prelude.{◌≡◌, IfOk};
 ghost use Rattle.std.specs.List.{list_all};
+ghost use Rattle.term_values.specs.Apps.{app_of};
 ghost use Rattle.term_values.specs.Views.{all_of};
-ghost use Rattle.mix_lock.specs.Terms.{app_of, names_of, is_version, version_of, is_lower_digit, bytes_in, bytes_of, truth_of, is_hexpm};
+ghost use Rattle.mix_lock.specs.Terms.{names_of, version_of, is_lower_digit, bytes_in, bytes_of, truth_of, is_hexpm};
 
 use elixir_terms::Term;
 use hex::{FromHexError, decode};
-use mx_base::{AppName, Bytes, NameError, Names, Text};
-use semver::{Error, Version};
+use mx_base::{Bytes, Names, Text};
 use std::alloc::{AllocError, Global};
-use std::str;
+use term_values::app_of;
+use version_req::version_in;
 
 /// The registry that there is.
 pub(crate) const HEXPM: &[u8; 5] = b"hexpm";
-
-/// An atom that is the name of an app.
-pub(crate) fn app_of(alloc: Global, term: &Term) -> Result<Option<AppName>, AllocError>
-    ensures { IfOk result (λ found. found ≡ app_of term.now) }
-{
-    let Some(name) = term.as_atom() else {
-        return Ok(None);
-    };
-    match AppName::of(alloc, name.as_slice()) {
-        Ok(name) => Ok(Some(name)),
-        Err(NameError::OutOfMemory) => Err(AllocError),
-        Err(_) => Ok(None),
-    }
-}
 
 /// A list of atoms that are names of apps.
 pub(crate) fn names_of(alloc: Global, term: &Term) -> Result<Option<Names>, AllocError>
@@ -56,32 +43,9 @@ fn names_in(alloc: Global, items: &[Term]) -> Result<Option<Names>, AllocError>
 pub(crate) fn version_of(alloc: Global, term: &Term) -> Result<Option<Text>, AllocError>
     ensures { IfOk result (λ found. found ≡ version_of term.now) }
 {
-    let Some(text) = term.as_string() else {
-        return Ok(None);
-    };
-    if is_version(alloc, text.as_slice())? {
-        Ok(Some(Text::from_slice(alloc, text.as_slice())?))
-    } else {
-        Ok(None)
-    }
-}
-
-#[tactic(auto, using(crate::proofs::VersionLemmas::text_is_utf8, crate::proofs::VersionLemmas::no_text))]
-fn is_version(alloc: Global, text: &[u8]) -> Result<bool, AllocError>
-    ensures { IfOk result (λ is. is ≡ is_version text.now) }
-{
-    let Ok(text) = str::from_utf8(text) else {
-        return Ok(false);
-    };
-    match Version::parse(alloc, text) {
-        Ok(_) => Ok(true),
-        Err(error) => {
-            if error == Error::from(AllocError) {
-                Err(AllocError)
-            } else {
-                Ok(false)
-            }
-        }
+    match term.as_string() {
+        Some(text) => version_in(alloc, text.as_slice()),
+        None => Ok(None),
     }
 }
 

@@ -1,9 +1,9 @@
 pub mod BlameLemmas
 pub mod BuildNameLemmas
 pub mod FolderLemmas
+pub mod KeyedOrder
 pub mod ListingLemmas
 pub mod NameLemmas
 pub mod OneListing
-pub mod OneOrder
 pub mod OrderLemmas
 pub mod PathLemmas

@@ -17,7 +17,7 @@ use Rattle.project_file.specs.declared.error.SettingsError.{SettingsError}
 use Rattle.project_file.specs.declared.error.SettingsError.TheVariants as setting
 use Rattle.project_file.specs.declared.project.Project.{Project}
 use Rattle.project_file.specs.declared.settings.Settings.{Settings}
-use Rattle.project_file.specs.Version.{is_version}
+use Rattle.version_req.specs.Version.{is_version}
 use Rattle.project_file.specs.Compilers.{settings_of}
 use Rattle.project_file.specs.Files.{IsReadAs, IsRefusedText, IsManifest, SaysProject, IsLoaded, SaysSettings, AreSettings}
 use Rattle.project_file.specs.Files.IsManifest.{unread, read}

@@ -24,7 +24,7 @@ use Rattle.project_file.specs.Files.{IsManifest, SaysProject}
 use Rattle.project_file.specs.Files.IsManifest.{unread as unread_text}
 use Rattle.project_file.specs.Files.SaysProject.{absent, loaded, refused}
 use Rattle.project_file.specs.Manifest.{stated_of, project_of, IsProject}
-use Rattle.project_file.specs.Version.{is_version}
+use Rattle.version_req.specs.Version.{is_version}
 use Rattle.project_file.specs.Manifest.IsProject.{shape, bare, options, whole}
 use Rattle.project_file.specs.Refusals.{term_refused, refused_as, options_refused}
 

@@ -1,25 +1,12 @@
--- Texts that are versions.
+-- The versions that manifests state.
 use Rattle.std.proofs.Common.{◌≡◌, ℕ, List, Bool, true, false, Option, Some, None, option_map, option_and_then, IsTrue, if◌then◌else◌, codes, refl, sym, ◌∙◌, ap, subst}
-use Rattle.std.specs.Str.{is_utf8, IsUtf8}
-use Rattle.std.proofs.lemmas.Str.{IsUtf8-from_is_utf8, is_utf8-from_IsUtf8}
 use Rattle.term_values.specs.declared.term.Term.{Term}
 use Rattle.term_values.specs.Views.{string_of, Named}
 use Rattle.dep_options.specs.Options.{first_of}
 use Rattle.project_file.specs.declared.manifest.Header.{Header}
 use Rattle.project_file.specs.Entries.{stated_in}
-use Rattle.project_file.specs.Manifest.{Stated, entries_of, if_version, version_of, stated, stated_by, stated_of}
-use Rattle.project_file.specs.Version.{is_version}
-
-pub text_is_utf8 : (text : List ℕ) → IsUtf8 text → is_utf8 text ≡ true
-text_is_utf8 = is_utf8-from_IsUtf8
-
--- a text that isn't UTF-8 fails the test
-pub no_text : (text : List ℕ) → (IsUtf8 text → ⊥) → is_utf8 text ≡ false
-no_text text none = at (is_utf8 text) refl
-  where
-    at : (b : Bool) → is_utf8 text ≡ b → b ≡ false
-    at true e = absurd (none (IsUtf8-from_is_utf8 text e))
-    at false e = refl
+use Rattle.project_file.specs.Manifest.{Stated, entries_of, version_of, stated, stated_by, stated_of}
+use Rattle.version_req.specs.Version.{is_version, if_version}
 
 some_same : {A : Type 0} (a b : A) → Some a ≡ Some b → a ≡ b
 some_same a b e = cc

@@ -1,5 +1,5 @@
 pub mod Blame
-pub mod Version
+pub use Rattle.version_req.specs.Version
 pub mod Manifest
 pub mod Compilers
 pub mod Files

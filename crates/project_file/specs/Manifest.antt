@@ -1,13 +1,13 @@
 -- What the term of a manifest says.
-use Rattle.std.specs.Prelude.{◌≡◌, ℕ, List, [], Option, Some, None, option_map, option_and_then, Result, Ok, Err, IsTrue, if◌then◌else◌, codes}
+use Rattle.std.specs.Prelude.{◌≡◌, ℕ, List, [], Option, Some, None, option_map, option_and_then, Result, Ok, Err, IsTrue, codes}
 use Rattle.term_values.specs.declared.term.Term.{Term}
 use Rattle.dep_options.specs.declared.decl.Decl.{Decl}
 use Rattle.dep_options.specs.declared.error.OptionError.{OptionError}
 use Rattle.dep_options.specs.Decls.{AreDecls}
 use Rattle.dep_options.specs.Options.{first_of, or_else}
 use Rattle.term_values.specs.Views.{string_of, list_of, map_of, keywords_of, all_of, named_of, Named}
-use Rattle.dep_options.specs.Views.{app_of}
-use Rattle.project_file.specs.Version.{is_version}
+use Rattle.term_values.specs.Apps.{app_of}
+use Rattle.version_req.specs.Version.{is_version, if_version}
 use Rattle.project_file.specs.declared.project.Project.{Project}
 use Rattle.project_file.specs.declared.error.ProjectError.{ProjectError}
 use Rattle.project_file.specs.declared.error.ProjectError.TheVariants.{Options, Shape}
@@ -16,9 +16,7 @@ use Rattle.project_file.specs.declared.error.ProjectError.TheVariants.{Options, 
 abbrev pub entries_of : Term → Option (List Named)
 entries_of t = or_else (keywords_of t) (option_and_then (all_of named_of) (map_of t))
 
-abbrev pub if_version : List ℕ → Option (List ℕ)
-if_version text = if is_version text then Some text else None
-
+-- a string that is a version
 abbrev pub version_of : Term → Option (List ℕ)
 version_of t = option_and_then if_version (string_of t)
 

@@ -2,23 +2,21 @@
 ghost use Rattle.std.specs.Prelude.{◌≡◌, IfOk, option_map, option_and_then, codes};
 ghost use Rattle.std.specs.Option.{option_copied};
 ghost use Rattle.dep_options.specs.Options.{first_of};
-ghost use Rattle.dep_options.specs.Views.{app_of};
+ghost use Rattle.term_values.specs.Apps.{app_of};
 ghost use Rattle.term_values.specs.Views.{named};
 ghost use Rattle.mx_base.specs.Blame.{Computes};
 ghost use Rattle.project_file.specs.Entries.{stated_in};
 ghost use Rattle.project_file.specs.Blame.{project_blame};
-ghost use Rattle.project_file.specs.Version.{is_version};
 ghost use Rattle.project_file.specs.Manifest.{version_of, deps_in, stated_by, stated_of, IsProject};
 
 use crate::entries::{entries, first};
 use crate::error::ProjectError;
 use crate::project::{Decls, Project};
 use dep_options::decls;
-use mx_base::{AppName, NameError, RelPath, Text};
-use semver::{Error, Version};
+use mx_base::{AppName, RelPath, Text};
 use std::alloc::{AllocError, Global};
-use std::str;
-use term_values::Term;
+use term_values::{Term, app_of};
+use version_req::version_in;
 
 /// What a manifest states, where its declarations were not read yet.
 #[derive(Drop)]
@@ -71,7 +69,7 @@ fn stated_by<'a>(
     let Some(app) = app_in(alloc, entries)? else {
         return Ok(None);
     };
-    let Some(version) = version_in(alloc, entries)? else {
+    let Some(version) = stated_version(alloc, entries)? else {
         return Ok(None);
     };
     match deps_in(entries) {
@@ -90,7 +88,7 @@ fn app_in(alloc: Global, entries: &[(&Text, &Term)]) -> Result<Option<AppName>, 
     }
 }
 
-fn version_in(alloc: Global, entries: &[(&Text, &Term)]) -> Result<Option<Text>, AllocError>
+fn stated_version(alloc: Global, entries: &[(&Text, &Term)]) -> Result<Option<Text>, AllocError>
     ensures { IfOk result (λ found. found ≡ option_and_then version_of
         (first_of (codes "version") (named entries.now))) }
 {
@@ -114,49 +112,12 @@ fn deps_in<'a>(entries: &[(&'a Text, &'a Term)]) -> Option<Option<&'a Term>>
     }
 }
 
-// An atom that is the name of an app.
-fn app_of(alloc: Global, term: &Term) -> Result<Option<AppName>, AllocError>
-    ensures { IfOk result (λ found. found ≡ app_of term.now) }
-{
-    let Some(name) = term.as_atom() else {
-        return Ok(None);
-    };
-    match AppName::of(alloc, name.as_slice()) {
-        Ok(name) => Ok(Some(name)),
-        Err(NameError::OutOfMemory) => Err(AllocError),
-        Err(_) => Ok(None),
-    }
-}
-
 // A string that is a version.
 fn version_of(alloc: Global, term: &Term) -> Result<Option<Text>, AllocError>
     ensures { IfOk result (λ found. found ≡ version_of term.now) }
 {
-    let Some(text) = term.as_string() else {
-        return Ok(None);
-    };
-    if is_version(alloc, text.as_slice())? {
-        Ok(Some(Text::from_slice(alloc, text.as_slice())?))
-    } else {
-        Ok(None)
-    }
-}
-
-#[tactic(auto, using(crate::proofs::VersionLemmas::text_is_utf8, crate::proofs::VersionLemmas::no_text))]
-fn is_version(alloc: Global, text: &[u8]) -> Result<bool, AllocError>
-    ensures { IfOk result (λ is. is ≡ is_version text.now) }
-{
-    let Ok(text) = str::from_utf8(text) else {
-        return Ok(false);
-    };
-    match Version::parse(alloc, text) {
-        Ok(_) => Ok(true),
-        Err(error) => {
-            if error == Error::from(AllocError) {
-                Err(AllocError)
-            } else {
-                Ok(false)
-            }
-        }
+    match term.as_string() {
+        Some(text) => version_in(alloc, text.as_slice()),
+        None => Ok(None),
     }
 }

@@ -1,6 +1,6 @@
 // What a manifest says.
 ghost use Rattle.std.specs.Prelude.{IsTrue};
-ghost use Rattle.project_file.specs.Version.{is_version};
+ghost use Rattle.version_req.specs.Version.{is_version};
 
 use dep_options::Decl;
 use mx_base::{AppName, ListOf, Text};

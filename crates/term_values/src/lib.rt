@@ -4,7 +4,9 @@
 //! and the others answer by these definitions. It stands on the texts of `mx_base`.
 #![tactic(auto)]
 
+mod apps;
 mod term;
 mod views;
 
+pub use apps::{app_named, app_of};
 pub use term::{Pairs, Term, Terms};

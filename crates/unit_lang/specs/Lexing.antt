@@ -108,8 +108,3 @@ reference_of (Some parts) = if is_name parts.0 && is_name parts.1 then Some (Ref
 -- what a word is in an expression; 0 stands for a number that is too great
 abbrev pub operand : List ℕ → Option Expression
 operand word = if are_digits word then Some (Number (pos (unwrap_or (number_of word) 0))) else (if is_name word then Some (Name word) else reference_of (dotted word))
-
--- the top of a stack
-abbrev pub first : {X : Type 0} → List X → Option X
-first [] = None
-first (x ∷ xs) = Some x

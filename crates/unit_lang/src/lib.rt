@@ -16,7 +16,6 @@ mod lexer;
 mod line;
 mod parse;
 mod progress;
-mod stack;
 mod state;
 mod token;
 mod unit;

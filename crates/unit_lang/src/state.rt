@@ -8,11 +8,10 @@ ghost use Rattle.unit_lang.specs.declared.token.Token.TheVariants.{Close, Minus,
 use crate::bytes::is_name;
 use crate::error::UnitCause;
 use crate::level::{Hole, Level, Sum, times};
-use crate::stack::Stack;
 use crate::token::Token;
 use crate::unit::{Expression, Statement};
 use crate::words::{boxed_operand, used};
-use mx_base::Text;
+use mx_base::{Stack, Text};
 use sqlite_items::Boxed;
 use std::alloc::{AllocError, Global};
 

@@ -8,3 +8,4 @@ pub mod ScanSteps
 pub mod Sound
 pub mod Turns
 pub mod Answered
+pub mod VersionLemmas

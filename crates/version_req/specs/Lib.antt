@@ -5,3 +5,4 @@ pub mod Meaning
 pub mod Reading
 pub mod Refusal
 pub mod Stops
+pub mod Version

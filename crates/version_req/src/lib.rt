@@ -13,6 +13,7 @@ mod parse;
 mod requirement;
 mod scan;
 mod scanned;
+mod version;
 
 pub use error::ReqError;
 pub use matching::{compare, matches};
@@ -20,3 +21,4 @@ pub use operator::Operator;
 pub use requirement::{
     Comparison, Requirement, each_is_read_or_refused, one_refusal, one_requirement,
 };
+pub use version::version_in;

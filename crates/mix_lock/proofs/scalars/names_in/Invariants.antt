@@ -1,6 +1,6 @@
 use Rattle.std.proofs.Common.{◌≡◌, ◌++◌, drop, option_map}
 use Rattle.term_values.specs.Views.{all_of}
-use Rattle.mix_lock.specs.Terms.{app_of}
+use Rattle.term_values.specs.Apps.{app_of}
 use Rattle.mix_lock.proofs.scalars.names_in.Given as goal
 
 abbrev pub invariant-loop-item : goal.invariant-loop-item
