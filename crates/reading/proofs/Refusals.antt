@@ -5,7 +5,7 @@ use Rattle.std.proofs.lemmas.Bool.{cases_order}
 use Rattle.reading.specs.Refusal.{Begins, IsRefusedAt, IsStuck}
 
 -- one place at most
-pub one_place : (Spells : List ℕ → Type 0) (text : List ℕ) (at other : ℕ)
+pub one_place : {X : Type 0} (Spells : List X → Type 0) (text : List X) (at other : ℕ)
     → IsRefusedAt Spells text at → IsRefusedAt Spells text other → at ≡ other
 one_place Spells text at other a b =
     ⊎_elim (λ e. e)
@@ -14,20 +14,20 @@ one_place Spells text at other a b =
     (λ (h : other < at). absurd (b.longest at h a.within a.begins)) more) (cases_order at other)
 
 -- none where the language has the text
-pub exclusive : (Spells : List ℕ → Type 0) (text : List ℕ) (at : ℕ) → IsRefusedAt Spells text at → Spells text → ⊥
+pub exclusive : {X : Type 0} (Spells : List X → Type 0) (text : List X) (at : ℕ) → IsRefusedAt Spells text at → Spells text → ⊥
 exclusive Spells text at refused = refused.nothing
 
 -- what begins a text still does with less of it
-shorter_begins : (Spells : List ℕ → Type 0) (front more : List ℕ) → Begins Spells (front ++ more) → Begins Spells front
+shorter_begins : {X : Type 0} (Spells : List X → Type 0) (front more : List X) → Begins Spells (front ++ more) → Begins Spells front
 shorter_begins Spells front more begins = (more ++ begins.0, subst Spells (append_assoc front more begins.0) begins.1)
 
-longer_front : (taken others : List ℕ) (byte k j : ℕ) → k ≡ length taken + suc j
+longer_front : {X : Type 0} (taken others : List X) (byte : X) (k j : ℕ) → k ≡ length taken + suc j
     → take k (taken ++ byte ∷ others) ≡ (taken ++ byte ∷ []) ++ take j others
 longer_front taken others byte k j place =
     rw (place, append_assoc taken (byte ∷ []) (take j others)) (take-append-add taken (byte ∷ others) (suc j))
 
-no_longer : (Spells : List ℕ → Type 0) (taken left : List ℕ)
-    → ((byte : ℕ) (others : List ℕ) → left ≡ byte ∷ others → Begins Spells (taken ++ byte ∷ []) → ⊥)
+no_longer : {X : Type 0} (Spells : List X → Type 0) (taken left : List X)
+    → ((byte : X) (others : List X) → left ≡ byte ∷ others → Begins Spells (taken ++ byte ∷ []) → ⊥)
     → (k : ℕ) → length taken < k → k ≤ length (taken ++ left) → Begins Spells (take k (taken ++ left)) → ⊥
 no_longer Spells taken [] refuses k over within begins = absurd (omega (arith, ap length (append-nil taken)))
 no_longer Spells taken (byte ∷ others) refuses k over within begins =
@@ -37,8 +37,8 @@ no_longer Spells taken (byte ∷ others) refuses k over within begins =
     (subst (Begins Spells) (longer_front taken others byte k j place) begins))
 
 -- what was taken begins a text, with the next byte it doesn't: there the text is refused
-pub refused_where : (Spells : List ℕ → Type 0) (taken left : List ℕ) → (Spells (taken ++ left) → ⊥) → Begins Spells taken
-    → ((byte : ℕ) (others : List ℕ) → left ≡ byte ∷ others → Begins Spells (taken ++ byte ∷ []) → ⊥)
+pub refused_where : {X : Type 0} (Spells : List X → Type 0) (taken left : List X) → (Spells (taken ++ left) → ⊥) → Begins Spells taken
+    → ((byte : X) (others : List X) → left ≡ byte ∷ others → Begins Spells (taken ++ byte ∷ []) → ⊥)
     → IsRefusedAt Spells (taken ++ left) (length taken)
 refused_where Spells taken left nothing begins refuses = record {
   nothing = nothing;
@@ -48,9 +48,9 @@ refused_where Spells taken left nothing begins refuses = record {
 }
 
 -- a reader accepts the language, what was taken has led it to a state, and there it is stuck
-pub refused_where_stuck : (Spells : List ℕ → Type 0) {S : Type 0} (Leads : S → List ℕ → Type 0) (start state : S) (taken left : List ℕ)
-    → ((text : List ℕ) → Spells text → Leads start text) → ((text : List ℕ) → Leads start text → Spells text)
-    → ((more : List ℕ) → Leads start (taken ++ more) → Leads state more) → ((more : List ℕ) → Leads state more → Leads start (taken ++ more))
+pub refused_where_stuck : {X : Type 0} (Spells : List X → Type 0) {S : Type 0} (Leads : S → List X → Type 0) (start state : S) (taken left : List X)
+    → ((text : List X) → Spells text → Leads start text) → ((text : List X) → Leads start text → Spells text)
+    → ((more : List X) → Leads start (taken ++ more) → Leads state more) → ((more : List X) → Leads state more → Leads start (taken ++ more))
     → IsStuck Leads state left → IsRefusedAt Spells (taken ++ left) (length taken)
 refused_where_stuck Spells Leads start state taken left accepts spells on back stuck =
     refused_where Spells taken left
@@ -60,8 +60,8 @@ refused_where_stuck Spells Leads start state taken left accepts spells on back s
     (on (byte ∷ begins.0) (subst (Leads start) (append_assoc taken (byte ∷ []) begins.0) (accepts _ begins.1))))
 
 -- the same language told otherwise
-pub refused_same : (Spells Other : List ℕ → Type 0) → ((text : List ℕ) → Spells text → Other text) → ((text : List ℕ) → Other text → Spells text)
-    → (text : List ℕ) (at : ℕ) → IsRefusedAt Spells text at → IsRefusedAt Other text at
+pub refused_same : {X : Type 0} (Spells Other : List X → Type 0) → ((text : List X) → Spells text → Other text) → ((text : List X) → Other text → Spells text)
+    → (text : List X) (at : ℕ) → IsRefusedAt Spells text at → IsRefusedAt Other text at
 refused_same Spells Other on back text at refused = record {
   nothing = λ h. refused.nothing (back text h);
   within = refused.within;

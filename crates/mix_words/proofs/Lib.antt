@@ -1,0 +1,10 @@
+pub mod ChoiceLemmas
+pub mod GoesLemmas
+pub mod LeadLemmas
+pub mod LiveLemmas
+pub mod MeaningLemmas
+pub mod NamedLemmas
+pub mod NumberLemmas
+pub mod PieceLemmas
+pub mod RefusedLemmas
+pub mod StateLemmas

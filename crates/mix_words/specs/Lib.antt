@@ -1,0 +1,9 @@
+pub mod Choice
+pub mod Live
+pub mod Meaning
+pub mod Numbers
+pub mod Piece
+pub mod Reading
+pub mod Said
+pub mod Sofar
+pub mod Table
