@@ -1,10 +1,11 @@
 -- Environments and targets that have the name of a build.
-use Rattle.std.proofs.Common.{◌≡◌, ◌⊎◌, ℕ, suc, ◌+◌, ◌<◌, ◌≤◌, ◌^◌, ◌<◌, Bool, true, false, cond, ◌&&◌, not, List, [], ◌∷◌, ◌++◌, length, Option, Some, None, refl, sym, ap, ◌∙◌, subst, arith, inl, inr, ⊎_elim, length-append, lit≤, lit<}
+use Rattle.std.proofs.Common.{◌≡◌, ◌⊎◌, ℕ, zero, suc, ◌+◌, ◌/◌, ◌%◌, ◌<◌, ◌≤◌, ◌^◌, Bool, true, false, cond, ◌&&◌, not, List, [], ◌∷◌, ◌++◌, length, Option, Some, None, refl, sym, ap, ◌∙◌, subst, arith, inl, inr, ⊎_elim, length-append, lit≤, lit<}
 use Rattle.std.specs.Prelude.{if◌then◌else◌, codes, bytes_eq, IsTrue, IsFalse, ◌↔◌, decimal, IfSome, slice_index}
-use Rattle.std.proofs.lemmas.Fmt.{decimal_digit, decimal_nonempty}
-use Rattle.std.proofs.lemmas.Bool.{and_parts}
+use Rattle.std.proofs.lemmas.Fmt.{decimal_digit, decimal_nonempty, decimal_step}
+use Rattle.std.proofs.lemmas.Bool.{and_parts, both_ways, true_from_ne_false}
 use Rattle.std.proofs.lemmas.Slice.Eq.{bytes_eq-Decides}
-use Rattle.mx_base.specs.AppName.{IsAppName, fits_at}
+use Rattle.mx_base.specs.AppName.{IsAppName, fits_at, is_app_name}
+use Rattle.mx_base.proofs.NameLemmas.{is_name_of_fits}
 use Rattle.mx_base.specs.BuildName.{HasBuildName, begins_tagged, build_name, host, is_plain, tagged}
 use Rattle.mix_words.specs.Choice.{dev}
 use Rattle.mix_words.specs.Live.{HasEnv, HasTarget}
@@ -15,7 +16,7 @@ tagged_length env target = 3 + length (decimal (length target)) + length target 
 
 tagged_long : (env target : List ℕ) → length (tagged env target) ≡ tagged_length env target
 tagged_long env target =
-    omega (arith, length-append (decimal (length target)) (95 ∷ target ++ 95 ∷ env), length-append target (95 ∷ env))
+    omega (arith, length-append ((116 ∷ decimal (length target)) ++ 95 ∷ target) (95 ∷ env), length-append (116 ∷ decimal (length target)) (95 ∷ target))
 
 abbrev by_length : Bool → List ℕ → List ℕ → Type 0
 by_length plain env target = length (if plain then env else tagged env target) ≤ 255
@@ -47,8 +48,22 @@ plain_target env target e = (bytes_eq-Decides target host).0 (and_parts (bytes_e
 -- the test by lengths
 pub has_by_length : (env target : List ℕ) (fits : Bool) → is_plain env target ≡ false → length env ≤ 255 → (fits ≡ true → tagged_length env target ≤ 255)
     → (fits ≡ false → 255 < tagged_length env target) → IsTrue fits ↔ HasBuildName env target
-has_by_length env target true plain small yes no = (λ _. short_has env target small (yes refl), λ _. refl)
-has_by_length env target false plain small yes no = (λ (h : false ≡ true). cc, λ (h : HasBuildName env target). absurd (omega (arith, tagged_has env target plain h, no refl)))
+has_by_length env target true plain small fitting never = (λ _. short_has env target small (fitting refl), λ _. refl)
+has_by_length env target false plain small fitting never = (λ (h : false ≡ true). cc, λ (h : HasBuildName env target). absurd (omega (arith, tagged_has env target plain h, never refl)))
+
+-- ---- how many digits a number has
+
+pub one_digit : (n : ℕ) → n < 10 → 1 ≡ length (decimal n)
+one_digit n small = sym (ap length (decimal_digit n small))
+
+one_digit_more : (n : ℕ) → 10 ≤ n → n < 2 ^ 64 → length (decimal n) ≡ length (decimal (n / 10)) + 1
+one_digit_more n large small = ap length (decimal_step n large small) ∙ length-append (decimal (n / 10)) ((48 + n % 10) ∷ [])
+
+pub two_digits : (n : ℕ) → 10 ≤ n → n < 100 → 2 ≡ length (decimal n)
+two_digits n large small = omega (arith, one_digit_more n large (omega arith), one_digit (n / 10) (omega arith))
+
+pub three_digits : (n : ℕ) → 100 ≤ n → n < 256 → 3 ≡ length (decimal n)
+three_digits n large small = omega (arith, one_digit_more n (omega arith) (omega arith), two_digits (n / 10) (omega arith) (omega arith))
 
 -- ---- names that are known
 
@@ -109,3 +124,35 @@ no_env target name no_short has = at (is_plain has.0 target) refl
     at false e =
         let long = tagged_has has.0 target e has.3 in
         no_short (short_has shortest target (lit≤ tt) (omega (arith, long, has.2.not_empty)))
+
+-- ---- no name
+
+pub no_app_name : (text : List ℕ) → IsFalse (is_app_name text) → IsAppName text → ⊥
+no_app_name text no_name is =
+    let named = is_name_of_fits text (λ e. absurd (omega (arith, ap length e, is.not_empty))) is.not_long is.bytes in
+    absurd (cc (named, no_name))
+
+-- ---- the tests, case by case
+
+pub target_given : (env target : List ℕ) (b : Bool) → IsAppName target → (IsTrue b ↔ HasBuildName env target) → IsTrue b ↔ HasTarget env (Some target)
+target_given env target b name iff = (
+  λ h. (target, refl, name, iff.0 h),
+  λ (has : HasTarget env (Some target)). iff.1 (subst (HasBuildName env) (sym has.1) has.3))
+
+pub target_by_host : (env : List ℕ) → HasBuildName env host → IsTrue true ↔ HasTarget env None
+target_by_host env has = (λ _. (host, tt, host_name, has), λ _. refl)
+
+pub target_by_short : (env : List ℕ) (b : Bool) → IsAppName env → (HasBuildName env host → ⊥) → (IsTrue b ↔ HasBuildName env shortest) → IsTrue b ↔ HasTarget env None
+target_by_short env b name other iff = (
+  λ h. (shortest, tt, shortest_name, iff.0 h),
+  λ (has : HasTarget env None). true_from_ne_false b (λ f. no_target env name other (λ s. both_ways b f (iff.1 s)) has))
+
+pub env_given : (env target : List ℕ) (b : Bool) → IsAppName env → (IsTrue b ↔ HasBuildName env target) → IsTrue b ↔ HasEnv (Some env) target
+env_given env target b name iff = (
+  λ h. (env, refl, name, iff.0 h),
+  λ (has : HasEnv (Some env) target). iff.1 (subst (λ (e : List ℕ). HasBuildName e target) (sym has.1) has.3))
+
+pub env_by_short : (target : List ℕ) (b : Bool) → IsAppName target → (IsTrue b ↔ HasBuildName shortest target) → IsTrue b ↔ HasEnv None target
+env_by_short target b name iff = (
+  λ h. (shortest, tt, shortest_name, iff.0 h),
+  λ (has : HasEnv None target). true_from_ne_false b (λ f. no_env target name (λ s. both_ways b f (iff.1 s)) has))

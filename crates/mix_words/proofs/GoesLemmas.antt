@@ -1,6 +1,7 @@
 -- What a piece that may stand next leads to.
 use Rattle.std.proofs.Common.{◌≡◌, ℕ, Bool, true, false, List, [], ◌∷◌, ◌++◌, Option, Some, None, refl, sym, ap, ◌∙◌, subst, append-nil}
-use Rattle.std.specs.Prelude.{IsTrue, IsFalse, IfSome, decimal}
+use Rattle.std.specs.Prelude.{IsTrue, IsFalse, IfSome, decimal, not, ◌&&◌, is_none}
+use Rattle.std.proofs.lemmas.Bool.{and_parts}
 use Rattle.mx_base.specs.AppName.{IsAppName}
 use Rattle.mx_base.specs.BuildName.{HasBuildName}
 use Rattle.reading.specs.Field.{FitInTurn}
@@ -11,10 +12,10 @@ use Rattle.mix_words.specs.declared.option.Flag.{Flag}
 use Rattle.mix_words.specs.declared.option.Flag.TheVariants.{Plain, Trace}
 use Rattle.mix_words.specs.declared.settings.Settings.{Settings}
 use Rattle.mix_words.specs.Choice.{IsApp, Takes, flag_if, given_in, number_in, raised_in, word_in}
-use Rattle.mix_words.specs.Live.{Adds, Goes, HasEnv, HasTarget, Lives, MayGive, State}
+use Rattle.mix_words.specs.Live.{Adds, Goes, HasEnv, HasTarget, Lives, MayGive, State, may_give, may_raise, raise}
 use Rattle.mix_words.specs.Numbers.{IsPartitionCount}
 use Rattle.mix_words.specs.Piece.{Joint, Other, Piece, Raised, Word, flag_in, other_in, value_in}
-use Rattle.mix_words.specs.Table.{takes_run}
+use Rattle.mix_words.specs.Table.{takes_build, takes_run}
 
 -- ---- the settings with one more
 
@@ -232,6 +233,43 @@ goes_trace state lives taken plain trace = record {
     target = lives.target;
   };
 }
+
+unset_at : {X : Type 0} (o : Option X) → is_none o ≡ true → o ≡ None
+unset_at None e = refl
+unset_at (Some x) e = cc
+
+lowered : (b : Bool) → not b ≡ true → b ≡ false
+lowered true e = cc
+lowered false e = refl
+
+pub goes_flag : (state : State) (flag : Flag) → Lives state → may_raise state flag ≡ true → Goes state (Raised flag) (with_settings state (raise state.settings flag))
+goes_flag state Plain lives may =
+    let s = state.settings in
+    let one = and_parts (takes_run state.verb) (not s.plain && (not s.trace && is_none s.partitions)) may in
+    let two = and_parts (not s.plain) (not s.trace && is_none s.partitions) one.1 in
+    let three = and_parts (not s.trace) (is_none s.partitions) two.1 in
+    goes_plain state lives one.0 (lowered s.plain two.0) (lowered s.trace three.0) (unset_at s.partitions three.1)
+goes_flag state Trace lives may =
+    let s = state.settings in
+    let one = and_parts (takes_run state.verb) (not s.plain && not s.trace) may in
+    let two = and_parts (not s.plain) (not s.trace) one.1 in
+    goes_trace state lives one.0 (lowered s.plain two.0) (lowered s.trace two.1)
+
+empty_word : (o : Option Word) → is_none o ≡ true → word_in o ≡ []
+empty_word o e = ap word_in (unset_at o e)
+
+pub may_give_so : (state : State) (option : Valued) → may_give state option ≡ true → MayGive state option
+may_give_so state Env e =
+    let one = and_parts (takes_build state.verb) (is_none state.settings.env) e in
+    record { taken = one.0; free = empty_word state.settings.env one.1; apart = λ (q : Env ≡ Partitions). cc; }
+may_give_so state Target e =
+    let one = and_parts (takes_build state.verb) (is_none state.settings.target) e in
+    record { taken = one.0; free = empty_word state.settings.target one.1; apart = λ (q : Target ≡ Partitions). cc; }
+may_give_so state Partitions e =
+    let s = state.settings in
+    let one = and_parts (takes_run state.verb) (is_none s.partitions && not s.plain) e in
+    let two = and_parts (is_none s.partitions) (not s.plain) one.1 in
+    record { taken = one.0; free = ap number_in (unset_at s.partitions two.0); apart = λ q. lowered s.plain two.1; }
 
 -- ---- other words
 

@@ -4,7 +4,7 @@ use Rattle.std.specs.Prelude.{IsTrue, IfSome, decimal, unwrap_or}
 use Rattle.mx_base.specs.AppName.{IsAppName}
 use Rattle.mx_base.specs.BuildName.{HasBuildName, host}
 use Rattle.mix_words.specs.declared.command.Command.{Command}
-use Rattle.mix_words.specs.declared.command.Command.TheVariants as command
+use Rattle.mix_words.specs.declared.command.Command.TheVariants as commands
 use Rattle.mix_words.specs.declared.option.Valued.{Valued}
 use Rattle.mix_words.specs.declared.option.Valued.TheVariants.{Env, Target, Partitions}
 use Rattle.mix_words.specs.declared.option.Flag.{Flag}
@@ -16,19 +16,19 @@ use Rattle.mix_words.specs.Live.{Adds, Goes, HasEnv, HasTarget, Leads, Lives, Ma
 use Rattle.mix_words.specs.Meaning.{choice_of, made_of}
 use Rattle.mix_words.specs.Numbers.{IsPartitionCount}
 use Rattle.mix_words.specs.Piece.{Joint, Piece, Spaced, Stands, Word, flags_of, others_of, valued_word, values_of, words_in, words_of}
-use Rattle.mix_words.specs.Table.{is_optioned}
+use Rattle.mix_words.specs.Table.{is_optioned, takes_build}
 use Rattle.mix_words.proofs.ChoiceLemmas.{dev_for_host, dev_name, host_name}
 use Rattle.mix_words.proofs.GoesLemmas.{goes_count, goes_env, goes_target, set_count, set_env, set_target, with_settings}
 use Rattle.mix_words.proofs.PieceLemmas.{no_piece}
 use Rattle.mix_words.proofs.StateLemmas.{adds_back, spaced_adds}
 
 pub makes_some : (verb : Verb) (s : Settings) (apps : List Word) → is_optioned verb ≡ true → (c : Command) × (made_of verb s apps ≡ Some c)
-makes_some Get s apps e = (command.Get, refl)
-makes_some Help s apps e = (command.Help, refl)
-makes_some Deps s apps e = (command.Deps (choice_of s), refl)
-makes_some Stale s apps e = (command.Stale (choice_of s), refl)
-makes_some Compile s apps e = (command.Compile (choice_of s) s.partitions s.plain s.trace, refl)
-makes_some Clean s apps e = (command.Clean (choice_of s) apps, refl)
+makes_some Get s apps e = (commands.Get, refl)
+makes_some Help s apps e = (commands.Help, refl)
+makes_some Deps s apps e = (commands.Deps (choice_of s), refl)
+makes_some Stale s apps e = (commands.Stale (choice_of s), refl)
+makes_some Compile s apps e = (commands.Compile (choice_of s) s.partitions s.plain s.trace, refl)
+makes_some Clean s apps e = (commands.Clean (choice_of s) apps, refl)
 makes_some Gen s apps e = cc
 makes_some Batch s apps e = cc
 
@@ -72,17 +72,17 @@ LeadsSomewhere state = (left : List Word) × ((command : Command) × Leads state
 at_its_end : (state : State) → Lives state → HasBuild state.settings → LeadsSomewhere state
 at_its_end state lives build =
     let made = makes_some state.verb state.settings state.others lives.takes.optioned in
-    ([], made.0, ends_here state made.0 lives.takes build made.1)
+    ([], (made.0, ends_here state made.0 lives.takes build made.1))
 
 -- with one piece more, which gives both a name
 after_piece : (state new : State) (p : Piece) → Stands p → Goes state p new → HasBuild new.settings → LeadsSomewhere state
 after_piece state new p stands goes build =
     let end = at_its_end new goes.lives build in
-    (words_in p ++ end.0, end.1.0, adds_back state new p stands goes.adds end.0 end.1.0 end.1.1)
+    (words_in p ++ end.0, (end.1.0, adds_back state new p stands goes.adds end.0 end.1.0 end.1.1))
 
 env_chosen : (state : State) (env : Word) → Lives state → state.settings.target ≡ None → state.settings.env ≡ Some env → HasTarget env None → LeadsSomewhere state
 env_chosen state env lives none is has =
-    let taken = subst (λ (o : Option Word). IfSome o (λ e. IsTrue _ × IsAppName e)) is lives.takes.env in
+    let taken = subst (λ (o : Option Word). IfSome o (λ e. IsTrue (takes_build state.verb) × IsAppName e)) is lives.takes.env in
     let free : word_in state.settings.target ≡ [] = ap word_in none in
     let may : MayGive state Target = record { taken = taken.0; free = free; apart = λ e. cc } in
     let kept : HasEnv state.settings.env has.0 = subst (λ (o : Option Word). HasEnv o has.0) (sym is) (env, refl, taken.1, has.3) in
@@ -91,7 +91,7 @@ env_chosen state env lives none is has =
 
 target_chosen : (state : State) (target : Word) → Lives state → state.settings.env ≡ None → state.settings.target ≡ Some target → HasEnv None target → LeadsSomewhere state
 target_chosen state target lives none is has =
-    let taken = subst (λ (o : Option Word). IfSome o (λ e. IsTrue _ × IsAppName e)) is lives.takes.target in
+    let taken = subst (λ (o : Option Word). IfSome o (λ e. IsTrue (takes_build state.verb) × IsAppName e)) is lives.takes.target in
     let free : word_in state.settings.env ≡ [] = ap word_in none in
     let may : MayGive state Env = record { taken = taken.0; free = free; apart = λ e. cc } in
     let kept : HasTarget has.0 state.settings.target = subst (λ (o : Option Word). HasTarget has.0 o) (sym is) (target, refl, taken.1, has.3) in
@@ -123,7 +123,7 @@ after_value : (state new : State) (option : Valued) (value : Word) → Goes stat
     → (left : List Word) × ((command : Command) × Leads state (valued_word option ∷ left) command)
 after_value state new option value goes =
     let on = lives_leads new goes.lives in
-    (value ∷ on.0, on.1.0, adds_back state new (Spaced option value) tt (spaced_adds state new option value goes.adds) on.0 on.1.0 on.1.1)
+    (value ∷ on.0, (on.1.0, adds_back state new (Spaced option value) tt (spaced_adds state new option value goes.adds) on.0 on.1.0 on.1.1))
 
 none_word : (o : Option Word) → word_in o ≡ [] → o ≡ None
 none_word None e = refl
@@ -134,7 +134,7 @@ env_waits : (state : State) (target : Option Word) → Lives state → MayGive s
 env_waits state None lives may f = (dev, dev_name, subst (HasTarget dev) (sym f) (host, tt, host_name, dev_for_host))
 env_waits state (Some target) lives may f =
     let has = subst (λ (o : Option Word). IfSome o (λ x. HasEnv state.settings.env x)) f lives.target in
-    let taken = subst (λ (o : Option Word). IfSome o (λ e. IsTrue _ × IsAppName e)) f lives.takes.target in
+    let taken = subst (λ (o : Option Word). IfSome o (λ e. IsTrue (takes_build state.verb) × IsAppName e)) f lives.takes.target in
     (has.0, has.2, subst (HasTarget has.0) (sym f) (target, refl, taken.1, has.3))
 
 target_waits : (state : State) (env : Option Word) → Lives state → MayGive state Target → state.settings.env ≡ env
@@ -142,7 +142,7 @@ target_waits : (state : State) (env : Option Word) → Lives state → MayGive s
 target_waits state None lives may f = (host, host_name, subst (λ (o : Option Word). HasEnv o host) (sym f) (dev, tt, dev_name, dev_for_host))
 target_waits state (Some env) lives may f =
     let has = subst (λ (o : Option Word). IfSome o (λ x. HasTarget x state.settings.target)) f lives.env in
-    let taken = subst (λ (o : Option Word). IfSome o (λ e. IsTrue _ × IsAppName e)) f lives.takes.env in
+    let taken = subst (λ (o : Option Word). IfSome o (λ e. IsTrue (takes_build state.verb) × IsAppName e)) f lives.takes.env in
     (has.0, has.2, subst (λ (o : Option Word). HasEnv o has.0) (sym f) (env, refl, taken.1, has.3))
 
 pub waits_leads : (state : State) (option : Valued) → Lives state → MayGive state option

@@ -1,3 +1,4 @@
+pub mod AmongLemmas
 pub mod ChoiceLemmas
 pub mod GoesLemmas
 pub mod LeadLemmas
@@ -5,6 +6,8 @@ pub mod LiveLemmas
 pub mod MeaningLemmas
 pub mod NamedLemmas
 pub mod NumberLemmas
+pub mod OperandLemmas
 pub mod PieceLemmas
+pub mod ReadLemmas
 pub mod RefusedLemmas
 pub mod StateLemmas

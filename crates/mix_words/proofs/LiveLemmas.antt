@@ -1,6 +1,7 @@
 -- What may follow and what may not, option by option.
-use Rattle.std.proofs.Common.{◌≡◌, ◌⊎◌, ℕ, Bool, true, false, List, [], ◌∷◌, ◌++◌, length, Option, Some, None, refl, sym, ap, ◌∙◌, subst, arith, append_assoc, append-nil, length-append, lit≤}
-use Rattle.std.specs.Prelude.{IsTrue, IsFalse, IfSome, codes, decimal, unwrap_or}
+use Rattle.std.proofs.Common.{◌≡◌, ◌⊎◌, ℕ, Bool, true, false, List, [], ◌∷◌, ◌++◌, length, Option, Some, None, refl, sym, ap, ◌∙◌, subst, arith, append_assoc, append-nil, length-append, ⊎_elim}
+use Rattle.std.specs.Prelude.{IsTrue, IsFalse, IfSome, codes, decimal, unwrap_or, not, ◌&&◌, is_none}
+use Rattle.std.proofs.lemmas.Bool.{and_cases}
 use Rattle.mx_base.specs.AppName.{IsAppName, is_app_name}
 use Rattle.mx_base.specs.BuildName.{HasBuildName, host}
 use Rattle.reading.specs.Field.{FitInTurn}
@@ -12,7 +13,7 @@ use Rattle.mix_words.specs.declared.option.Flag.TheVariants.{Plain, Trace}
 use Rattle.mix_words.specs.declared.settings.Settings.{Settings}
 use Rattle.mix_words.specs.declared.verb.Verb.{Verb}
 use Rattle.mix_words.specs.Choice.{HasBuild, IsApp, Takes, dev, env_of, flag_if, given_in, is_among, number_in, raised_in, target_of, word_in}
-use Rattle.mix_words.specs.Live.{Adds, Bars, BarsOption, Goes, HasEnv, HasTarget, Lives, MayGive, Reaches, State}
+use Rattle.mix_words.specs.Live.{Bars, BarsOption, HasEnv, HasTarget, Reaches, State, may_give, may_raise}
 use Rattle.mix_words.specs.Numbers.{IsNumber, IsPartitionCount}
 use Rattle.mix_words.specs.Piece.{Piece, Joint, Raised, Other, Word, flag_in, if_given, if_raised, other_in, value_in}
 use Rattle.mix_words.proofs.ChoiceLemmas.{dev_for_host, dev_name, host_name, shortest, shortest_name}
@@ -111,10 +112,10 @@ module _ (state : State) (value : Word) where
   env_only settings others r = only_word (word_in state.settings.env) value (r.values Env).0 settings.env (r.values Env).1
 
   pub env_not_taken : takes_build state.verb ≡ false → Bars state (Joint Env value)
-  env_not_taken no settings others r =
+  env_not_taken never settings others r =
       let only = env_only settings others r in
       let taken = at_some (λ (e : Word). IsTrue (takes_build state.verb) × IsAppName e) settings.env value only.is r.takes.env in
-      true_or_false (takes_build state.verb) taken.0 no
+      true_or_false (takes_build state.verb) taken.0 never
 
   pub env_given : (word : Word) → state.settings.env ≡ Some word → Bars state (Joint Env value)
   env_given word is settings others r =
@@ -122,14 +123,14 @@ module _ (state : State) (value : Word) where
       let e : word_in (Some word) ≡ [] = ap word_in (sym is) ∙ only.none in cc
 
   pub env_no_name : (IsAppName value → ⊥) → Bars state (Joint Env value)
-  env_no_name no settings others r =
+  env_no_name never settings others r =
       let only = env_only settings others r in
-      no (at_some (λ (e : Word). IsTrue (takes_build state.verb) × IsAppName e) settings.env value only.is r.takes.env).1
+      never (at_some (λ (e : Word). IsTrue (takes_build state.verb) × IsAppName e) settings.env value only.is r.takes.env).1
 
   pub env_no_build : (HasTarget value state.settings.target → ⊥) → Bars state (Joint Env value)
-  env_no_build no settings others r =
+  env_no_build never settings others r =
       let only = env_only settings others r in
-      no (target_of settings, kept_target state.settings.target settings.target (r.values Target).0 (r.values Target).1,
+      never (target_of settings, kept_target state.settings.target settings.target (r.values Target).0 (r.values Target).1,
       name_or_host settings.target (λ t. IsTrue (takes_build state.verb) × IsAppName t) (λ t h. h.1) r.takes.target,
       subst (λ (e : Option Word). HasBuildName (unwrap_or e dev) (target_of settings)) only.is r.build)
 
@@ -144,7 +145,7 @@ module _ (state : State) (value : Word) where
       at_some (λ (t : Word). IsTrue (takes_build state.verb) × IsAppName t) settings.target value (target_only settings others r).is r.takes.target
 
   pub target_not_taken : takes_build state.verb ≡ false → Bars state (Joint Target value)
-  target_not_taken no settings others r = true_or_false (takes_build state.verb) (target_fact settings others r).0 no
+  target_not_taken never settings others r = true_or_false (takes_build state.verb) (target_fact settings others r).0 never
 
   pub target_given : (word : Word) → state.settings.target ≡ Some word → Bars state (Joint Target value)
   target_given word is settings others r =
@@ -152,12 +153,12 @@ module _ (state : State) (value : Word) where
       let e : word_in (Some word) ≡ [] = ap word_in (sym is) ∙ only.none in cc
 
   pub target_no_name : (IsAppName value → ⊥) → Bars state (Joint Target value)
-  target_no_name no settings others r = no (target_fact settings others r).1
+  target_no_name never settings others r = never (target_fact settings others r).1
 
   pub target_no_build : (HasEnv state.settings.env value → ⊥) → Bars state (Joint Target value)
-  target_no_build no settings others r =
+  target_no_build never settings others r =
       let only = target_only settings others r in
-      no (env_of settings, kept_env state.settings.env settings.env (r.values Env).0 (r.values Env).1,
+      never (env_of settings, kept_env state.settings.env settings.env (r.values Env).0 (r.values Env).1,
       name_or_dev settings.env (λ e. IsTrue (takes_build state.verb) × IsAppName e) (λ e h. h.1) r.takes.env,
       subst (λ (t : Option Word). HasBuildName (env_of settings) (unwrap_or t host)) only.is r.build)
 
@@ -174,7 +175,7 @@ module _ (state : State) (value : Word) where
       (count_only settings others r).number (count_only settings others r).is r.takes.partitions
 
   pub count_not_taken : takes_run state.verb ≡ false → Bars state (Joint Partitions value)
-  count_not_taken no settings others r = true_or_false (takes_run state.verb) (count_fact settings others r).0 no
+  count_not_taken never settings others r = true_or_false (takes_run state.verb) (count_fact settings others r).0 never
 
   pub count_given : (n : ℕ) → state.settings.partitions ≡ Some n → Bars state (Joint Partitions value)
   count_given n is settings others r =
@@ -187,10 +188,10 @@ module _ (state : State) (value : Word) where
       (count_fact settings others r).2
 
   pub no_count : ((n : ℕ) → IsNumber 1 64 value n → ⊥) → Bars state (Joint Partitions value)
-  no_count no settings others r =
+  no_count never settings others r =
       let only = count_only settings others r in
       let fact = count_fact settings others r in
-      no only.number (record { bytes = only.bytes; least = fact.1.least; most = fact.1.most; })
+      never only.number (record { bytes = only.bytes; least = fact.1.least; most = fact.1.most; })
 
 -- ---- `--plain` and `--trace`
 
@@ -202,7 +203,7 @@ module _ (state : State) where
   trace_only settings others r = only_flag Trace (flag_if Trace state.settings.trace) Trace (r.flags Trace).0 settings.trace (r.flags Trace).1
 
   plain_not_taken : takes_run state.verb ≡ false → Bars state (Raised Plain)
-  plain_not_taken no settings others r = true_or_false (takes_run state.verb) (r.takes.plain (plain_only settings others r).is) no
+  plain_not_taken never settings others r = true_or_false (takes_run state.verb) (r.takes.plain (plain_only settings others r).is) never
 
   plain_raised : state.settings.plain ≡ true → Bars state (Raised Plain)
   plain_raised is settings others r =
@@ -220,7 +221,7 @@ module _ (state : State) where
       true_or_false settings.plain (plain_only settings others r).is fact.2
 
   trace_not_taken : takes_run state.verb ≡ false → Bars state (Raised Trace)
-  trace_not_taken no settings others r = true_or_false (takes_run state.verb) (r.takes.trace (trace_only settings others r).is).0 no
+  trace_not_taken never settings others r = true_or_false (takes_run state.verb) (r.takes.trace (trace_only settings others r).is).0 never
 
   trace_raised : state.settings.trace ≡ true → Bars state (Raised Trace)
   trace_raised is settings others r =
@@ -230,6 +231,46 @@ module _ (state : State) where
   trace_after_plain is settings others r =
       true_or_false settings.plain (raised_stays Plain state.settings.plain settings.plain (r.flags Plain).0 (r.flags Plain).1 is)
       (r.takes.trace (trace_only settings others r).is).1
+
+-- ---- the tests
+
+some_at : {X : Type 0} (o : Option X) → is_none o ≡ false → (x : X) × (o ≡ Some x)
+some_at None e = cc
+some_at (Some x) e = (x, refl)
+
+raised_at : (b : Bool) → not b ≡ false → b ≡ true
+raised_at true e = refl
+raised_at false e = cc
+
+pub may_not_give : (state : State) (option : Valued) → may_give state option ≡ false → BarsOption state option
+may_not_give state Env e value =
+    ⊎_elim (λ h. env_not_taken state value h)
+    (λ h. let given = some_at state.settings.env h in env_given state value given.0 given.1) (and_cases (takes_build state.verb) (is_none state.settings.env) e)
+may_not_give state Target e value =
+    ⊎_elim (λ h. target_not_taken state value h)
+    (λ h. let given = some_at state.settings.target h in target_given state value given.0 given.1) (and_cases (takes_build state.verb) (is_none state.settings.target) e)
+may_not_give state Partitions e value =
+    let s = state.settings in
+    ⊎_elim (λ h. count_not_taken state value h)
+    (λ h. ⊎_elim (λ k. let given = some_at s.partitions k in count_given state value given.0 given.1)
+    (λ k. count_after_plain state value (raised_at s.plain k)) (and_cases (is_none s.partitions) (not s.plain) h))
+    (and_cases (takes_run state.verb) (is_none s.partitions && not s.plain) e)
+
+pub may_not_raise : (state : State) (flag : Flag) → may_raise state flag ≡ false → Bars state (Raised flag)
+may_not_raise state Plain e =
+    let s = state.settings in
+    ⊎_elim (λ h. plain_not_taken state h)
+    (λ h. ⊎_elim (λ k. plain_raised state (raised_at s.plain k))
+    (λ k. ⊎_elim (λ t. plain_after_trace state (raised_at s.trace t))
+    (λ t. let given = some_at s.partitions t in plain_after_count state given.0 given.1)
+    (and_cases (not s.trace) (is_none s.partitions) k))
+    (and_cases (not s.plain) (not s.trace && is_none s.partitions) h))
+    (and_cases (takes_run state.verb) (not s.plain && (not s.trace && is_none s.partitions)) e)
+may_not_raise state Trace e =
+    let s = state.settings in
+    ⊎_elim (λ h. trace_not_taken state h)
+    (λ h. ⊎_elim (λ k. trace_after_plain state (raised_at s.plain k)) (λ k. trace_raised state (raised_at s.trace k)) (and_cases (not s.plain) (not s.trace) h))
+    (and_cases (takes_run state.verb) (not s.plain && not s.trace) e)
 
 -- ---- other words
 
@@ -241,7 +282,7 @@ fits_at_end verb before (x ∷ xs) word more fits =
 module _ (state : State) (word : Word) where
   pub app_fact : (settings : Settings) (others : List Word) → Reaches state (Other word) settings others → IsApp state.verb state.others word
   app_fact settings others r =
-      fits_at_end state.verb [] state.others word r.more (subst (FitInTurn (IsApp state.verb) []) (sym r.others) r.takes.apps)
+      fits_at_end state.verb [] state.others word r.more (subst (FitInTurn (IsApp state.verb) []) (sym r.whole) r.takes.apps)
 
   pub app_barred : (IsApp state.verb state.others word → ⊥) → Bars state (Other word)
-  app_barred no settings others r = no (app_fact settings others r)
+  app_barred never settings others r = never (app_fact settings others r)

@@ -1,5 +1,5 @@
 -- Words mean one command.
-use Rattle.std.proofs.Common.{◌≡◌, ℕ, Bool, true, false, List, [], ◌∷◌, ◌++◌, Option, Some, None, Result, Ok, refl, sym, ap, ◌∙◌, subst, arith}
+use Rattle.std.proofs.Common.{◌≡◌, ℕ, ◌≤◌, Bool, true, false, List, [], ◌∷◌, ◌++◌, Option, Some, None, Result, Ok, refl, sym, ap, ◌∙◌, subst, arith}
 use Rattle.std.specs.Prelude.{IfSome, decimal}
 use Rattle.std.proofs.lemmas.Fmt.{decimal_injective}
 use Rattle.mix_words.specs.declared.command.Command.{Command}
@@ -64,20 +64,22 @@ one_order verb words a b x y =
     let plain : x.settings.plain ≡ y.settings.plain = same_flag Plain x.settings.plain y.settings.plain (flags Plain) in
     let trace : x.settings.trace ≡ y.settings.trace = same_flag Trace x.settings.trace y.settings.trace (flags Trace) in
     let settings : x.settings ≡ y.settings = λ i. record { env = env i; target = target i; partitions = count i; plain = plain i; trace = trace i } in
-    let apps : x.apps ≡ y.apps = sym x.says.others ∙ ap others_of pieces ∙ y.says.others in
+    let apps : x.apps ≡ y.apps = sym x.says.left ∙ ap others_of pieces ∙ y.says.left in
     let made : Some a ≡ Some b =
         sym x.makes ∙ ap (λ (s : Settings). made_of verb s x.apps) settings ∙ ap (made_of verb y.settings) apps ∙ y.makes in cc
 
 one_units : (words : List Word) (a b : Command) → AsksUnits words a → AsksUnits words b → a ≡ b
 one_units words a b x y =
-    let words : x.first ∷ x.second ∷ [] ≡ y.first ∷ y.second ∷ [] = sym x.words ∙ y.words in
-    let count : x.count ≡ y.count = decimal_injective x.count y.count (omega (arith, x.counts.most)) (omega (arith, y.counts.most)) (sym x.counts.bytes ∙ cc ∙ y.counts.bytes) in
-    let start : x.start ≡ y.start = decimal_injective x.start y.start (omega (arith, x.starts.most)) (omega (arith, y.starts.most)) (sym x.starts.bytes ∙ cc ∙ y.starts.bytes) in
+    let words : x.first ∷ x.second ∷ [] ≡ y.first ∷ y.second ∷ [] = sym x.two ∙ y.two in
+    let first : x.first ≡ y.first = cc in
+    let second : x.second ≡ y.second = cc in
+    let count : x.count ≡ y.count = decimal_injective x.count y.count (omega (arith, x.counts.most)) (omega (arith, y.counts.most)) (sym x.counts.bytes ∙ first ∙ y.counts.bytes) in
+    let start : x.start ≡ y.start = decimal_injective x.start y.start (omega (arith, x.starts.most)) (omega (arith, y.starts.most)) (sym x.starts.bytes ∙ second ∙ y.starts.bytes) in
     cc (x.makes, y.makes)
 
 one_script : (words : List Word) (a b : Command) → AsksScript words a → AsksScript words b → a ≡ b
 one_script words a b x y =
-    let words : x.word ∷ [] ≡ y.word ∷ [] = sym x.words ∙ y.words in
+    let words : x.word ∷ [] ≡ y.word ∷ [] = sym x.one ∙ y.one in
     cc (x.makes, y.makes, x.script.joins, y.script.joins)
 
 one_asked : (verb : Verb) (words : List Word) (a b : Command) → Asks verb words a → Asks verb words b → a ≡ b
@@ -92,7 +94,7 @@ one_asked Batch words a b x y = one_script words a b x y
 
 pub one_meaning : (words : List Word) (a b : Command) → Means words a → Means words b → a ≡ b
 one_meaning words a b x y =
-    let e = sym x.words ∙ y.words in
+    let e = sym x.spelled ∙ y.spelled in
     let verb : x.verb ≡ y.verb = one_name x.verb y.verb (cc e) in
     let behind : x.behind ≡ y.behind = cc e in
     one_asked y.verb y.behind a b

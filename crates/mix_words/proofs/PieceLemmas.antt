@@ -115,12 +115,12 @@ no_piece (Other w) x e = cc
 pub record HasValue (option : Valued) (piece : Piece) (left more : List Word) : Type 0 where
   pub value : Word
   pub rest : List Word
-  pub piece : piece ≡ Spaced option value
-  pub left : left ≡ value ∷ rest
-  pub more : more ≡ rest
+  pub spaced : piece ≡ Spaced option value
+  pub before : left ≡ value ∷ rest
+  pub behind : more ≡ rest
 
 wanted : (option : Valued) (left more : List Word) (p : Piece) → valued_word option ∷ left ≡ words_in p ++ more → Wants option ≡ kind_in p → HasValue option p left more
-wanted option left more (Spaced o v) e k = record { value = v; rest = more; piece = cc; left = cc; more = refl }
+wanted option left more (Spaced o v) e k = record { value = v; rest = more; spaced = cc; before = cc; behind = refl }
 wanted option left more (Joint o v) e k = cc
 wanted option left more (Raised o) e k = cc
 wanted option left more (Other w) e k = cc

@@ -102,9 +102,9 @@ orders_lead verb words command o = record {
   stand = o.says.stand;
   values = λ option. from_unset option _ _ (o.says.values option);
   flags = λ flag. from_lowered flag _ _ (o.says.flags flag);
-  takes = subst (Takes verb o.settings) (sym o.says.others) o.takes;
+  takes = subst (Takes verb o.settings) (sym o.says.left) o.takes;
   build = o.build;
-  makes = ap (made_of verb o.settings) o.says.others ∙ o.makes;
+  makes = ap (made_of verb o.settings) o.says.left ∙ o.makes;
 }
 
 leads_order : (verb : Verb) (words : List Word) (command : Command) → LeadsOn (start_of verb) words command → Orders verb words command
@@ -117,7 +117,7 @@ leads_order verb words command l = record {
     stand = l.stand;
     values = λ option. to_unset option _ _ (l.values option);
     flags = λ flag. to_lowered flag _ _ (l.flags flag);
-    others = refl;
+    left = refl;
   };
   takes = l.takes;
   build = l.build;
@@ -164,7 +164,7 @@ goes_on state (Some option) lives may = waits_leads state option lives may
 led_begins : (verb : Verb) (words : List Word) (place : Place) → Led verb words place → Begins (IsOrdered verb) words
 led_begins verb words place led =
     let on = goes_on place.state place.waiting led.lives.state led.lives.waiting in
-    (on.0, on.1.0, led.back on.0 on.1.0 on.1.1)
+    (on.0, (on.1.0, led.back on.0 on.1.0 on.1.1))
 
 pub refused_at_word : (verb : Verb) (words rest : List Word) (place : Place) (word : Word) → Led verb words place → Dies place word
     → IsRefusedAt (IsOrdered verb) (words ++ word ∷ rest) (length words)
@@ -184,7 +184,7 @@ refused_at_end verb words place led ends =
     (refused_where (IsOrdered verb) words []
     (λ (o : IsOrdered verb (words ++ [])). ends o.0 (led.on [] o.0 o.1))
     (led_begins verb words place led)
-    (λ next others e begins. let no : [] ≡ next ∷ others = e in cc))
+    (λ next others e begins. let never : [] ≡ next ∷ others = e in cc))
 
 -- ---- the same by the table
 

@@ -18,7 +18,7 @@ made_same : (v w : Verb) (s : Settings) (a b : List Word) → v ≡ w → a ≡ 
 made_same v w s a b e f = ap (λ (u : Verb). made_of u s a) e ∙ ap (λ (c : List Word). made_of w s c) f
 
 -- one piece was cut off from the pieces of what leads on
-record Cut (state : State) (piece : Piece) (left : List Word) (command : Command) : Type 0 where
+pub record Cut (state : State) (piece : Piece) (left : List Word) (command : Command) : Type 0 where
   pub pieces : List Piece
   pub settings : Settings
   pub spelled : left ≡ words_of pieces
@@ -28,9 +28,6 @@ record Cut (state : State) (piece : Piece) (left : List Word) (command : Command
   pub takes : Takes state.verb settings (state.others ++ (other_in piece ++ others_of pieces))
   pub build : HasBuild settings
   pub makes : made_of state.verb settings (state.others ++ (other_in piece ++ others_of pieces)) ≡ Some command
-
-abbrev CutsBy : State → (List Word → Piece → List Word → Type 0)
-CutsBy state text piece left = text ≡ words_in piece ++ left
 
 -- what leads on is empty, or has a first piece
 pub record First (state : State) (text : List Word) (command : Command) : Type 0 where
@@ -123,7 +120,7 @@ reached state p left command cut = record {
   values = λ o. (values_of o cut.pieces, cut.values o);
   flags = λ f. (flags_of f cut.pieces, cut.flags f);
   more = others_of cut.pieces;
-  others = refl;
+  whole = refl;
   takes = cut.takes;
   build = cut.build;
 }
@@ -135,7 +132,7 @@ barred state p stands bars left command l =
 as_joint : (state : State) (option : Valued) (value : Word) (settings : Settings) (others : List Word)
     → Reaches state (Spaced option value) settings others → Reaches state (Joint option value) settings others
 as_joint state option value settings others r = record {
-  values = r.values; flags = r.flags; more = r.more; others = r.others; takes = r.takes; build = r.build; }
+  values = r.values; flags = r.flags; more = r.more; whole = r.whole; takes = r.takes; build = r.build; }
 
 pub spaced_bars : (state : State) (option : Valued) (value : Word) → Bars state (Joint option value) → Bars state (Spaced option value)
 spaced_bars state option value bars settings others r = bars settings others (as_joint state option value settings others r)
@@ -148,7 +145,7 @@ pub option_barred : (state : State) (option : Valued) → BarsOption state optio
 option_barred state option bars left command l =
     let first = first_piece state (valued_word option) left command l in
     let has = has_value option left first.left first.piece first.stands first.spelled in
-    let cut = cut_same state (Spaced option has.value) first.piece first.left first.left command (sym has.piece) refl first.cut in
+    let cut = cut_same state (Spaced option has.value) first.piece first.left first.left command (sym has.spaced) refl first.cut in
     spaced_bars state option has.value (bars has.value) cut.settings _ (reached state (Spaced option has.value) first.left command cut)
 
 -- an option can't be the last word
@@ -156,7 +153,7 @@ pub value_wanted : (state : State) (option : Valued) (command : Command) → Lea
 value_wanted state option command l =
     let first = first_piece state (valued_word option) [] command l in
     let has = has_value option [] first.left first.piece first.stands first.spelled in
-    let e : [] ≡ has.value ∷ has.rest = has.left in cc
+    let e : [] ≡ has.value ∷ has.rest = has.before in cc
 
 pub unknown_barred : (state : State) (word : Word) → IsUnknown word → (left : List Word) (command : Command) → Leads state (word ∷ left) command → ⊥
 unknown_barred state word unknown left command l =

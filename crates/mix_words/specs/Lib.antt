@@ -1,4 +1,5 @@
 pub mod Choice
+pub mod Chosen
 pub mod Live
 pub mod Meaning
 pub mod Numbers

@@ -1,5 +1,5 @@
 -- How far words behind a command's name have been read, and what may follow.
-use Rattle.std.specs.Prelude.{◌≡◌, ◌⊎◌, ℕ, Bool, IsTrue, IsFalse, List, [], ◌∷◌, ◌++◌, Option, Some, None, IfSome}
+use Rattle.std.specs.Prelude.{◌≡◌, ◌⊎◌, ℕ, Bool, true, not, ◌&&◌, is_none, IsTrue, IsFalse, List, [], ◌∷◌, ◌++◌, Option, Some, None, IfSome}
 use Rattle.mx_base.specs.AppName.{IsAppName}
 use Rattle.mx_base.specs.BuildName.{HasBuildName}
 use Rattle.mix_words.specs.declared.command.Command.{Command}
@@ -12,7 +12,7 @@ use Rattle.mix_words.specs.declared.verb.Verb.{Verb}
 use Rattle.mix_words.specs.Choice.{HasBuild, Takes, given_in, raised_in, unset}
 use Rattle.mix_words.specs.Meaning.{made_of}
 use Rattle.mix_words.specs.Piece.{Piece, Word, Joint, Stand, words_of, valued_word, value_in, flag_in, other_in, values_of, flags_of, others_of}
-use Rattle.mix_words.specs.Table.{takes_valued}
+use Rattle.mix_words.specs.Table.{takes_build, takes_run, takes_valued}
 
 -- some target has the name of a build in the environment: the one that is given, where one is
 abbrev pub HasTarget : Word → Option Word → Type 0
@@ -64,7 +64,7 @@ pub record Reaches (state : State) (piece : Piece) (settings : Settings) (others
   pub flags : (flag : Flag) → (more : List Flag)
       × (raised_in state.settings flag ++ (flag_in flag piece ++ more) ≡ raised_in settings flag)
   pub more : List Word
-  pub others : state.others ++ (other_in piece ++ more) ≡ others
+  pub whole : state.others ++ (other_in piece ++ more) ≡ others
   pub takes : Takes state.verb settings others
   pub build : HasBuild settings
 
@@ -76,6 +76,23 @@ pub record MayGive (state : State) (option : Valued) : Type 0 where
   pub taken : IsTrue (takes_valued state.verb option)
   pub free : given_in state.settings option ≡ []
   pub apart : option ≡ Partitions → IsFalse state.settings.plain
+
+-- the same as a test
+abbrev pub may_give : State → Valued → Bool
+may_give state Env = takes_build state.verb && is_none state.settings.env
+may_give state Target = takes_build state.verb && is_none state.settings.target
+may_give state Partitions = takes_run state.verb && (is_none state.settings.partitions && not state.settings.plain)
+
+-- whether a flag may stand next
+abbrev pub may_raise : State → Flag → Bool
+may_raise state Plain =
+    takes_run state.verb && (not state.settings.plain && (not state.settings.trace && is_none state.settings.partitions))
+may_raise state Trace = takes_run state.verb && (not state.settings.plain && not state.settings.trace)
+
+-- with a flag
+abbrev pub raise : Settings → Flag → Settings
+raise settings Plain = record settings { plain = true }
+raise settings Trace = record settings { trace = true }
 
 -- it may not, whatever its value
 abbrev pub BarsOption : State → Valued → Type 0

@@ -2,29 +2,29 @@
 use Rattle.std.specs.Prelude.{◌≡◌, ℕ, List, [], ◌∷◌, IsFalse, Option, Some, None, Result, Ok, Err}
 use Rattle.mx_base.specs.Join.{joined}
 use Rattle.mx_base.specs.Layout.{is_in_build}
-use Rattle.mix_words.specs.declared.command.BuildChoice.{BuildChoice}
 use Rattle.mix_words.specs.declared.command.Command.{Command}
-use Rattle.mix_words.specs.declared.command.Command.TheVariants as command
+use Rattle.mix_words.specs.declared.command.Command.TheVariants as commands
 use Rattle.mix_words.specs.declared.settings.Settings.{Settings}
 use Rattle.mix_words.specs.declared.verb.Verb.{Verb}
 use Rattle.mix_words.specs.declared.verb.Verb.TheVariants.{Get, Help, Deps, Stale, Compile, Clean, Gen, Batch}
+use Rattle.mix_words.specs.Chosen.{Chosen}
 use Rattle.mix_words.specs.Choice.{HasBuild, Takes, env_of, target_of}
 use Rattle.mix_words.specs.Numbers.{IsNumber, most_units, most_start}
 use Rattle.mix_words.specs.Piece.{Word, is_dashed}
 use Rattle.mix_words.specs.Said.{Says}
 use Rattle.mix_words.specs.Table.{name_of}
 
-abbrev pub choice_of : Settings → BuildChoice
+abbrev pub choice_of : Settings → Chosen
 choice_of settings = record { env = env_of settings; target = target_of settings }
 
 -- the command that a name, settings and apps make
 abbrev pub made_of : Verb → Settings → List Word → Option Command
-made_of Get settings apps = Some command.Get
-made_of Help settings apps = Some command.Help
-made_of Deps settings apps = Some (command.Deps (choice_of settings))
-made_of Stale settings apps = Some (command.Stale (choice_of settings))
-made_of Compile settings apps = Some (command.Compile (choice_of settings) settings.partitions settings.plain settings.trace)
-made_of Clean settings apps = Some (command.Clean (choice_of settings) apps)
+made_of Get settings apps = Some commands.Get
+made_of Help settings apps = Some commands.Help
+made_of Deps settings apps = Some (commands.Deps (choice_of settings))
+made_of Stale settings apps = Some (commands.Stale (choice_of settings))
+made_of Compile settings apps = Some (commands.Compile (choice_of settings) settings.partitions settings.plain settings.trace)
+made_of Clean settings apps = Some (commands.Clean (choice_of settings) apps)
 made_of verb settings apps = None
 
 -- the words are options and apps that the command takes
@@ -42,10 +42,10 @@ pub record AsksUnits (words : List Word) (command : Command) : Type 0 where
   pub second : Word
   pub count : ℕ
   pub start : ℕ
-  pub words : words ≡ first ∷ second ∷ []
+  pub two : words ≡ first ∷ second ∷ []
   pub counts : IsNumber 0 most_units first count
   pub starts : IsNumber 0 most_start second start
-  pub makes : command ≡ command.Gen count start
+  pub makes : command ≡ commands.Gen count start
 
 -- the word names a path outside of the builds
 pub record IsScript (word : Word) (path : List ℕ) : Type 0 where
@@ -57,9 +57,9 @@ pub record IsScript (word : Word) (path : List ℕ) : Type 0 where
 pub record AsksScript (words : List Word) (command : Command) : Type 0 where
   pub word : Word
   pub path : List ℕ
-  pub words : words ≡ word ∷ []
+  pub one : words ≡ word ∷ []
   pub script : IsScript word path
-  pub makes : command ≡ command.Batch path
+  pub makes : command ≡ commands.Batch path
 
 -- the words behind a command's name, and the command that they make of it
 abbrev pub Asks : Verb → List Word → Command → Type 0
@@ -71,7 +71,7 @@ Asks verb words command = Orders verb words command
 pub record Means (words : List Word) (command : Command) : Type 0 where
   pub verb : Verb
   pub behind : List Word
-  pub words : words ≡ name_of verb ∷ behind
+  pub spelled : words ≡ name_of verb ∷ behind
   pub asks : Asks verb behind command
 
 -- the words are some command's

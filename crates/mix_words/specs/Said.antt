@@ -14,4 +14,4 @@ pub record Says (words : List Word) (settings : Settings) (others : List Word) :
   pub stand : Stand pieces
   pub values : (option : Valued) → values_of option pieces ≡ given_in settings option
   pub flags : (flag : Flag) → flags_of flag pieces ≡ raised_in settings flag
-  pub others : others_of pieces ≡ others
+  pub left : others_of pieces ≡ others

@@ -38,7 +38,7 @@ impl<'a> Apps<'a> {
     /// With the name that a word is.
     pub(crate) fn with(self, name: AppName, word: &'a str) -> Result<Apps<'a>, AllocError>
         requires { name ≡ word.now }
-        ensures { IfOk result (λ apps. apps.names ≡ self.names ++ name ∷ []) }
+        ensures { IfOk result (λ apps. apps.names ≡ self.entry.names ++ name ∷ []) }
     {
         let Apps { mut names, mut known } = self;
         names.push(name)?;
@@ -48,7 +48,7 @@ impl<'a> Apps<'a> {
 
     /// The names alone.
     pub(crate) fn into_names(self) -> Names
-        ensures { result ≡ self.names }
+        ensures { result ≡ self.entry.names }
     {
         let Apps { names, known: _ } = self;
         names

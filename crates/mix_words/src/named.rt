@@ -1,5 +1,5 @@
 // Names, and builds that have one.
-ghost use Rattle.std.specs.Prelude.{◌≡◌, ◌↔◌, ◌<◌, decimal, length, option_map, IfOk, IfSome, IfNone, IsTrue};
+ghost use Rattle.std.specs.Prelude.{◌≡◌, ◌↔◌, ◌<◌, ◌≤◌, decimal, length, option_map, IfOk, IfSome, IfNone, IsTrue};
 ghost use Rattle.mx_base.specs.AppName.{IsAppName};
 ghost use Rattle.mx_base.specs.BuildName.{HasBuildName, begins_tagged};
 ghost use Rattle.mix_words.specs.Live.{HasEnv, HasTarget};
@@ -30,7 +30,8 @@ pub(crate) fn name_of(alloc: Global, text: &str) -> Result<Option<AppName>, Allo
 
 fn digits_in(number: usize) -> usize
     requires { number < 256 }
-    ensures { result ≡ length (decimal number) }
+    ensures digits { result ≡ length (decimal number) }
+    ensures few { result ≤ 3 }
 {
     if number < 10 {
         1
@@ -64,25 +65,23 @@ pub(crate) fn has_build_name(env: &str, target: &str) -> bool
 }
 
 /// Whether some target has the name of a build in an environment: the one that is given, where one is.
-pub(crate) fn has_target(env: &str, target: Option<&str>) -> bool
-    requires env { IsAppName env.now }
-    requires target { IfSome target (λ target. IsAppName target.now) }
+pub(crate) fn has_target(env: &str, target: Option<&AppName>) -> bool
+    requires { IsAppName env.now }
     ensures { IsTrue result ↔ HasTarget env.now (option_map (λ target. target.now) target) }
 {
     match target {
-        Some(target) => has_build_name(env, target),
+        Some(target) => has_build_name(env, target.as_str()),
         None => has_build_name(env, HOST) || has_build_name(env, SHORTEST),
     }
 }
 
 /// Whether some environment has the name of a build for a target: the one that is given, where one is.
-pub(crate) fn has_env(env: Option<&str>, target: &str) -> bool
-    requires env { IfSome env (λ env. IsAppName env.now) }
-    requires target { IsAppName target.now }
+pub(crate) fn has_env(env: Option<&AppName>, target: &str) -> bool
+    requires { IsAppName target.now }
     ensures { IsTrue result ↔ HasEnv (option_map (λ env. env.now) env) target.now }
 {
     match env {
-        Some(env) => has_build_name(env, target),
+        Some(env) => has_build_name(env.as_str(), target),
         None => has_build_name(SHORTEST, target),
     }
 }

@@ -1,6 +1,6 @@
 // Numbers in decimal, without sign or leading zeros.
 ghost use Rattle.std.specs.Prelude.{◌≡◌, ◌<◌, ◌≤◌, ◌^◌, ℕ, decimal, IfSome, IfNone};
-ghost use Rattle.mix_words.specs.Numbers.{IsNumber};
+ghost use Rattle.mix_words.specs.Numbers.{IsNumber, is_plain};
 
 /// The number that a text spells, where it is within these bounds.
 pub(crate) fn read_number(low: u32, high: u32, text: &str) -> Option<u32>
@@ -20,13 +20,22 @@ fn spelled(text: &str) -> Option<u32>
     ensures some { IfSome result (λ number. text.now ≡ decimal number) }
     ensures none { IfNone result ((number : ℕ) → number < 2 ^ 32 → text.now ≡ decimal number → ⊥) }
 {
+    if !is_plain(text) {
+        return None;
+    }
+    match text.parse::<u32>() {
+        Ok(number) => Some(number),
+        Err(_) => None,
+    }
+}
+
+// Whether a text has a digit first, and none behind a leading zero.
+fn is_plain(text: &str) -> bool
+    ensures { result ≡ is_plain text.now }
+{
     match text.as_bytes() {
-        [b'0'] => Some(0),
-        [b'1'..=b'9', ..] => match text.parse::<u32>() {
-            Ok(number) => Some(number),
-            Err(_) => None,
-        },
-        _ => None,
+        [first, rest @ ..] => first.is_ascii_digit() && (*first > b'0' || rest.is_empty()),
+        [] => false,
     }
 }
 

@@ -40,8 +40,8 @@ impl<'a> Reader<'a> {
     /// With one word more.
     pub(crate) fn with(self, alloc: Global, word: &'a str) -> Result<Reader<'a>, Stop>
         requires { LivesOn (place_of self) }
-        ensures { MatchResult result (λ new. Follows (place_of self) word.now (place_of new))
-            (λ stop. stop ≡ stops.Refused → Dies (place_of self) word.now) }
+        ensures { MatchResult result (λ new. Follows (place_of self.entry) word.now (place_of new))
+            (λ stop. stop ≡ stops.Refused → Dies (place_of self.entry) word.now) }
     {
         let Reader { sofar, waiting } = self;
         match waiting {
@@ -53,8 +53,8 @@ impl<'a> Reader<'a> {
     /// The command, where the words end here.
     pub(crate) fn finish(self, alloc: Global) -> Result<Command, Stop>
         requires { LivesOn (place_of self) }
-        ensures { MatchResult result (λ command. LeadsOn (place_of self) [] command)
-            (λ stop. stop ≡ stops.Refused → (command : IsCommand) → LeadsOn (place_of self) [] command → ⊥) }
+        ensures { MatchResult result (λ command. LeadsOn (place_of self.entry) [] command)
+            (λ stop. stop ≡ stops.Refused → (command : IsCommand) → LeadsOn (place_of self.entry) [] command → ⊥) }
     {
         let Reader { sofar, waiting } = self;
         match waiting {
@@ -65,7 +65,7 @@ impl<'a> Reader<'a> {
 }
 
 fn ready(sofar: Sofar<'_>) -> Reader<'_>
-    ensures { place_of result ≡ record { state = state_of sofar; waiting = None } }
+    ensures { place_of result ≡ record { state = state_of sofar.entry; waiting = None } }
 {
     Reader {
         sofar,
@@ -76,16 +76,16 @@ fn ready(sofar: Sofar<'_>) -> Reader<'_>
 // With a word where no option waits for its value.
 fn read_piece<'a>(alloc: Global, sofar: Sofar<'a>, word: &'a str) -> Result<Reader<'a>, Stop>
     requires { Lives (state_of sofar) }
-    ensures { MatchResult result (λ new. Follows (ready_at (state_of sofar)) word.now (place_of new))
-        (λ stop. stop ≡ stops.Refused → Dies (ready_at (state_of sofar)) word.now) }
+    ensures { MatchResult result (λ new. Follows (ready_at (state_of sofar.entry)) word.now (place_of new))
+        (λ stop. stop ≡ stops.Refused → Dies (ready_at (state_of sofar.entry)) word.now) }
 {
-    if let Some(option) = option_named(word) {
-        if !sofar.may_give(option) {
+    if let Some(wanted) = option_named(word) {
+        if !sofar.may_give(wanted) {
             return Err(Stop::Refused);
         }
         return Ok(Reader {
             sofar,
-            waiting: Some(option),
+            waiting: Some(wanted),
         });
     }
     if let Some(flag) = flag_named(word) {
@@ -106,8 +106,8 @@ fn read_piece<'a>(alloc: Global, sofar: Sofar<'a>, word: &'a str) -> Result<Read
 // The command that was read whole.
 fn command_of(alloc: Global, sofar: Sofar<'_>) -> Result<Command, Stop>
     requires { Lives (state_of sofar) }
-    ensures { MatchResult result (λ command. Leads (state_of sofar) [] command)
-        (λ stop. stop ≡ stops.Refused → (command : IsCommand) → Leads (state_of sofar) [] command → ⊥) }
+    ensures { MatchResult result (λ command. Leads (state_of sofar.entry) [] command)
+        (λ stop. stop ≡ stops.Refused → (command : IsCommand) → Leads (state_of sofar.entry) [] command → ⊥) }
 {
     match sofar.verb {
         Verb::Get => Ok(Command::Get),
@@ -120,8 +120,8 @@ fn command_of(alloc: Global, sofar: Sofar<'_>) -> Result<Command, Stop>
 fn built(alloc: Global, sofar: Sofar<'_>) -> Result<Command, Stop>
     requires lives { Lives (state_of sofar) }
     requires build { IsTrue (takes_build sofar.verb) }
-    ensures { MatchResult result (λ command. Leads (state_of sofar) [] command)
-        (λ stop. stop ≡ stops.Refused → (command : IsCommand) → Leads (state_of sofar) [] command → ⊥) }
+    ensures { MatchResult result (λ command. Leads (state_of sofar.entry) [] command)
+        (λ stop. stop ≡ stops.Refused → (command : IsCommand) → Leads (state_of sofar.entry) [] command → ⊥) }
 {
     let Sofar {
         verb,

@@ -1,12 +1,14 @@
 // The options that were given.
-ghost use Rattle.std.specs.Prelude.{◌≡◌, IfOk, IfErr, IsTrue, MatchResult, false, unwrap_or};
-ghost use Rattle.mx_base.specs.AppName.{is_app_name};
+ghost use Rattle.std.specs.Prelude.{◌≡◌, IfOk, IfErr, MatchResult, false, unwrap_or};
+ghost use Rattle.mx_base.specs.AppName.{IsAppName};
 ghost use Rattle.mx_base.specs.BuildName.{HasBuildName, host};
 ghost use Rattle.mix_words.specs.Choice.{dev};
+ghost use Rattle.mix_words.specs.Live.{raise};
 ghost use Rattle.mix_words.specs.declared.error.Stop.TheVariants as stops;
 
 use crate::build_choice::BuildChoice;
 use crate::error::Stop;
+use crate::option::Flag;
 use crate::named::{has_build_name, name_of};
 use mx_base::{AppName, HOST};
 use std::alloc::Global;
@@ -37,23 +39,40 @@ impl Settings {
             trace: false,
         }
     }
+
+    /// With a flag.
+    pub(crate) fn raised(self, flag: Flag) -> Settings
+        ensures { result ≡ raise self flag }
+    {
+        match flag {
+            Flag::Plain => Settings {
+                plain: true,
+                ..self
+            },
+            Flag::Trace => Settings {
+                trace: true,
+                ..self
+            },
+        }
+    }
 }
 
 /// The environment and the target, where they have the name of a build.
+#[tactic(auto, using(crate::proofs::ChoiceLemmas::dev_name, crate::proofs::ChoiceLemmas::host_name))]
 pub(crate) fn choice(
     alloc: Global,
     env: Option<AppName>,
     target: Option<AppName>,
 ) -> Result<BuildChoice, Stop>
     ensures { MatchResult result
-        (λ choice. (choice.env ≡ unwrap_or env dev) × (choice.target ≡ unwrap_or target host)
-            × HasBuildName choice.env choice.target)
+        (λ choice. (choice ≡ record { env = unwrap_or env dev; target = unwrap_or target host })
+            × HasBuildName (unwrap_or env dev) (unwrap_or target host))
         (λ stop. stop ≡ stops.Refused → HasBuildName (unwrap_or env dev) (unwrap_or target host) → ⊥) }
 {
     let env = or_named(alloc, env, DEV)?;
     let target = or_named(alloc, target, HOST)?;
     if has_build_name(env.as_str(), target.as_str()) {
-        Ok(BuildChoice { env, target })
+        Ok(BuildChoice::new(env, target))
     } else {
         Err(Stop::Refused)
     }
@@ -61,7 +80,7 @@ pub(crate) fn choice(
 
 // The name that is given, or else the one that a text is.
 fn or_named(alloc: Global, name: Option<AppName>, text: &str) -> Result<AppName, Stop>
-    requires { IsTrue (is_app_name text.now) }
+    requires { IsAppName text.now }
     ensures ok { IfOk result (λ found. found ≡ unwrap_or name text.now) }
     ensures err { IfErr result (λ stop. stop ≡ stops.OutOfMemory) }
 {

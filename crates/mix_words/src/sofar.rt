@@ -1,10 +1,9 @@
 // What the words behind a command's name say, as far as they were read.
-ghost use Rattle.std.specs.Prelude.{◌≡◌, [], ℕ, List, false, None, Option, Some, IsFalse, IsTrue, MatchResult};
-ghost use Rattle.mix_words.specs.Live.{Bars, BarsOption, Goes, Lives, MayGive};
-ghost use Rattle.mix_words.specs.Numbers.{IsNumber};
-ghost use Rattle.mix_words.specs.Piece.{Joint, Other, Raised, is_dashed};
-ghost use Rattle.mix_words.specs.Sofar.{state_of};
+ghost use Rattle.std.specs.Prelude.{◌≡◌, MatchResult};
 ghost use Rattle.mix_words.specs.declared.error.Stop.TheVariants as stops;
+ghost use Rattle.mix_words.specs.Live.{Bars, Goes, Lives, MayGive, may_give, may_raise};
+ghost use Rattle.mix_words.specs.Piece.{Joint, Other, Raised};
+ghost use Rattle.mix_words.specs.Sofar.{state_of};
 
 use crate::apps::Apps;
 use crate::error::Stop;
@@ -13,7 +12,6 @@ use crate::number::read_count;
 use crate::option::{Flag, Valued};
 use crate::settings::Settings;
 use crate::verb::Verb;
-use mx_base::AppName;
 use std::alloc::Global;
 
 /// The options and apps that were read behind a command's name.
@@ -25,18 +23,32 @@ pub(crate) struct Sofar<'a> {
 }
 
 impl<'a> Sofar<'a> {
-    /// Whether the option may stand next.
+    /// Whether an option may stand next.
     pub(crate) fn may_give(&self, option: Valued) -> bool
-        ensures yes { IsTrue result → MayGive (state_of self.now) option }
-        ensures no { IsFalse result → BarsOption (state_of self.now) option }
+        ensures { result ≡ may_give (state_of self.now) option }
     {
         let settings = &self.settings;
         match option {
             Valued::Env => self.verb.takes_build() && settings.env.is_none(),
             Valued::Target => self.verb.takes_build() && settings.target.is_none(),
             Valued::Partitions => {
-                self.verb.takes_run() && settings.partitions.is_none() && !settings.plain
+                self.verb.takes_run() && (settings.partitions.is_none() && !settings.plain)
             }
+        }
+    }
+
+    // Whether a flag may stand next.
+    fn may_raise(&self, flag: Flag) -> bool
+        ensures { result ≡ may_raise (state_of self.now) flag }
+    {
+        let settings = &self.settings;
+        let free = !settings.trace;
+        match flag {
+            Flag::Plain => {
+                self.verb.takes_run()
+                    && (!settings.plain && (free && settings.partitions.is_none()))
+            }
+            Flag::Trace => self.verb.takes_run() && (!settings.plain && free),
         }
     }
 
@@ -49,8 +61,9 @@ impl<'a> Sofar<'a> {
     ) -> Result<Sofar<'a>, Stop>
         requires lives { Lives (state_of self) }
         requires may { MayGive (state_of self) option }
-        ensures { MatchResult result (λ new. Goes (state_of self) (Joint option value.now) (state_of new))
-            (λ stop. stop ≡ stops.Refused → Bars (state_of self) (Joint option value.now)) }
+        ensures { MatchResult result
+            (λ new. Goes (state_of self.entry) (Joint option value.now) (state_of new))
+            (λ stop. stop ≡ stops.Refused → Bars (state_of self.entry) (Joint option value.now)) }
     {
         match option {
             Valued::Env => self.with_env(alloc, value),
@@ -62,127 +75,125 @@ impl<'a> Sofar<'a> {
     fn with_env(self, alloc: Global, value: &str) -> Result<Sofar<'a>, Stop>
         requires lives { Lives (state_of self) }
         requires may { MayGive (state_of self) Valued.Env }
-        ensures { MatchResult result (λ new. Goes (state_of self) (Joint Valued.Env value.now) (state_of new))
-            (λ stop. stop ≡ stops.Refused → Bars (state_of self) (Joint Valued.Env value.now)) }
+        ensures { MatchResult result
+            (λ new. Goes (state_of self.entry) (Joint Valued.Env value.now) (state_of new))
+            (λ stop. stop ≡ stops.Refused → Bars (state_of self.entry) (Joint Valued.Env value.now)) }
     {
+        let Sofar {
+            verb,
+            mut settings,
+            apps,
+        } = self;
         let Some(env) = name_of(alloc, value)? else {
             return Err(Stop::Refused);
         };
-        if !has_target(value, self.settings.target.as_ref().map(|target| target.as_str())) {
+        if !has_target(value, settings.target.as_ref()) {
             return Err(Stop::Refused);
         }
-        let settings = Settings {
-            env: Some(env),
-            ..self.settings
-        };
+        settings.env = Some(env);
         Ok(Sofar {
-            verb: self.verb,
+            verb,
             settings,
-            apps: self.apps,
+            apps,
         })
     }
 
     fn with_target(self, alloc: Global, value: &str) -> Result<Sofar<'a>, Stop>
         requires lives { Lives (state_of self) }
         requires may { MayGive (state_of self) Valued.Target }
-        ensures { MatchResult result (λ new. Goes (state_of self) (Joint Valued.Target value.now) (state_of new))
-            (λ stop. stop ≡ stops.Refused → Bars (state_of self) (Joint Valued.Target value.now)) }
+        ensures { MatchResult result
+            (λ new. Goes (state_of self.entry) (Joint Valued.Target value.now) (state_of new))
+            (λ stop. stop ≡ stops.Refused → Bars (state_of self.entry) (Joint Valued.Target value.now)) }
     {
+        let Sofar {
+            verb,
+            mut settings,
+            apps,
+        } = self;
         let Some(target) = name_of(alloc, value)? else {
             return Err(Stop::Refused);
         };
-        if !has_env(self.settings.env.as_ref().map(|env| env.as_str()), value) {
+        if !has_env(settings.env.as_ref(), value) {
             return Err(Stop::Refused);
         }
-        let settings = Settings {
-            target: Some(target),
-            ..self.settings
-        };
+        settings.target = Some(target);
         Ok(Sofar {
-            verb: self.verb,
+            verb,
             settings,
-            apps: self.apps,
+            apps,
         })
     }
 
     fn with_partitions(self, value: &str) -> Result<Sofar<'a>, Stop>
         requires lives { Lives (state_of self) }
         requires may { MayGive (state_of self) Valued.Partitions }
-        ensures { MatchResult result (λ new. Goes (state_of self) (Joint Valued.Partitions value.now) (state_of new))
-            (λ stop. stop ≡ stops.Refused → Bars (state_of self) (Joint Valued.Partitions value.now)) }
+        ensures { MatchResult result
+            (λ new. Goes (state_of self.entry) (Joint Valued.Partitions value.now) (state_of new))
+            (λ stop. stop ≡ stops.Refused
+                → Bars (state_of self.entry) (Joint Valued.Partitions value.now)) }
     {
+        let Sofar {
+            verb,
+            mut settings,
+            apps,
+        } = self;
         let Some(count) = read_count(value) else {
             return Err(Stop::Refused);
         };
-        let settings = Settings {
-            partitions: Some(count),
-            ..self.settings
-        };
+        settings.partitions = Some(count);
         Ok(Sofar {
-            verb: self.verb,
+            verb,
             settings,
-            apps: self.apps,
+            apps,
         })
     }
 
     /// With an option that has no value.
     pub(crate) fn with_flag(self, flag: Flag) -> Result<Sofar<'a>, Stop>
         requires { Lives (state_of self) }
-        ensures { MatchResult result (λ new. Goes (state_of self) (Raised flag) (state_of new))
-            (λ stop. stop ≡ stops.Refused → Bars (state_of self) (Raised flag)) }
+        ensures { MatchResult result (λ new. Goes (state_of self.entry) (Raised flag) (state_of new))
+            (λ stop. stop ≡ stops.Refused → Bars (state_of self.entry) (Raised flag)) }
     {
-        match flag {
-            Flag::Plain => self.with_plain(),
-            Flag::Trace => self.with_trace(),
-        }
-    }
-
-    fn with_plain(self) -> Result<Sofar<'a>, Stop>
-        requires { Lives (state_of self) }
-        ensures { MatchResult result (λ new. Goes (state_of self) (Raised Flag.Plain) (state_of new))
-            (λ stop. stop ≡ stops.Refused → Bars (state_of self) (Raised Flag.Plain)) }
-    {
-        let Sofar { verb, settings, apps } = self;
-        if !verb.takes_run() || settings.plain || settings.trace || settings.partitions.is_some() {
+        if !self.may_raise(flag) {
             return Err(Stop::Refused);
         }
-        let settings = Settings {
-            plain: true,
-            ..settings
-        };
-        Ok(Sofar { verb, settings, apps })
-    }
-
-    fn with_trace(self) -> Result<Sofar<'a>, Stop>
-        requires { Lives (state_of self) }
-        ensures { MatchResult result (λ new. Goes (state_of self) (Raised Flag.Trace) (state_of new))
-            (λ stop. stop ≡ stops.Refused → Bars (state_of self) (Raised Flag.Trace)) }
-    {
-        let Sofar { verb, settings, apps } = self;
-        if !verb.takes_run() || settings.plain || settings.trace {
-            return Err(Stop::Refused);
-        }
-        let settings = Settings {
-            trace: true,
-            ..settings
-        };
-        Ok(Sofar { verb, settings, apps })
+        let Sofar {
+            verb,
+            settings,
+            apps,
+        } = self;
+        Ok(Sofar {
+            verb,
+            settings: settings.raised(flag),
+            apps,
+        })
     }
 
     /// With a word that is no option.
     pub(crate) fn with_app(self, alloc: Global, word: &'a str) -> Result<Sofar<'a>, Stop>
         requires { Lives (state_of self) }
-        ensures { MatchResult result (λ new. Goes (state_of self) (Other word.now) (state_of new))
-            (λ stop. stop ≡ stops.Refused → Bars (state_of self) (Other word.now)) }
+        ensures { MatchResult result (λ new. Goes (state_of self.entry) (Other word.now) (state_of new))
+            (λ stop. stop ≡ stops.Refused → Bars (state_of self.entry) (Other word.now)) }
     {
-        let Sofar { verb, settings, apps } = self;
-        if !verb.takes_apps() || apps.has(word) {
+        let Sofar {
+            verb,
+            settings,
+            apps,
+        } = self;
+        if !verb.takes_apps() {
+            return Err(Stop::Refused);
+        }
+        if apps.has(word) {
             return Err(Stop::Refused);
         }
         let Some(name) = name_of(alloc, word)? else {
             return Err(Stop::Refused);
         };
         let apps = apps.with(name, word)?;
-        Ok(Sofar { verb, settings, apps })
+        Ok(Sofar {
+            verb,
+            settings,
+            apps,
+        })
     }
 }

@@ -1,0 +1,112 @@
+-- Where the words of `gen` and `batch` are refused.
+use Rattle.std.proofs.Common.{◌≡◌, ℕ, List, [], ◌∷◌, ◌++◌, Result, Ok, refl, sym, ap, ◌∙◌, subst, arith, lit≤}
+use Rattle.std.specs.Prelude.{codes, decimal}
+use Rattle.reading.specs.Refusal.{IsRefusedAt}
+use Rattle.reading.proofs.Refusals.{refused_where}
+use Rattle.mix_words.specs.declared.command.Command.{Command}
+use Rattle.mix_words.specs.declared.command.Command.TheVariants as commands
+use Rattle.mix_words.specs.declared.verb.Verb.TheVariants.{Gen, Batch}
+use Rattle.mix_words.specs.Meaning.{AsksScript, AsksUnits, IsScript}
+use Rattle.mix_words.specs.Numbers.{IsNumber, most_start, most_units}
+use Rattle.mix_words.specs.Piece.{Word}
+use Rattle.mix_words.specs.Reading.{IsAsked}
+
+-- ---- `gen`
+
+pub asks_units : (first second : Word) (n m : ℕ) → IsNumber 0 most_units first n → IsNumber 0 most_start second m → AsksUnits (first ∷ second ∷ []) (commands.Gen n m)
+asks_units first second n m a b = record { first = first; second = second; count = n; start = m; two = refl; counts = a; starts = b; makes = refl; }
+
+zero_units : IsNumber 0 most_units (decimal 0) 0
+zero_units = record { bytes = refl; least = lit≤ tt; most = lit≤ tt; }
+
+zero_start : IsNumber 0 most_start (decimal 0) 0
+zero_start = record { bytes = refl; least = lit≤ tt; most = lit≤ tt; }
+
+first_counts : (first : Word) (rest : List Word) → IsAsked Gen (first ∷ rest) → (n : ℕ) × IsNumber 0 most_units first n
+first_counts first rest asked =
+    let u = asked.1 in
+    let same : first ≡ u.first = cc (u.two) in
+    (u.count, subst (λ (w : Word). IsNumber 0 most_units w u.count) (sym same) u.counts)
+
+second_starts : (first second : Word) (rest : List Word) → IsAsked Gen (first ∷ second ∷ rest) → (n : ℕ) × IsNumber 0 most_start second n
+second_starts first second rest asked =
+    let u = asked.1 in
+    let same : second ≡ u.second = cc (u.two) in
+    (u.start, subst (λ (w : Word). IsNumber 0 most_start w u.start) (sym same) u.starts)
+
+pub units_empty : IsRefusedAt (IsAsked Gen) [] 0
+units_empty =
+    refused_where (IsAsked Gen) [] [] (λ (a : IsAsked Gen []). let e : [] ≡ a.1.first ∷ a.1.second ∷ [] = a.1.two in cc)
+    (decimal 0 ∷ decimal 0 ∷ [], (commands.Gen 0 0, asks_units (decimal 0) (decimal 0) 0 0 zero_units zero_start))
+    (λ next others e begins. let never : [] ≡ next ∷ others = e in cc)
+
+pub units_first : (first : Word) (rest : List Word) → ((n : ℕ) → IsNumber 0 most_units first n → ⊥) → IsRefusedAt (IsAsked Gen) (first ∷ rest) 0
+units_first first rest never =
+    refused_where (IsAsked Gen) [] (first ∷ rest) (λ (a : IsAsked Gen (first ∷ rest)). let n = first_counts first rest a in never n.0 n.1)
+    (decimal 0 ∷ decimal 0 ∷ [], (commands.Gen 0 0, asks_units (decimal 0) (decimal 0) 0 0 zero_units zero_start))
+    (λ next others e begins.
+      let same : first ≡ next = cc in
+      let n = first_counts next begins.0 begins.1 in
+      never n.0 (subst (λ (w : Word). IsNumber 0 most_units w n.0) (sym same) n.1))
+
+pub units_one : (first : Word) (n : ℕ) → IsNumber 0 most_units first n → IsRefusedAt (IsAsked Gen) (first ∷ []) 1
+units_one first n is =
+    refused_where (IsAsked Gen) (first ∷ []) [] (λ (a : IsAsked Gen (first ∷ [])). let e : first ∷ [] ≡ a.1.first ∷ a.1.second ∷ [] = a.1.two in cc)
+    (decimal 0 ∷ [], (commands.Gen n 0, asks_units first (decimal 0) n 0 is zero_start))
+    (λ next others e begins. let never : [] ≡ next ∷ others = e in cc)
+
+pub units_second : (first second : Word) (rest : List Word) (n : ℕ) → IsNumber 0 most_units first n → ((m : ℕ) → IsNumber 0 most_start second m → ⊥)
+    → IsRefusedAt (IsAsked Gen) (first ∷ second ∷ rest) 1
+units_second first second rest n is never =
+    refused_where (IsAsked Gen) (first ∷ []) (second ∷ rest)
+    (λ (a : IsAsked Gen (first ∷ second ∷ rest)). let m = second_starts first second rest a in never m.0 m.1)
+    (decimal 0 ∷ [], (commands.Gen n 0, asks_units first (decimal 0) n 0 is zero_start))
+    (λ next others e begins.
+      let same : second ≡ next = cc in
+      let m = second_starts first next begins.0 begins.1 in
+      never m.0 (subst (λ (w : Word). IsNumber 0 most_start w m.0) (sym same) m.1))
+
+pub units_over : (first second third : Word) (rest : List Word) (n m : ℕ) → IsNumber 0 most_units first n → IsNumber 0 most_start second m
+    → IsRefusedAt (IsAsked Gen) (first ∷ second ∷ third ∷ rest) 2
+units_over first second third rest n m a b =
+    refused_where (IsAsked Gen) (first ∷ second ∷ []) (third ∷ rest)
+    (λ (x : IsAsked Gen (first ∷ second ∷ third ∷ rest)). let e : first ∷ second ∷ third ∷ rest ≡ x.1.first ∷ x.1.second ∷ [] = x.1.two in cc)
+    ([], (commands.Gen n m, asks_units first second n m a b))
+    (λ next others e begins. let two : first ∷ second ∷ next ∷ begins.0 ≡ begins.1.1.first ∷ begins.1.1.second ∷ [] = begins.1.1.two in cc)
+
+-- ---- `batch`
+
+pub asks_script : (word : Word) (path : List ℕ) → IsScript word path → AsksScript (word ∷ []) (commands.Batch path)
+asks_script word path is = record { word = word; path = path; one = refl; script = is; makes = refl; }
+
+-- some path
+script_a : IsScript (codes "a") (codes "a")
+script_a = record { no_option = refl; joins = refl; outside = refl; }
+
+word_joins : (word : Word) (rest : List Word) → IsAsked Batch (word ∷ rest) → (path : List ℕ) × IsScript word path
+word_joins word rest asked =
+    let s = asked.1 in
+    let same : word ≡ s.word = cc (s.one) in
+    (s.path, subst (λ (w : Word). IsScript w s.path) (sym same) s.script)
+
+pub script_empty : IsRefusedAt (IsAsked Batch) [] 0
+script_empty =
+    refused_where (IsAsked Batch) [] [] (λ (a : IsAsked Batch []). let e : [] ≡ a.1.word ∷ [] = a.1.one in cc)
+    (codes "a" ∷ [], (commands.Batch (codes "a"), asks_script (codes "a") (codes "a") script_a))
+    (λ next others e begins. let never : [] ≡ next ∷ others = e in cc)
+
+pub script_first : (word : Word) (rest : List Word) → ((path : List ℕ) → IsScript word path → ⊥) → IsRefusedAt (IsAsked Batch) (word ∷ rest) 0
+script_first word rest never =
+    refused_where (IsAsked Batch) [] (word ∷ rest) (λ (a : IsAsked Batch (word ∷ rest)). let p = word_joins word rest a in never p.0 p.1)
+    (codes "a" ∷ [], (commands.Batch (codes "a"), asks_script (codes "a") (codes "a") script_a))
+    (λ next others e begins.
+      let same : word ≡ next = cc in
+      let p = word_joins next begins.0 begins.1 in
+      never p.0 (subst (λ (w : Word). IsScript w p.0) (sym same) p.1))
+
+pub script_over : (word next : Word) (rest : List Word) (path : List ℕ) → IsScript word path → IsRefusedAt (IsAsked Batch) (word ∷ next ∷ rest) 1
+script_over word next rest path is =
+    refused_where (IsAsked Batch) (word ∷ []) (next ∷ rest)
+    (λ (x : IsAsked Batch (word ∷ next ∷ rest)). let e : word ∷ next ∷ rest ≡ x.1.word ∷ [] = x.1.one in cc)
+    ([], (commands.Batch path, asks_script word path is))
+    (λ other others e begins. let one : word ∷ other ∷ begins.0 ≡ begins.1.1.word ∷ [] = begins.1.1.one in cc)
