@@ -299,3 +299,9 @@ goes_app state word lives fits = record {
     target = lives.target;
   };
 }
+
+pub goes_app_as : (state : State) (word name : Word) (names : List Word) → Lives state → IsApp state.verb state.others word → name ≡ word → names ≡ state.others ++ name ∷ []
+    → Goes state (Other word) (record { verb = state.verb; settings = state.settings; others = names })
+goes_app_as state word name names lives fits same grown =
+    subst (λ (ns : List Word). Goes state (Other word) (record { verb = state.verb; settings = state.settings; others = ns }))
+    (sym (grown ∙ ap (λ (w : Word). state.others ++ w ∷ []) same)) (goes_app state word lives fits)

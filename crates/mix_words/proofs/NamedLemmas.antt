@@ -1,5 +1,5 @@
 -- From the words behind a command's name to all words.
-use Rattle.std.proofs.Common.{◌≡◌, ℕ, zero, suc, ◌+◌, ◌<◌, ◌≤◌, List, [], ◌∷◌, ◌++◌, length, take, Option, Some, None, refl, sym, ap, ◌∙◌, subst, arith}
+use Rattle.std.proofs.Common.{◌≡◌, ℕ, zero, suc, ◌+◌, ◌<◌, ◌≤◌, List, [], ◌∷◌, ◌++◌, length, take, Option, Some, None, refl, sym, ap, ◌∙◌, subst, arith, add-one}
 use Rattle.std.specs.Prelude.{if◌then◌else◌, codes, bytes_eq}
 use Rattle.reading.specs.Refusal.{Begins, IsRefusedAt}
 use Rattle.mix_words.specs.declared.command.Command.{Command}
@@ -92,3 +92,13 @@ refused_unnamed first rest never = record {
   begins = some_words;
   longest = λ k over within begins. unnamed_later first rest k never over begins;
 }
+
+-- ---- as the reader has them
+
+pub means_named : (verb : Verb) (first : Word) (rest : List Word) (command : Command) → first ≡ name_of verb → Asks verb rest command → Means (first ∷ rest) command
+means_named verb first rest command e asks = record { verb = verb; behind = rest; spelled = ap (λ (w : Word). w ∷ rest) e; asks = asks; }
+
+pub refused_later : (verb : Verb) (first : Word) (rest : List Word) (at : ℕ) → first ≡ name_of verb → IsRefusedAt (IsAsked verb) rest at → IsRefusedAt IsMeant (first ∷ rest) (at + 1)
+refused_later verb first rest at e refused =
+    subst (IsRefusedAt IsMeant (first ∷ rest)) (sym (add-one at))
+    (subst (λ (w : Word). IsRefusedAt IsMeant (w ∷ rest) (suc at)) (sym e) (refused_named verb rest at refused))

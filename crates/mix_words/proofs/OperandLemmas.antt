@@ -1,5 +1,5 @@
 -- Where the words of `gen` and `batch` are refused.
-use Rattle.std.proofs.Common.{◌≡◌, ℕ, List, [], ◌∷◌, ◌++◌, Result, Ok, refl, sym, ap, ◌∙◌, subst, arith, lit≤}
+use Rattle.std.proofs.Common.{◌≡◌, ℕ, List, [], ◌∷◌, ◌++◌, length, map, Result, Ok, Err, refl, sym, ap, ◌∙◌, subst, arith, lit≤}
 use Rattle.std.specs.Prelude.{codes, decimal}
 use Rattle.reading.specs.Refusal.{IsRefusedAt}
 use Rattle.reading.proofs.Refusals.{refused_where}
@@ -9,7 +9,10 @@ use Rattle.mix_words.specs.declared.verb.Verb.TheVariants.{Gen, Batch}
 use Rattle.mix_words.specs.Meaning.{AsksScript, AsksUnits, IsScript}
 use Rattle.mix_words.specs.Numbers.{IsNumber, most_start, most_units}
 use Rattle.mix_words.specs.Piece.{Word}
-use Rattle.mix_words.specs.Reading.{IsAsked}
+use Rattle.mx_base.specs.Blame.{Computes}
+use Rattle.mix_words.specs.declared.error.WordsError.TheVariants.{Refused}
+use Rattle.mix_words.specs.declared.verb.Verb.{Verb}
+use Rattle.mix_words.specs.Reading.{IsAsked, IsBehind, blame_of}
 
 -- ---- `gen`
 
@@ -110,3 +113,38 @@ script_over word next rest path is =
     (λ (x : IsAsked Batch (word ∷ next ∷ rest)). let e : word ∷ next ∷ rest ≡ x.1.word ∷ [] = x.1.one in cc)
     ([], (commands.Batch path, asks_script word path is))
     (λ other others e begins. let one : word ∷ other ∷ begins.0 ≡ begins.1.1.word ∷ [] = begins.1.1.one in cc)
+
+-- ---- as the reader has them
+
+pub computes_refused : (verb : Verb) (words : List Word) (at : ℕ) → IsRefusedAt (IsAsked verb) words at → Computes blame_of (Err (Refused at)) (IsBehind verb words)
+computes_refused verb words at refused = record { answer = λ _. refused; alone = refl; }
+
+module _ {A : Type 0} (f : A → Word) where
+  pub no_words : (xs : List A) → length xs ≡ 0 → [] ≡ map f xs
+  no_words [] e = refl
+  no_words (x ∷ xs) e = absurd (omega arith)
+
+  pub first_words : (xs rest : List A) (x : A) → xs ≡ x ∷ rest → f x ∷ map f rest ≡ map f xs
+  first_words xs rest x e = sym (ap (map f) e)
+
+  pub refused_empty_units : (xs : List A) → length xs ≡ 0 → IsRefusedAt (IsAsked Gen) (map f xs) 0
+  refused_empty_units xs e = subst (λ (t : List Word). IsRefusedAt (IsAsked Gen) t 0) (no_words xs e) units_empty
+
+  pub refused_first_units : (xs rest : List A) (x : A) → xs ≡ x ∷ rest → ((n : ℕ) → IsNumber 0 most_units (f x) n → ⊥) → IsRefusedAt (IsAsked Gen) (map f xs) 0
+  refused_first_units xs rest x e never = subst (λ (t : List Word). IsRefusedAt (IsAsked Gen) t 0) (first_words xs rest x e) (units_first (f x) (map f rest) never)
+
+  pub refused_one_unit : (xs rest : List A) (x : A) (n : ℕ) → xs ≡ x ∷ rest → length rest ≡ 0 → IsNumber 0 most_units (f x) n → IsRefusedAt (IsAsked Gen) (map f xs) 1
+  refused_one_unit xs rest x n e none is =
+      subst (λ (t : List Word). IsRefusedAt (IsAsked Gen) t 1) (ap (λ (t : List Word). f x ∷ t) (no_words rest none) ∙ first_words xs rest x e) (units_one (f x) n is)
+
+  pub refused_second_units : (xs rest more : List A) (x y : A) (n : ℕ) → xs ≡ x ∷ rest → rest ≡ y ∷ more → IsNumber 0 most_units (f x) n
+      → ((m : ℕ) → IsNumber 0 most_start (f y) m → ⊥) → IsRefusedAt (IsAsked Gen) (map f xs) 1
+  refused_second_units xs rest more x y n e g is never =
+      subst (λ (t : List Word). IsRefusedAt (IsAsked Gen) t 1) (ap (λ (t : List Word). f x ∷ t) (first_words rest more y g) ∙ first_words xs rest x e)
+      (units_second (f x) (f y) (map f more) n is never)
+
+  pub refused_empty_script : (xs : List A) → length xs ≡ 0 → IsRefusedAt (IsAsked Batch) (map f xs) 0
+  refused_empty_script xs e = subst (λ (t : List Word). IsRefusedAt (IsAsked Batch) t 0) (no_words xs e) script_empty
+
+  pub refused_first_script : (xs rest : List A) (x : A) → xs ≡ x ∷ rest → ((path : List ℕ) → IsScript (f x) path → ⊥) → IsRefusedAt (IsAsked Batch) (map f xs) 0
+  refused_first_script xs rest x e never = subst (λ (t : List Word). IsRefusedAt (IsAsked Batch) t 0) (first_words xs rest x e) (script_first (f x) (map f rest) never)

@@ -19,7 +19,7 @@ use Rattle.mix_words.specs.Reading.{IsAsked}
 use Rattle.mix_words.specs.Table.{is_optioned}
 use Rattle.mix_words.proofs.LeadLemmas.{lives_leads, waits_leads}
 use Rattle.mix_words.proofs.PieceLemmas.{IsUnknown}
-use Rattle.mix_words.proofs.StateLemmas.{adds_back, adds_on, barred, option_barred, spaced_adds, spaced_bars, unknown_barred}
+use Rattle.mix_words.proofs.StateLemmas.{adds_back, adds_on, barred, option_barred, spaced_adds, spaced_bars, unknown_barred, value_wanted}
 
 -- ---- one word more
 
@@ -212,3 +212,31 @@ pub refused_behind : (verb : Verb) → IsTrue (is_optioned verb) → (words : Li
 refused_behind verb e words at refused =
     refused_same (IsOrdered verb) (IsAsked verb)
     (λ text o. (o.0, orders_ask verb e text o.0 o.1)) (λ text o. (o.0, asks_order verb e text o.0 o.1)) words at refused
+
+-- ---- the same at a place whose state is told
+
+waiting_is : (at : Place) (option : Valued) → at.waiting ≡ Some option → at ≡ waiting_at at.state option
+waiting_is at option e = λ i. record { state = at.state; waiting = e i }
+
+ready_is : (at : Place) → at.waiting ≡ None → at ≡ ready_at at.state
+ready_is at e = λ i. record { state = at.state; waiting = e i }
+
+follows_same : (at new other : Place) (word : Word) → other ≡ new → Follows at word new → Follows at word other
+follows_same at new other word e follows = subst (Follows at word) (sym e) follows
+
+pub dies_value_at : (at : Place) (option : Valued) (value : Word) → at.waiting ≡ Some option → Bars at.state (Joint option value) → Dies at value
+dies_value_at at option value e bars = subst (λ (p : Place). Dies p value) (sym (waiting_is at option e)) (dies_value at.state option value bars)
+
+pub follows_value_at : (at other : Place) (new : State) (option : Valued) (value : Word) → at.waiting ≡ Some option → other ≡ ready_at new
+    → Goes at.state (Joint option value) new → Follows at value other
+follows_value_at at other new option value e same goes =
+    follows_same at (ready_at new) other value same
+    (subst (λ (p : Place). Follows p value (ready_at new)) (sym (waiting_is at option e)) (follows_value at.state new option value goes))
+
+pub follows_piece_as : (state new : State) (other : Place) (p : Piece) (word : Word) → Stands p → words_in p ≡ word ∷ [] → other ≡ ready_at new → Goes state p new
+    → Follows (ready_at state) word other
+follows_piece_as state new other p word stands e same goes = follows_same (ready_at state) (ready_at new) other word same (follows_piece state new p word stands e goes)
+
+pub ends_wanting : (at : Place) (option : Valued) → at.waiting ≡ Some option → (command : Command) → LeadsOn at [] command → ⊥
+ends_wanting at option e command l =
+    value_wanted at.state option command (subst (λ (p : Place). LeadsOn p [] command) (waiting_is at option e) l)

@@ -67,7 +67,7 @@ pub(crate) fn has_build_name(env: &str, target: &str) -> bool
 /// Whether some target has the name of a build in an environment: the one that is given, where one is.
 pub(crate) fn has_target(env: &str, target: Option<&AppName>) -> bool
     requires { IsAppName env.now }
-    ensures { IsTrue result ↔ HasTarget env.now (option_map (λ target. target.now) target) }
+    ensures { IsTrue result ↔ HasTarget env.now (option_map (λ t. t.now) target.entry) }
 {
     match target {
         Some(target) => has_build_name(env, target.as_str()),
@@ -78,7 +78,7 @@ pub(crate) fn has_target(env: &str, target: Option<&AppName>) -> bool
 /// Whether some environment has the name of a build for a target: the one that is given, where one is.
 pub(crate) fn has_env(env: Option<&AppName>, target: &str) -> bool
     requires { IsAppName target.now }
-    ensures { IsTrue result ↔ HasEnv (option_map (λ env. env.now) env) target.now }
+    ensures { IsTrue result ↔ HasEnv (option_map (λ e. e.now) env.entry) target.now }
 {
     match env {
         Some(env) => has_build_name(env.as_str(), target),
