@@ -155,3 +155,22 @@ waits_leads state Target lives may =
     after_value state _ Target some.0 (goes_target state some.0 lives may some.1 some.2)
 waits_leads state Partitions lives may =
     after_value state _ Partitions (decimal 1) (goes_count state 1 lives may (record { least = lit≤ tt; most = lit≤ tt }))
+
+-- ---- what a command without options comes to
+
+pub built_here : (state : State) (verb : Verb) (command : Command) → Lives state → state.verb ≡ verb → HasBuild state.settings
+    → made_of verb state.settings state.others ≡ Some command → Leads state [] command
+built_here state verb command lives e build makes =
+    ends_here state command lives.takes build (ap (λ (v : Verb). made_of v state.settings state.others) e ∙ makes)
+
+no_env_taken : (verb : Verb) (o : Option Word) → takes_build verb ≡ false → IfSome o (λ e. IsTrue (takes_build verb) × IsAppName e) → o ≡ None
+no_env_taken verb None never h = refl
+no_env_taken verb (Some w) never h = let both : true ≡ false = sym h.0 ∙ never in cc
+
+-- neither has an environment nor a target
+pub bare_build : (state : State) → Lives state → takes_build state.verb ≡ false → HasBuild state.settings
+bare_build state lives never =
+    let env = no_env_taken state.verb state.settings.env never lives.takes.env in
+    let target = no_env_taken state.verb state.settings.target never lives.takes.target in
+    subst (λ (o : Option Word). HasBuildName (env_of state.settings) (unwrap_or o host)) (sym target)
+    (subst (λ (o : Option Word). HasBuildName (unwrap_or o dev) host) (sym env) dev_for_host)

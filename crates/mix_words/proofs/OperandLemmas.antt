@@ -1,6 +1,10 @@
 -- Where the words of `gen` and `batch` are refused.
-use Rattle.std.proofs.Common.{◌≡◌, ℕ, List, [], ◌∷◌, ◌++◌, length, map, Result, Ok, Err, refl, sym, ap, ◌∙◌, subst, arith, lit≤}
+use Rattle.std.proofs.Common.{◌≡◌, ◌≢◌, ℕ, List, [], ◌∷◌, ◌++◌, length, map, Option, Result, Ok, Err, refl, sym, ap, ◌∙◌, subst, arith, lit≤}
 use Rattle.std.specs.Prelude.{codes, decimal}
+use Rattle.mx_base.specs.Join.{from_base, joined, unless_refused}
+use Rattle.mx_base.proofs.NameLemmas.{name_is_utf8}
+use Rattle.mx_base.proofs.PathLemmas.{first_refused_of_utf8}
+use Rattle.mix_words.proofs.ChoiceLemmas.{shortest_name}
 use Rattle.reading.specs.Refusal.{IsRefusedAt}
 use Rattle.reading.proofs.Refusals.{refused_where}
 use Rattle.mix_words.specs.declared.command.Command.{Command}
@@ -83,8 +87,12 @@ pub asks_script : (word : Word) (path : List ℕ) → IsScript word path → Ask
 asks_script word path is = record { word = word; path = path; one = refl; script = is; makes = refl; }
 
 -- some path
+a_joins : joined [] (codes "a") ≡ Ok (codes "a")
+a_joins =
+    ap (λ (o : Option ℕ). unless_refused o (from_base [] (codes "a"))) (first_refused_of_utf8 (codes "a") (name_is_utf8 (codes "a") shortest_name.bytes))
+
 script_a : IsScript (codes "a") (codes "a")
-script_a = record { no_option = refl; joins = refl; outside = refl; }
+script_a = record { no_option = refl; joins = a_joins; outside = refl; }
 
 word_joins : (word : Word) (rest : List Word) → IsAsked Batch (word ∷ rest) → (path : List ℕ) × IsScript word path
 word_joins word rest asked =
@@ -148,3 +156,15 @@ module _ {A : Type 0} (f : A → Word) where
 
   pub refused_first_script : (xs rest : List A) (x : A) → xs ≡ x ∷ rest → ((path : List ℕ) → IsScript (f x) path → ⊥) → IsRefusedAt (IsAsked Batch) (map f xs) 0
   refused_first_script xs rest x e never = subst (λ (t : List Word). IsRefusedAt (IsAsked Batch) t 0) (first_words xs rest x e) (script_first (f x) (map f rest) never)
+
+  pub refused_over_units : (xs rest more : List A) (x y : A) (n m : ℕ) → xs ≡ x ∷ rest → rest ≡ y ∷ more → length more ≢ 0 → IsNumber 0 most_units (f x) n
+      → IsNumber 0 most_start (f y) m → IsRefusedAt (IsAsked Gen) (map f xs) 2
+  refused_over_units xs rest [] x y n m e g some a b = absurd (some refl)
+  refused_over_units xs rest (z ∷ zs) x y n m e g some a b =
+      subst (λ (t : List Word). IsRefusedAt (IsAsked Gen) t 2) (ap (λ (t : List Word). f x ∷ t) (first_words rest (z ∷ zs) y g) ∙ first_words xs rest x e)
+      (units_over (f x) (f y) (f z) (map f zs) n m a b)
+
+  pub refused_over_script : (xs rest : List A) (x : A) (path : List ℕ) → xs ≡ x ∷ rest → length rest ≢ 0 → IsScript (f x) path → IsRefusedAt (IsAsked Batch) (map f xs) 1
+  refused_over_script xs [] x path e some is = absurd (some refl)
+  refused_over_script xs (z ∷ zs) x path e some is =
+      subst (λ (t : List Word). IsRefusedAt (IsAsked Batch) t 1) (first_words xs (z ∷ zs) x e) (script_over (f x) (f z) (map f zs) path is)

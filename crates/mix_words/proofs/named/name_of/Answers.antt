@@ -1,4 +1,5 @@
-use Rattle.std.proofs.Common.{◌≡◌, refl}
+use Rattle.std.proofs.Common.{◌≡◌, List, ℕ, refl, subst}
+use Rattle.mx_base.specs.AppName.{is_app_name}
 use Rattle.std.specs.Prelude.{IsFalse}
 use Rattle.mx_base.specs.NameFaults.{is_memory}
 use Rattle.mx_base.specs.declared.name.NameError.{NameError}
@@ -15,5 +16,5 @@ not_memory OutOfMemory other = absurd (other refl)
 pub returns-in_default : goal.returns-in_default
 returns-in_default c = record {
   some = tt;
-  none = no_app_name c.args.text.now (c.in-Err.ensures.exact (not_memory c.in-Err.error c.in_default.not-OutOfMemory));
+  none = no_app_name c.args.text.now (subst (λ (t : List ℕ). IsFalse (is_app_name t)) c.as_bytes.ensures.value (c.in-Err.ensures.exact (not_memory c.in-Err.error c.in_default.not-OutOfMemory)));
 }
