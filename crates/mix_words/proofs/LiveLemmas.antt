@@ -1,6 +1,6 @@
 -- What may follow and what may not, option by option.
 use Rattle.std.proofs.Common.{◌≡◌, ◌⊎◌, ℕ, Bool, true, false, List, [], ◌∷◌, ◌++◌, length, Option, Some, None, refl, sym, ap, ◌∙◌, subst, arith, append_assoc, append-nil, length-append, ⊎_elim}
-use Rattle.std.specs.Prelude.{IsTrue, IsFalse, IfSome, codes, decimal, unwrap_or, not, ◌&&◌, is_none}
+use Rattle.std.specs.Prelude.{IsTrue, IsFalse, IfNone, IfSome, codes, decimal, unwrap_or, not, ◌&&◌, is_none}
 use Rattle.std.proofs.lemmas.Bool.{and_cases}
 use Rattle.mx_base.specs.AppName.{IsAppName, is_app_name}
 use Rattle.mx_base.specs.BuildName.{HasBuildName, host}
@@ -79,7 +79,7 @@ none_of : (o : Option Word) → word_in o ≡ [] → o ≡ None
 none_of None e = refl
 none_of (Some w) e = cc
 
-at_some : {X : Type 0} (P : X → Type 0) (o : Option X) (x : X) → o ≡ Some x → IfSome o P → P x
+pub at_some : {X : Type 0} (P : X → Type 0) (o : Option X) (x : X) → o ≡ Some x → IfSome o P → P x
 at_some P o x e h = subst (λ q. IfSome q P) e h
 
 true_or_false : (b : Bool) → IsTrue b → IsFalse b → ⊥
@@ -286,3 +286,12 @@ module _ (state : State) (word : Word) where
 
   pub app_barred : (IsApp state.verb state.others word → ⊥) → Bars state (Other word)
   app_barred never settings others r = never (app_fact settings others r)
+
+-- no name was found
+pub none_named : (P : Type 0) (o : Option Word) → IfNone o (P → ⊥) → o ≡ None → P → ⊥
+none_named P None h e p = h p
+none_named P (Some x) h e p = cc
+
+pub at_none : {X : Type 0} (P : Type 0) (o : Option X) → IfNone o P → o ≡ None → P
+at_none P None h e = h
+at_none P (Some x) h e = cc

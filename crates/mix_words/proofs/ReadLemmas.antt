@@ -1,13 +1,17 @@
 -- Reading the words behind a command's name, place by place.
 use Rattle.std.proofs.Common.{◌≡◌, ℕ, zero, suc, ◌+◌, ◌<◌, ◌≤◌, List, [], ◌∷◌, ◌++◌, length, map, take, drop, get_or, refl, sym, ap, ◌∙◌, subst, arith, add-one, append-nil}
-use Rattle.std.specs.Prelude.{IsTrue}
+use Rattle.std.specs.Prelude.{IsTrue, Err}
 use Rattle.reading.specs.Refusal.{IsRefusedAt}
 use Rattle.mix_words.specs.declared.command.Command.{Command}
 use Rattle.mix_words.specs.declared.verb.Verb.{Verb}
 use Rattle.mix_words.specs.Live.{Dies, Follows, LeadsOn, Place}
 use Rattle.mix_words.specs.Meaning.{Asks, Orders}
 use Rattle.mix_words.specs.Piece.{Word}
-use Rattle.mix_words.specs.Reading.{IsAsked}
+use Rattle.mx_base.specs.Blame.{Computes}
+use Rattle.mix_words.specs.declared.error.Stop.{Stop}
+use Rattle.mix_words.specs.declared.error.Stop.TheVariants as stops
+use Rattle.mix_words.specs.declared.error.WordsError.{WordsError}
+use Rattle.mix_words.specs.Reading.{IsAsked, IsBehind, blame_of, refused_at}
 use Rattle.mix_words.specs.Table.{is_optioned}
 use Rattle.mix_words.proofs.RefusedLemmas.{IsOrdered, Led, led_more, orders_ask, refused_at_end, refused_at_word, refused_behind}
 
@@ -67,3 +71,13 @@ module _ {A : Type 0} (f : A → Word) (verb : Verb) (xs : List A) (i : ℕ) whe
   asked_in_the_end optioned place command all led leads =
       orders_ask verb optioned (map f xs) command
       (subst (λ (t : List Word). Orders verb t command) (append-nil (take i (map f xs)) ∙ taken_whole f xs i all) (led.back [] command leads))
+
+-- what stopped the reader is no command's, or says nothing
+pub computes_stopped : (verb : Verb) (words : List Word) (stop : Stop) (at : ℕ) (error : WordsError) → error ≡ refused_at stop at
+    → (stop ≡ stops.Refused → IsRefusedAt (IsAsked verb) words at) → Computes blame_of (Err error) (IsBehind verb words)
+computes_stopped verb words stop at error e refused =
+    subst (λ (x : WordsError). Computes blame_of (Err x) (IsBehind verb words)) (sym e) (by_stop stop refused)
+  where
+    by_stop : (s : Stop) → (s ≡ stops.Refused → IsRefusedAt (IsAsked verb) words at) → Computes blame_of (Err (refused_at s at)) (IsBehind verb words)
+    by_stop stops.Refused r = record { answer = λ _. r refl; alone = refl; }
+    by_stop stops.OutOfMemory r = record { answer = λ b. cc; alone = refl; }
