@@ -11,3 +11,4 @@ pub mod PieceLemmas
 pub mod ReadLemmas
 pub mod RefusedLemmas
 pub mod StateLemmas
+pub mod WordsLemmas
