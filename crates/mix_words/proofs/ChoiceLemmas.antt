@@ -75,7 +75,7 @@ host_bytes (suc (suc (suc zero))) h = refl
 host_bytes (suc (suc (suc (suc k)))) h = absurd (omega arith)
 
 pub host_name : IsAppName host
-host_name = record { not_empty = lit< tt; not_long = lit≤ tt; bytes = host_bytes; }
+host_name = record { not_empty = lit< tt; not_long = lit≤ tt; bytes = host_bytes }
 
 dev_bytes : (k : ℕ) → k < 3 → IsTrue (fits_at k (slice_index dev k))
 dev_bytes zero h = refl
@@ -84,7 +84,7 @@ dev_bytes (suc (suc zero)) h = refl
 dev_bytes (suc (suc (suc k))) h = absurd (omega arith)
 
 pub dev_name : IsAppName dev
-dev_name = record { not_empty = lit< tt; not_long = lit≤ tt; bytes = dev_bytes; }
+dev_name = record { not_empty = lit< tt; not_long = lit≤ tt; bytes = dev_bytes }
 
 -- as short as a name can be
 abbrev pub shortest : List ℕ
@@ -95,7 +95,7 @@ shortest_bytes zero h = refl
 shortest_bytes (suc k) h = absurd (omega arith)
 
 pub shortest_name : IsAppName shortest
-shortest_name = record { not_empty = lit< tt; not_long = lit≤ tt; bytes = shortest_bytes; }
+shortest_name = record { not_empty = lit< tt; not_long = lit≤ tt; bytes = shortest_bytes }
 
 pub dev_for_host : HasBuildName dev host
 dev_for_host = lit≤ tt
@@ -137,7 +137,8 @@ no_app_name text no_name is =
 pub target_given : (env target : List ℕ) (b : Bool) → IsAppName target → (IsTrue b ↔ HasBuildName env target) → IsTrue b ↔ HasTarget env (Some target)
 target_given env target b name iff = (
   λ h. (target, refl, name, iff.0 h),
-  λ (has : HasTarget env (Some target)). iff.1 (subst (HasBuildName env) (sym has.1) has.3))
+  λ (has : HasTarget env (Some target)). iff.1 (subst (HasBuildName env) (sym has.1) has.3),
+)
 
 pub target_by_host : (env : List ℕ) → HasBuildName env host → IsTrue true ↔ HasTarget env None
 target_by_host env has = (λ _. (host, tt, host_name, has), λ _. refl)
@@ -145,14 +146,17 @@ target_by_host env has = (λ _. (host, tt, host_name, has), λ _. refl)
 pub target_by_short : (env : List ℕ) (b : Bool) → IsAppName env → (HasBuildName env host → ⊥) → (IsTrue b ↔ HasBuildName env shortest) → IsTrue b ↔ HasTarget env None
 target_by_short env b name other iff = (
   λ h. (shortest, tt, shortest_name, iff.0 h),
-  λ (has : HasTarget env None). true_from_ne_false b (λ f. no_target env name other (λ s. both_ways b f (iff.1 s)) has))
+  λ (has : HasTarget env None). true_from_ne_false b (λ f. no_target env name other (λ s. both_ways b f (iff.1 s)) has),
+)
 
 pub env_given : (env target : List ℕ) (b : Bool) → IsAppName env → (IsTrue b ↔ HasBuildName env target) → IsTrue b ↔ HasEnv (Some env) target
 env_given env target b name iff = (
   λ h. (env, refl, name, iff.0 h),
-  λ (has : HasEnv (Some env) target). iff.1 (subst (λ (e : List ℕ). HasBuildName e target) (sym has.1) has.3))
+  λ (has : HasEnv (Some env) target). iff.1 (subst (λ (e : List ℕ). HasBuildName e target) (sym has.1) has.3),
+)
 
 pub env_by_short : (target : List ℕ) (b : Bool) → IsAppName target → (IsTrue b ↔ HasBuildName shortest target) → IsTrue b ↔ HasEnv None target
 env_by_short target b name iff = (
   λ h. (shortest, tt, shortest_name, iff.0 h),
-  λ (has : HasEnv None target). true_from_ne_false b (λ f. no_env target name (λ s. both_ways b f (iff.1 s)) has))
+  λ (has : HasEnv None target). true_from_ne_false b (λ f. no_env target name (λ s. both_ways b f (iff.1 s)) has),
+)

@@ -261,15 +261,15 @@ empty_word o e = ap word_in (unset_at o e)
 pub may_give_so : (state : State) (option : Valued) → may_give state option ≡ true → MayGive state option
 may_give_so state Env e =
     let one = and_parts (takes_build state.verb) (is_none state.settings.env) e in
-    record { taken = one.0; free = empty_word state.settings.env one.1; apart = λ (q : Env ≡ Partitions). cc; }
+    record { taken = one.0; free = empty_word state.settings.env one.1; apart = λ (q : Env ≡ Partitions). cc }
 may_give_so state Target e =
     let one = and_parts (takes_build state.verb) (is_none state.settings.target) e in
-    record { taken = one.0; free = empty_word state.settings.target one.1; apart = λ (q : Target ≡ Partitions). cc; }
+    record { taken = one.0; free = empty_word state.settings.target one.1; apart = λ (q : Target ≡ Partitions). cc }
 may_give_so state Partitions e =
     let s = state.settings in
     let one = and_parts (takes_run state.verb) (is_none s.partitions && not s.plain) e in
     let two = and_parts (is_none s.partitions) (not s.plain) one.1 in
-    record { taken = one.0; free = ap number_in (unset_at s.partitions two.0); apart = λ q. lowered s.plain two.1; }
+    record { taken = one.0; free = ap number_in (unset_at s.partitions two.0); apart = λ q. lowered s.plain two.1 }
 
 -- ---- other words
 

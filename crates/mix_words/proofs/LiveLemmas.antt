@@ -130,9 +130,12 @@ module _ (state : State) (value : Word) where
   pub env_no_build : (HasTarget value state.settings.target → ⊥) → Bars state (Joint Env value)
   env_no_build never settings others r =
       let only = env_only settings others r in
-      never (target_of settings, kept_target state.settings.target settings.target (r.values Target).0 (r.values Target).1,
-      name_or_host settings.target (λ t. IsTrue (takes_build state.verb) × IsAppName t) (λ t h. h.1) r.takes.target,
-      subst (λ (e : Option Word). HasBuildName (unwrap_or e dev) (target_of settings)) only.is r.build)
+      never (
+        target_of settings,
+        kept_target state.settings.target settings.target (r.values Target).0 (r.values Target).1,
+        name_or_host settings.target (λ t. IsTrue (takes_build state.verb) × IsAppName t) (λ t h. h.1) r.takes.target,
+        subst (λ (e : Option Word). HasBuildName (unwrap_or e dev) (target_of settings)) only.is r.build,
+      )
 
 -- ---- `--target`
 
@@ -158,9 +161,12 @@ module _ (state : State) (value : Word) where
   pub target_no_build : (HasEnv state.settings.env value → ⊥) → Bars state (Joint Target value)
   target_no_build never settings others r =
       let only = target_only settings others r in
-      never (env_of settings, kept_env state.settings.env settings.env (r.values Env).0 (r.values Env).1,
-      name_or_dev settings.env (λ e. IsTrue (takes_build state.verb) × IsAppName e) (λ e h. h.1) r.takes.env,
-      subst (λ (t : Option Word). HasBuildName (env_of settings) (unwrap_or t host)) only.is r.build)
+      never (
+        env_of settings,
+        kept_env state.settings.env settings.env (r.values Env).0 (r.values Env).1,
+        name_or_dev settings.env (λ e. IsTrue (takes_build state.verb) × IsAppName e) (λ e h. h.1) r.takes.env,
+        subst (λ (t : Option Word). HasBuildName (env_of settings) (unwrap_or t host)) only.is r.build,
+      )
 
 -- ---- `--partitions`
 
@@ -191,7 +197,7 @@ module _ (state : State) (value : Word) where
   no_count never settings others r =
       let only = count_only settings others r in
       let fact = count_fact settings others r in
-      never only.number (record { bytes = only.bytes; least = fact.1.least; most = fact.1.most; })
+      never only.number (record { bytes = only.bytes; least = fact.1.least; most = fact.1.most })
 
 -- ---- `--plain` and `--trace`
 

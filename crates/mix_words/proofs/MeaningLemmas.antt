@@ -60,13 +60,13 @@ one_order verb words a b x y =
     let env : x.settings.env ≡ y.settings.env = same_word x.settings.env y.settings.env (values Env) in
     let target : x.settings.target ≡ y.settings.target = same_word x.settings.target y.settings.target (values Target) in
     let count : x.settings.partitions ≡ y.settings.partitions =
-        same_number x.settings.partitions y.settings.partitions (few x.settings.partitions _ _ x.takes.partitions) (few y.settings.partitions _ _ y.takes.partitions) (values Partitions) in
+    same_number x.settings.partitions y.settings.partitions (few x.settings.partitions _ _ x.takes.partitions) (few y.settings.partitions _ _ y.takes.partitions) (values Partitions) in
     let plain : x.settings.plain ≡ y.settings.plain = same_flag Plain x.settings.plain y.settings.plain (flags Plain) in
     let trace : x.settings.trace ≡ y.settings.trace = same_flag Trace x.settings.trace y.settings.trace (flags Trace) in
     let settings : x.settings ≡ y.settings = λ i. record { env = env i; target = target i; partitions = count i; plain = plain i; trace = trace i } in
     let apps : x.apps ≡ y.apps = sym x.says.left ∙ ap others_of pieces ∙ y.says.left in
     let made : Some a ≡ Some b =
-        sym x.makes ∙ ap (λ (s : Settings). made_of verb s x.apps) settings ∙ ap (made_of verb y.settings) apps ∙ y.makes in cc
+    sym x.makes ∙ ap (λ (s : Settings). made_of verb s x.apps) settings ∙ ap (made_of verb y.settings) apps ∙ y.makes in cc
 
 one_units : (words : List Word) (a b : Command) → AsksUnits words a → AsksUnits words b → a ≡ b
 one_units words a b x y =

@@ -47,7 +47,7 @@ asks_behind verb rest command m =
     subst (λ (v : Verb). Asks v rest command) (sym same) (subst (λ (r : List Word). Asks m.verb r command) (sym behind) m.asks)
 
 means_behind : (verb : Verb) (rest : List Word) (command : Command) → Asks verb rest command → Means (name_of verb ∷ rest) command
-means_behind verb rest command a = record { verb = verb; behind = rest; spelled = refl; asks = a; }
+means_behind verb rest command a = record { verb = verb; behind = rest; spelled = refl; asks = a }
 
 later : (verb : Verb) (rest : List Word) (at k : ℕ) → IsRefusedAt (IsAsked verb) rest at → suc at < k → k ≤ suc (length rest)
     → Begins IsMeant (take k (name_of verb ∷ rest)) → ⊥
@@ -96,7 +96,7 @@ refused_unnamed first rest never = record {
 -- ---- as the reader has them
 
 pub means_named : (verb : Verb) (first : Word) (rest : List Word) (command : Command) → first ≡ name_of verb → Asks verb rest command → Means (first ∷ rest) command
-means_named verb first rest command e asks = record { verb = verb; behind = rest; spelled = ap (λ (w : Word). w ∷ rest) e; asks = asks; }
+means_named verb first rest command e asks = record { verb = verb; behind = rest; spelled = ap (λ (w : Word). w ∷ rest) e; asks = asks }
 
 pub refused_later : (verb : Verb) (first : Word) (rest : List Word) (at : ℕ) → first ≡ name_of verb → IsRefusedAt (IsAsked verb) rest at → IsRefusedAt IsMeant (first ∷ rest) (at + 1)
 refused_later verb first rest at e refused =

@@ -21,13 +21,13 @@ use Rattle.mix_words.specs.Reading.{IsAsked, IsBehind, blame_of}
 -- ---- `gen`
 
 pub asks_units : (first second : Word) (n m : ℕ) → IsNumber 0 most_units first n → IsNumber 0 most_start second m → AsksUnits (first ∷ second ∷ []) (commands.Gen n m)
-asks_units first second n m a b = record { first = first; second = second; count = n; start = m; two = refl; counts = a; starts = b; makes = refl; }
+asks_units first second n m a b = record { first = first; second = second; count = n; start = m; two = refl; counts = a; starts = b; makes = refl }
 
 zero_units : IsNumber 0 most_units (decimal 0) 0
-zero_units = record { bytes = refl; least = lit≤ tt; most = lit≤ tt; }
+zero_units = record { bytes = refl; least = lit≤ tt; most = lit≤ tt }
 
 zero_start : IsNumber 0 most_start (decimal 0) 0
-zero_start = record { bytes = refl; least = lit≤ tt; most = lit≤ tt; }
+zero_start = record { bytes = refl; least = lit≤ tt; most = lit≤ tt }
 
 first_counts : (first : Word) (rest : List Word) → IsAsked Gen (first ∷ rest) → (n : ℕ) × IsNumber 0 most_units first n
 first_counts first rest asked =
@@ -52,9 +52,9 @@ units_first first rest never =
     refused_where (IsAsked Gen) [] (first ∷ rest) (λ (a : IsAsked Gen (first ∷ rest)). let n = first_counts first rest a in never n.0 n.1)
     (decimal 0 ∷ decimal 0 ∷ [], (commands.Gen 0 0, asks_units (decimal 0) (decimal 0) 0 0 zero_units zero_start))
     (λ next others e begins.
-      let same : first ≡ next = cc in
-      let n = first_counts next begins.0 begins.1 in
-      never n.0 (subst (λ (w : Word). IsNumber 0 most_units w n.0) (sym same) n.1))
+    let same : first ≡ next = cc in
+    let n = first_counts next begins.0 begins.1 in
+    never n.0 (subst (λ (w : Word). IsNumber 0 most_units w n.0) (sym same) n.1))
 
 pub units_one : (first : Word) (n : ℕ) → IsNumber 0 most_units first n → IsRefusedAt (IsAsked Gen) (first ∷ []) 1
 units_one first n is =
@@ -69,9 +69,9 @@ units_second first second rest n is never =
     (λ (a : IsAsked Gen (first ∷ second ∷ rest)). let m = second_starts first second rest a in never m.0 m.1)
     (decimal 0 ∷ [], (commands.Gen n 0, asks_units first (decimal 0) n 0 is zero_start))
     (λ next others e begins.
-      let same : second ≡ next = cc in
-      let m = second_starts first next begins.0 begins.1 in
-      never m.0 (subst (λ (w : Word). IsNumber 0 most_start w m.0) (sym same) m.1))
+    let same : second ≡ next = cc in
+    let m = second_starts first next begins.0 begins.1 in
+    never m.0 (subst (λ (w : Word). IsNumber 0 most_start w m.0) (sym same) m.1))
 
 pub units_over : (first second third : Word) (rest : List Word) (n m : ℕ) → IsNumber 0 most_units first n → IsNumber 0 most_start second m
     → IsRefusedAt (IsAsked Gen) (first ∷ second ∷ third ∷ rest) 2
@@ -84,7 +84,7 @@ units_over first second third rest n m a b =
 -- ---- `batch`
 
 pub asks_script : (word : Word) (path : List ℕ) → IsScript word path → AsksScript (word ∷ []) (commands.Batch path)
-asks_script word path is = record { word = word; path = path; one = refl; script = is; makes = refl; }
+asks_script word path is = record { word = word; path = path; one = refl; script = is; makes = refl }
 
 -- some path
 a_joins : joined [] (codes "a") ≡ Ok (codes "a")
@@ -92,7 +92,7 @@ a_joins =
     ap (λ (o : Option ℕ). unless_refused o (from_base [] (codes "a"))) (first_refused_of_utf8 (codes "a") (name_is_utf8 (codes "a") shortest_name.bytes))
 
 script_a : IsScript (codes "a") (codes "a")
-script_a = record { no_option = refl; joins = a_joins; outside = refl; }
+script_a = record { no_option = refl; joins = a_joins; outside = refl }
 
 word_joins : (word : Word) (rest : List Word) → IsAsked Batch (word ∷ rest) → (path : List ℕ) × IsScript word path
 word_joins word rest asked =
@@ -111,9 +111,9 @@ script_first word rest never =
     refused_where (IsAsked Batch) [] (word ∷ rest) (λ (a : IsAsked Batch (word ∷ rest)). let p = word_joins word rest a in never p.0 p.1)
     (codes "a" ∷ [], (commands.Batch (codes "a"), asks_script (codes "a") (codes "a") script_a))
     (λ next others e begins.
-      let same : word ≡ next = cc in
-      let p = word_joins next begins.0 begins.1 in
-      never p.0 (subst (λ (w : Word). IsScript w p.0) (sym same) p.1))
+    let same : word ≡ next = cc in
+    let p = word_joins next begins.0 begins.1 in
+    never p.0 (subst (λ (w : Word). IsScript w p.0) (sym same) p.1))
 
 pub script_over : (word next : Word) (rest : List Word) (path : List ℕ) → IsScript word path → IsRefusedAt (IsAsked Batch) (word ∷ next ∷ rest) 1
 script_over word next rest path is =
@@ -125,7 +125,7 @@ script_over word next rest path is =
 -- ---- as the reader has them
 
 pub computes_refused : (verb : Verb) (words : List Word) (at : ℕ) → IsRefusedAt (IsAsked verb) words at → Computes blame_of (Err (Refused at)) (IsBehind verb words)
-computes_refused verb words at refused = record { answer = λ _. refused; alone = refl; }
+computes_refused verb words at refused = record { answer = λ _. refused; alone = refl }
 
 module _ {A : Type 0} (f : A → Word) where
   pub no_words : (xs : List A) → length xs ≡ 0 → [] ≡ map f xs

@@ -79,5 +79,5 @@ computes_stopped verb words stop at error e refused =
     subst (λ (x : WordsError). Computes blame_of (Err x) (IsBehind verb words)) (sym e) (by_stop stop refused)
   where
     by_stop : (s : Stop) → (s ≡ stops.Refused → IsRefusedAt (IsAsked verb) words at) → Computes blame_of (Err (refused_at s at)) (IsBehind verb words)
-    by_stop stops.Refused r = record { answer = λ _. r refl; alone = refl; }
-    by_stop stops.OutOfMemory r = record { answer = λ b. cc; alone = refl; }
+    by_stop stops.Refused r = record { answer = λ _. r refl; alone = refl }
+    by_stop stops.OutOfMemory r = record { answer = λ b. cc; alone = refl }

@@ -46,10 +46,10 @@ waiting_at state option = record { state = state; waiting = Some option }
 pub follows_value : (state new : State) (option : Valued) (value : Word) → Goes state (Joint option value) new → Follows (waiting_at state option) value (ready_at new)
 follows_value state new option value goes =
     let adds = spaced_adds state new option value goes.adds in record {
-  on = λ left command l. adds_on state new (Spaced option value) tt adds left command l;
-  back = λ left command l. adds_back state new (Spaced option value) tt adds left command l;
-  lives = record { state = goes.lives; waiting = tt };
-}
+      on = λ left command l. adds_on state new (Spaced option value) tt adds left command l;
+      back = λ left command l. adds_back state new (Spaced option value) tt adds left command l;
+      lives = record { state = goes.lives; waiting = tt };
+    }
 
 pub dies_value : (state : State) (option : Valued) (value : Word) → Bars state (Joint option value) → Dies (waiting_at state option) value
 dies_value state option value bars left command l = barred state (Spaced option value) tt (spaced_bars state option value bars) left command l
@@ -173,9 +173,9 @@ refused_at_word verb words rest place word led dies =
     (λ (o : IsOrdered verb (words ++ word ∷ rest)). dies rest o.0 (led.on (word ∷ rest) o.0 o.1))
     (led_begins verb words place led)
     (λ next others e begins.
-      let same : word ≡ next = cc in
-      let whole = subst (λ (t : List Word). Orders verb t begins.1.0) (append_assoc words (next ∷ []) begins.0) begins.1.1 in
-      dies begins.0 begins.1.0 (led.on (word ∷ begins.0) begins.1.0 (subst (λ (w : Word). Orders verb (words ++ w ∷ begins.0) begins.1.0) (sym same) whole)))
+    let same : word ≡ next = cc in
+    let whole = subst (λ (t : List Word). Orders verb t begins.1.0) (append_assoc words (next ∷ []) begins.0) begins.1.1 in
+    dies begins.0 begins.1.0 (led.on (word ∷ begins.0) begins.1.0 (subst (λ (w : Word). Orders verb (words ++ w ∷ begins.0) begins.1.0) (sym same) whole)))
 
 pub refused_at_end : (verb : Verb) (words : List Word) (place : Place) → Led verb words place → ((command : Command) → LeadsOn place [] command → ⊥)
     → IsRefusedAt (IsOrdered verb) words (length words)

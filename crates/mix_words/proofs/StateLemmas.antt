@@ -90,16 +90,16 @@ others_along old new p adds more = ap (λ (t : List Word). t ++ more) adds.other
 pub adds_on : (old new : State) (p : Piece) → Stands p → Adds old p new → (left : List Word) (command : Command) → Leads old (words_in p ++ left) command → Leads new left command
 adds_on old new p stands adds left command l =
     let cut = cut_off old p left command stands l in record {
-  pieces = cut.pieces;
-  settings = cut.settings;
-  spelled = cut.spelled;
-  stand = cut.stand;
-  values = λ o. ap (λ (t : List Word). t ++ values_of o cut.pieces) (adds.values o) ∙ append_assoc (given_in old.settings o) (value_in o p) (values_of o cut.pieces) ∙ cut.values o;
-  flags = λ f. ap (λ (t : List Flag). t ++ flags_of f cut.pieces) (adds.flags f) ∙ append_assoc (raised_in old.settings f) (flag_in f p) (flags_of f cut.pieces) ∙ cut.flags f;
-  takes = takes_same new.verb old.verb cut.settings _ _ adds.verb (others_along old new p adds (others_of cut.pieces)) cut.takes;
-  build = cut.build;
-  makes = made_same new.verb old.verb cut.settings _ _ adds.verb (others_along old new p adds (others_of cut.pieces)) ∙ cut.makes;
-}
+      pieces = cut.pieces;
+      settings = cut.settings;
+      spelled = cut.spelled;
+      stand = cut.stand;
+      values = λ o. ap (λ (t : List Word). t ++ values_of o cut.pieces) (adds.values o) ∙ append_assoc (given_in old.settings o) (value_in o p) (values_of o cut.pieces) ∙ cut.values o;
+      flags = λ f. ap (λ (t : List Flag). t ++ flags_of f cut.pieces) (adds.flags f) ∙ append_assoc (raised_in old.settings f) (flag_in f p) (flags_of f cut.pieces) ∙ cut.flags f;
+      takes = takes_same new.verb old.verb cut.settings _ _ adds.verb (others_along old new p adds (others_of cut.pieces)) cut.takes;
+      build = cut.build;
+      makes = made_same new.verb old.verb cut.settings _ _ adds.verb (others_along old new p adds (others_of cut.pieces)) ∙ cut.makes;
+    }
 
 pub adds_back : (old new : State) (p : Piece) → Stands p → Adds old p new → (left : List Word) (command : Command) → Leads new left command → Leads old (words_in p ++ left) command
 adds_back old new p stands adds left command l = record {
@@ -132,13 +132,19 @@ barred state p stands bars left command l =
 as_joint : (state : State) (option : Valued) (value : Word) (settings : Settings) (others : List Word)
     → Reaches state (Spaced option value) settings others → Reaches state (Joint option value) settings others
 as_joint state option value settings others r = record {
-  values = r.values; flags = r.flags; more = r.more; whole = r.whole; takes = r.takes; build = r.build; }
+  values = r.values;
+  flags = r.flags;
+  more = r.more;
+  whole = r.whole;
+  takes = r.takes;
+  build = r.build;
+}
 
 pub spaced_bars : (state : State) (option : Valued) (value : Word) → Bars state (Joint option value) → Bars state (Spaced option value)
 spaced_bars state option value bars settings others r = bars settings others (as_joint state option value settings others r)
 
 pub spaced_adds : (old new : State) (option : Valued) (value : Word) → Adds old (Joint option value) new → Adds old (Spaced option value) new
-spaced_adds old new option value a = record { verb = a.verb; values = a.values; flags = a.flags; others = a.others; }
+spaced_adds old new option value a = record { verb = a.verb; values = a.values; flags = a.flags; others = a.others }
 
 -- an option that may not be given ends every way on
 pub option_barred : (state : State) (option : Valued) → BarsOption state option → (left : List Word) (command : Command) → Leads state (valued_word option ∷ left) command → ⊥

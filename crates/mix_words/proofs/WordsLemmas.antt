@@ -13,7 +13,7 @@ use Rattle.mix_words.proofs.NamedLemmas.{refused_empty, refused_later, refused_u
 use Rattle.mix_words.proofs.OperandLemmas.{first_words, no_words}
 
 pub computes_reading : (words : List Word) (at : ℕ) → IsRefusedAt IsMeant words at → Computes blame_of (Err (Refused at)) (IsReading words)
-computes_reading words at refused = record { answer = λ _. refused; alone = refl; }
+computes_reading words at refused = record { answer = λ _. refused; alone = refl }
 
 module _ {A : Type 0} (f : A → Word) where
   pub refused_no_words : (xs : List A) → length xs ≡ 0 → IsRefusedAt IsMeant (map f xs) 0

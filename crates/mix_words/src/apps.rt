@@ -40,7 +40,10 @@ impl<'a> Apps<'a> {
         requires { name ≡ word.now }
         ensures { IfOk result (λ apps. apps.names ≡ self.entry.names ++ name ∷ []) }
     {
-        let Apps { mut names, mut known } = self;
+        let Apps {
+            mut names,
+            mut known,
+        } = self;
         names.push(name)?;
         known.insert(word)?;
         Ok(Apps { names, known })

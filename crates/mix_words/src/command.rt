@@ -11,9 +11,13 @@ pub enum Command {
     /// The names of the commands.
     Help,
     /// Lists the dependencies.
-    Deps { build: BuildChoice },
+    Deps {
+        build: BuildChoice,
+    },
     /// Lists what would be compiled again.
-    Stale { build: BuildChoice },
+    Stale {
+        build: BuildChoice,
+    },
     /// Compiles the dependencies.
     Compile {
         build: BuildChoice,
@@ -25,9 +29,17 @@ pub enum Command {
         trace: bool,
     },
     /// Removes what was built of these apps, or of all where none is named.
-    Clean { build: BuildChoice, apps: Names },
+    Clean {
+        build: BuildChoice,
+        apps: Names,
+    },
     /// Generates a project of so many units, from 0 to 4000, by a number from 0 to 2147483647.
-    Gen { count: u32, start: u32 },
+    Gen {
+        count: u32,
+        start: u32,
+    },
     /// Runs the script at a path outside of the builds.
-    Batch { path: RelPath },
+    Batch {
+        path: RelPath,
+    },
 }

@@ -13,6 +13,7 @@ use mx_base::{PathError, RelPath};
 use std::alloc::{AllocError, Global};
 
 const MOST_UNITS: u32 = 4000;
+
 const MOST_START: u32 = 2_147_483_647;
 
 /// How many units are asked for, and the number to start from.

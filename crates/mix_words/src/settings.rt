@@ -8,8 +8,8 @@ ghost use Rattle.mix_words.specs.declared.error.Stop.TheVariants as stops;
 
 use crate::build_choice::BuildChoice;
 use crate::error::Stop;
-use crate::option::Flag;
 use crate::named::{has_build_name, name_of};
+use crate::option::Flag;
 use mx_base::{AppName, HOST};
 use std::alloc::Global;
 
@@ -66,7 +66,7 @@ pub(crate) fn choice(
 ) -> Result<BuildChoice, Stop>
     ensures { MatchResult result
         (λ choice. (choice ≡ record { env = unwrap_or env dev; target = unwrap_or target host })
-            × HasBuildName (unwrap_or env dev) (unwrap_or target host))
+        × HasBuildName (unwrap_or env dev) (unwrap_or target host))
         (λ stop. stop ≡ stops.Refused → HasBuildName (unwrap_or env dev) (unwrap_or target host) → ⊥) }
 {
     let env = or_named(alloc, env, DEV)?;

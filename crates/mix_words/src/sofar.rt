@@ -130,7 +130,7 @@ impl<'a> Sofar<'a> {
         ensures { MatchResult result
             (λ new. Goes (state_of self.entry) (Joint Valued.Partitions value.now) (state_of new))
             (λ stop. stop ≡ stops.Refused
-                → Bars (state_of self.entry) (Joint Valued.Partitions value.now)) }
+            → Bars (state_of self.entry) (Joint Valued.Partitions value.now)) }
     {
         let Sofar {
             verb,

@@ -68,10 +68,7 @@ impl Verb {
     pub(crate) fn takes_build(self) -> bool
         ensures { result ≡ takes_build self }
     {
-        matches!(
-            self,
-            Verb::Deps | Verb::Stale | Verb::Compile | Verb::Clean
-        )
+        matches!(self, Verb::Deps | Verb::Stale | Verb::Compile | Verb::Clean)
     }
 
     /// Whether it takes the options of a run.

@@ -18,6 +18,6 @@ pub returns-in-Err-Refused : goal.returns-in-Err-Refused
 returns-in-Err-Refused c =
     let verb = c.in-Some-named.verb in
     let behind = subst (λ (e : WordsError). Computes blame_of (Err e) (IsBehind verb (map (λ word. string_bytes word) c.in-Some.rest.now)))
-        c.in-Err-Refused.field-0-is c.in-Err-Refused.ensures in
+    c.in-Err-Refused.field-0-is c.in-Err-Refused.ensures in
     computes_reading _ _ (refused_behind_name (λ word. string_bytes word) verb c.args.words.now c.in-Some.rest.now c.in-Some.first.now c.in-Err-Refused.at
     c.in-Some.ensures.cases.0 (sym c.as_str.ensures.value ∙ c.in-Some-named.ensures.some) (behind.answer refl))

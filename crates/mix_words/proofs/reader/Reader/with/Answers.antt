@@ -5,7 +5,7 @@ use Rattle.mix_words.proofs.reader.Reader.with.Goals as goal
 
 pub returns-in_err-with_value-in-Some : goal.returns-in_err-with_value-in-Some
 returns-in_err-with_value-in-Some c =
-    let p = err_from_is_err_and c.from_residual.result c.from_residual.ensures.1 in rw (p.1, p.2) 
+    let p = err_from_is_err_and c.from_residual.result c.from_residual.ensures.1 in rw (p.1, p.2)
     (λ is. dies_value_at (place_of c.args.self) c.in-Some.option c.args.word.now c.in-Some.is (c.in_err-with_value-in-Some.ensures is))
 
 pub returns-in_ok-with_value-in-Some : goal.returns-in_ok-with_value-in-Some

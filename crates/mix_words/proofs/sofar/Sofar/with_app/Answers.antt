@@ -24,5 +24,5 @@ pub returns : goal.returns
 returns c =
     let named = at_some (λ (n : List ℕ). (n ≡ c.args.word.now) × IsAppName n) c.in_ok-name.field-0 c.in-Some.name c.in-Some.is c.in_ok-name.ensures.some in
     goes_app_as (state_of c.args.self) c.args.word.now c.in-Some.name c.in_ok-apps.apps.names c.requires
-    (record { taken = sym c.if-not-takes_apps.ensures; name = subst IsAppName named.0 named.1; once = sym c.if-has.ensures; })
+    (record { taken = sym c.if-not-takes_apps.ensures; name = subst IsAppName named.0 named.1; once = sym c.if-has.ensures })
     named.0 c.in_ok-apps.ensures
