@@ -43,7 +43,8 @@ among_more (w ∷ ws) word t =
     ap (λ (b : Bool). bytes_eq t w || b) (among_more ws word t) ∙ or_regrouped (bytes_eq t w) (is_among ws t) (bytes_eq t word)
 
 -- one word more was put into the set
-pub known_more : (words more : List (List ℕ)) (word : List ℕ) (old new : BTreeSet (Bor (List ℕ))) (key : Bor (List ℕ)) → word ≡ key.now → more ≡ words ++ word ∷ []
+pub known_more : (words more : List (List ℕ)) (word : List ℕ) (old new : BTreeSet (Bor (List ℕ))) (key : Bor (List ℕ)) → word ≡ key.now
+    → more ≡ words ++ word ∷ []
     → UpdatesBy (λ (x y : Bor (List ℕ)). text_cmp x.now y.now) (λ (k : Bor (List ℕ)). text_cmp key.now k.now) old new true
     → ((t : List ℕ) → contains_by (λ (k : Bor (List ℕ)). text_cmp t k.now) old ≡ is_among words t)
     → (t : List ℕ) → contains_by (λ (k : Bor (List ℕ)). text_cmp t k.now) new ≡ is_among more t

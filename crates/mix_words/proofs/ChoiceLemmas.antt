@@ -49,7 +49,8 @@ plain_target env target e = (bytes_eq-Decides target host).0 (and_parts (bytes_e
 pub has_by_length : (env target : List ℕ) (fits : Bool) → is_plain env target ≡ false → length env ≤ 255 → (fits ≡ true → tagged_length env target ≤ 255)
     → (fits ≡ false → 255 < tagged_length env target) → IsTrue fits ↔ HasBuildName env target
 has_by_length env target true plain small fitting never = (λ _. short_has env target small (fitting refl), λ _. refl)
-has_by_length env target false plain small fitting never = (λ (h : false ≡ true). cc, λ (h : HasBuildName env target). absurd (omega (arith, tagged_has env target plain h, never refl)))
+has_by_length env target false plain small fitting never = (λ (h : false ≡ true). cc, λ (h : HasBuildName env target). absurd (omega
+    (arith, tagged_has env target plain h, never refl)))
 
 -- ---- how many digits a number has
 
@@ -143,7 +144,8 @@ target_given env target b name iff = (
 pub target_by_host : (env : List ℕ) → HasBuildName env host → IsTrue true ↔ HasTarget env None
 target_by_host env has = (λ _. (host, tt, host_name, has), λ _. refl)
 
-pub target_by_short : (env : List ℕ) (b : Bool) → IsAppName env → (HasBuildName env host → ⊥) → (IsTrue b ↔ HasBuildName env shortest) → IsTrue b ↔ HasTarget env None
+pub target_by_short : (env : List ℕ) (b : Bool) → IsAppName env → (HasBuildName env host → ⊥) → (IsTrue b ↔ HasBuildName env shortest)
+    → IsTrue b ↔ HasTarget env None
 target_by_short env b name other iff = (
   λ h. (shortest, tt, shortest_name, iff.0 h),
   λ (has : HasTarget env None). true_from_ne_false b (λ f. no_target env name other (λ s. both_ways b f (iff.1 s)) has),

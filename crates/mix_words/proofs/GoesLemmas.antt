@@ -45,7 +45,8 @@ same_flags s flag = sym (append-nil (raised_in s flag))
 
 -- ---- `--env`
 
-env_values : (s : Settings) (v : Word) → word_in s.env ≡ [] → (option : Valued) → given_in (set_env s v) option ≡ given_in s option ++ value_in option (Joint Env v)
+env_values : (s : Settings) (v : Word) → word_in s.env ≡ [] → (option : Valued)
+    → given_in (set_env s v) option ≡ given_in s option ++ value_in option (Joint Env v)
 env_values s v free Env = one_more (word_in s.env) v free
 env_values s v free Target = sym (append-nil (word_in s.target))
 env_values s v free Partitions = sym (append-nil (number_in s.partitions))
@@ -84,7 +85,8 @@ goes_env state v lives may name has = record {
 
 -- ---- `--target`
 
-target_values : (s : Settings) (v : Word) → word_in s.target ≡ [] → (option : Valued) → given_in (set_target s v) option ≡ given_in s option ++ value_in option (Joint Target v)
+target_values : (s : Settings) (v : Word) → word_in s.target ≡ [] → (option : Valued)
+    → given_in (set_target s v) option ≡ given_in s option ++ value_in option (Joint Target v)
 target_values s v free Env = sym (append-nil (word_in s.env))
 target_values s v free Target = one_more (word_in s.target) v free
 target_values s v free Partitions = sym (append-nil (number_in s.partitions))
@@ -123,7 +125,8 @@ goes_target state v lives may name has = record {
 
 -- ---- `--partitions`
 
-count_values : (s : Settings) (n : ℕ) → number_in s.partitions ≡ [] → (option : Valued) → given_in (set_count s n) option ≡ given_in s option ++ value_in option (Joint Partitions (decimal n))
+count_values : (s : Settings) (n : ℕ) → number_in s.partitions ≡ [] → (option : Valued)
+    → given_in (set_count s n) option ≡ given_in s option ++ value_in option (Joint Partitions (decimal n))
 count_values s n free Env = sym (append-nil (word_in s.env))
 count_values s n free Target = sym (append-nil (word_in s.target))
 count_values s n free Partitions = one_more (number_in s.partitions) (decimal n) free
@@ -186,7 +189,8 @@ nothing_at P (Some x) e = cc
 true_not_false : (b : Bool) → b ≡ true → b ≡ false → ⊥
 true_not_false b t f = let e : true ≡ false = sym t ∙ f in cc
 
-pub goes_plain : (state : State) → Lives state → IsTrue (takes_run state.verb) → state.settings.plain ≡ false → state.settings.trace ≡ false → state.settings.partitions ≡ None
+pub goes_plain : (state : State) → Lives state → IsTrue (takes_run state.verb) → state.settings.plain ≡ false → state.settings.trace ≡ false
+    → state.settings.partitions ≡ None
     → Goes state (Raised Plain) (with_settings state (set_plain state.settings))
 goes_plain state lives taken plain trace count = record {
   adds = record {
@@ -242,7 +246,8 @@ lowered : (b : Bool) → not b ≡ true → b ≡ false
 lowered true e = cc
 lowered false e = refl
 
-pub goes_flag : (state : State) (flag : Flag) → Lives state → may_raise state flag ≡ true → Goes state (Raised flag) (with_settings state (raise state.settings flag))
+pub goes_flag : (state : State) (flag : Flag) → Lives state → may_raise state flag ≡ true
+    → Goes state (Raised flag) (with_settings state (raise state.settings flag))
 goes_flag state Plain lives may =
     let s = state.settings in
     let one = and_parts (takes_run state.verb) (not s.plain && (not s.trace && is_none s.partitions)) may in
@@ -300,7 +305,8 @@ goes_app state word lives fits = record {
   };
 }
 
-pub goes_app_as : (state : State) (word name : Word) (names : List Word) → Lives state → IsApp state.verb state.others word → name ≡ word → names ≡ state.others ++ name ∷ []
+pub goes_app_as : (state : State) (word name : Word) (names : List Word) → Lives state → IsApp state.verb state.others word → name ≡ word
+    → names ≡ state.others ++ name ∷ []
     → Goes state (Other word) (record { verb = state.verb; settings = state.settings; others = names })
 goes_app_as state word name names lives fits same grown =
     subst (λ (ns : List Word). Goes state (Other word) (record { verb = state.verb; settings = state.settings; others = ns }))

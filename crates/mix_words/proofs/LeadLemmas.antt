@@ -80,7 +80,8 @@ after_piece state new p stands goes build =
     let end = at_its_end new goes.lives build in
     (words_in p ++ end.0, (end.1.0, adds_back state new p stands goes.adds end.0 end.1.0 end.1.1))
 
-env_chosen : (state : State) (env : Word) → Lives state → state.settings.target ≡ None → state.settings.env ≡ Some env → HasTarget env None → LeadsSomewhere state
+env_chosen : (state : State) (env : Word) → Lives state → state.settings.target ≡ None → state.settings.env ≡ Some env → HasTarget env None
+    → LeadsSomewhere state
 env_chosen state env lives none is has =
     let taken = subst (λ (o : Option Word). IfSome o (λ e. IsTrue (takes_build state.verb) × IsAppName e)) is lives.takes.env in
     let free : word_in state.settings.target ≡ [] = ap word_in none in
@@ -89,7 +90,8 @@ env_chosen state env lives none is has =
     after_piece state _ (Joint Target has.0) tt (goes_target state has.0 lives may has.2 kept)
     (subst (λ (o : Option Word). HasBuildName (unwrap_or o dev) has.0) (sym is) has.3)
 
-target_chosen : (state : State) (target : Word) → Lives state → state.settings.env ≡ None → state.settings.target ≡ Some target → HasEnv None target → LeadsSomewhere state
+target_chosen : (state : State) (target : Word) → Lives state → state.settings.env ≡ None → state.settings.target ≡ Some target → HasEnv None target
+    → LeadsSomewhere state
 target_chosen state target lives none is has =
     let taken = subst (λ (o : Option Word). IfSome o (λ e. IsTrue (takes_build state.verb) × IsAppName e)) is lives.takes.target in
     let free : word_in state.settings.env ≡ [] = ap word_in none in
@@ -106,7 +108,8 @@ by_choice state None None lives e f =
 by_choice state (Some env) None lives e f =
     env_chosen state env lives f e (subst (HasTarget env) f (subst (λ (o : Option Word). IfSome o (λ x. HasTarget x state.settings.target)) e lives.env))
 by_choice state None (Some target) lives e f =
-    target_chosen state target lives e f (subst (λ (o : Option Word). HasEnv o target) e (subst (λ (o : Option Word). IfSome o (λ x. HasEnv state.settings.env x)) f lives.target))
+    target_chosen state target lives e f (subst (λ (o : Option Word). HasEnv o target) e (subst (λ (o : Option Word). IfSome o
+        (λ x. HasEnv state.settings.env x)) f lives.target))
 by_choice state (Some env) (Some target) lives e f =
     let has = subst (HasTarget env) f (subst (λ (o : Option Word). IfSome o (λ x. HasTarget x state.settings.target)) e lives.env) in
     let same : target ≡ has.0 = has.1 in

@@ -1,4 +1,5 @@
 pub mod AmongLemmas
+pub mod BarLemmas
 pub mod ChoiceLemmas
 pub mod GoesLemmas
 pub mod LeadLemmas

@@ -21,7 +21,7 @@ use Rattle.mix_words.specs.Table.{takes_apps, takes_build, takes_run, takes_valu
 
 -- ---- what one value more says of a list of one or none
 
-no_more_than_one : {X : Type 0} (x y v : X) (xs more : List X) → x ∷ (xs ++ (v ∷ more)) ≡ y ∷ [] → ⊥
+pub no_more_than_one : {X : Type 0} (x y v : X) (xs more : List X) → x ∷ (xs ++ (v ∷ more)) ≡ y ∷ [] → ⊥
 no_more_than_one x y v xs more e = omega (arith, ap length e, length-append xs (v ∷ more))
 
 -- there was none, and the one is this
@@ -29,7 +29,7 @@ pub record OnlyOne {X : Type 0} (before : List X) (value : X) (one : Option X) :
   pub none : before ≡ []
   pub is : one ≡ Some value
 
-only_word : (before : List Word) (value : Word) (more : List Word) (o : Option Word) → before ++ (value ∷ more) ≡ word_in o → OnlyOne before value o
+pub only_word : (before : List Word) (value : Word) (more : List Word) (o : Option Word) → before ++ (value ∷ more) ≡ word_in o → OnlyOne before value o
 only_word [] value more None e = cc
 only_word [] value more (Some w) e = record { none = refl; is = cc }
 only_word (x ∷ xs) value more None e = cc
@@ -41,7 +41,7 @@ pub record OnlyNumber (before : List Word) (value : Word) (one : Option ℕ) : T
   pub is : one ≡ Some number
   pub bytes : value ≡ decimal number
 
-only_number : (before : List Word) (value : Word) (more : List Word) (o : Option ℕ) → before ++ (value ∷ more) ≡ number_in o → OnlyNumber before value o
+pub only_number : (before : List Word) (value : Word) (more : List Word) (o : Option ℕ) → before ++ (value ∷ more) ≡ number_in o → OnlyNumber before value o
 only_number [] value more None e = cc
 only_number [] value more (Some n) e = record { none = refl; number = n; is = refl; bytes = cc }
 only_number (x ∷ xs) value more None e = cc
@@ -51,64 +51,65 @@ pub record OnlyFlag (before : List Flag) (one : Bool) : Type 0 where
   pub none : before ≡ []
   pub is : one ≡ true
 
-only_flag : (flag : Flag) (before : List Flag) (value : Flag) (more : List Flag) (b : Bool) → before ++ (value ∷ more) ≡ flag_if flag b → OnlyFlag before b
+pub only_flag : (flag : Flag) (before : List Flag) (value : Flag) (more : List Flag) (b : Bool) → before ++ (value ∷ more) ≡ flag_if flag b → OnlyFlag before b
 only_flag flag [] value more true e = record { none = refl; is = refl }
 only_flag flag [] value more false e = cc
 only_flag flag (x ∷ xs) value more true e = absurd (no_more_than_one x flag value xs more e)
 only_flag flag (x ∷ xs) value more false e = cc
 
 -- a flag that was raised stays
-raised_stays : (flag : Flag) (old new : Bool) (more : List Flag) → flag_if flag old ++ more ≡ flag_if flag new → old ≡ true → new ≡ true
+pub raised_stays : (flag : Flag) (old new : Bool) (more : List Flag) → flag_if flag old ++ more ≡ flag_if flag new → old ≡ true → new ≡ true
 raised_stays flag true true more e h = refl
 raised_stays flag true false more e h = cc
 raised_stays flag false new more e h = cc
 
 -- a word that was given stays
-given_stays : (old new : Option Word) (more : List Word) (word : Word) → word_in old ++ more ≡ word_in new → old ≡ Some word → new ≡ Some word
+pub given_stays : (old new : Option Word) (more : List Word) (word : Word) → word_in old ++ more ≡ word_in new → old ≡ Some word → new ≡ Some word
 given_stays None new more word e h = cc
 given_stays (Some w) None more word e h = cc
 given_stays (Some w) (Some x) more word e h = cc
 
 -- a number that was given stays one
-number_stays : (old new : Option ℕ) (more : List Word) (n : ℕ) → number_in old ++ more ≡ number_in new → old ≡ Some n → (m : ℕ) × (new ≡ Some m)
+pub number_stays : (old new : Option ℕ) (more : List Word) (n : ℕ) → number_in old ++ more ≡ number_in new → old ≡ Some n → (m : ℕ) × (new ≡ Some m)
 number_stays None new more n e h = cc
 number_stays (Some m) None more n e h = cc
 number_stays (Some m) (Some k) more n e h = (k, refl)
 
-none_of : (o : Option Word) → word_in o ≡ [] → o ≡ None
+pub none_of : (o : Option Word) → word_in o ≡ [] → o ≡ None
 none_of None e = refl
 none_of (Some w) e = cc
 
 pub at_some : {X : Type 0} (P : X → Type 0) (o : Option X) (x : X) → o ≡ Some x → IfSome o P → P x
 at_some P o x e h = subst (λ q. IfSome q P) e h
 
-true_or_false : (b : Bool) → IsTrue b → IsFalse b → ⊥
+pub true_or_false : (b : Bool) → IsTrue b → IsFalse b → ⊥
 true_or_false b t f = let e : true ≡ false = sym t ∙ f in cc
 
 -- ---- what a command chooses, where some of it was read
 
-kept_target : (old new : Option Word) (more : List Word) → word_in old ++ more ≡ word_in new → IfSome old (λ t. t ≡ unwrap_or new host)
+pub kept_target : (old new : Option Word) (more : List Word) → word_in old ++ more ≡ word_in new → IfSome old (λ t. t ≡ unwrap_or new host)
 kept_target None new more e = tt
 kept_target (Some w) None more e = cc
 kept_target (Some w) (Some x) more e = cc
 
-kept_env : (old new : Option Word) (more : List Word) → word_in old ++ more ≡ word_in new → IfSome old (λ e. e ≡ unwrap_or new dev)
+pub kept_env : (old new : Option Word) (more : List Word) → word_in old ++ more ≡ word_in new → IfSome old (λ e. e ≡ unwrap_or new dev)
 kept_env None new more e = tt
 kept_env (Some w) None more e = cc
 kept_env (Some w) (Some x) more e = cc
 
-name_or_host : (o : Option Word) (P : Word → Type 0) → ((w : Word) → P w → IsAppName w) → IfSome o P → IsAppName (unwrap_or o host)
+pub name_or_host : (o : Option Word) (P : Word → Type 0) → ((w : Word) → P w → IsAppName w) → IfSome o P → IsAppName (unwrap_or o host)
 name_or_host None P named h = host_name
 name_or_host (Some w) P named h = named w h
 
-name_or_dev : (o : Option Word) (P : Word → Type 0) → ((w : Word) → P w → IsAppName w) → IfSome o P → IsAppName (unwrap_or o dev)
+pub name_or_dev : (o : Option Word) (P : Word → Type 0) → ((w : Word) → P w → IsAppName w) → IfSome o P → IsAppName (unwrap_or o dev)
 name_or_dev None P named h = dev_name
 name_or_dev (Some w) P named h = named w h
 
 -- ---- `--env`
 
 module _ (state : State) (value : Word) where
-  env_only : (settings : Settings) (others : List Word) → Reaches state (Joint Env value) settings others → OnlyOne (word_in state.settings.env) value settings.env
+  env_only : (settings : Settings) (others : List Word) → Reaches state (Joint Env value) settings others
+      → OnlyOne (word_in state.settings.env) value settings.env
   env_only settings others r = only_word (word_in state.settings.env) value (r.values Env).0 settings.env (r.values Env).1
 
   pub env_not_taken : takes_build state.verb ≡ false → Bars state (Joint Env value)
@@ -140,10 +141,12 @@ module _ (state : State) (value : Word) where
 -- ---- `--target`
 
 module _ (state : State) (value : Word) where
-  target_only : (settings : Settings) (others : List Word) → Reaches state (Joint Target value) settings others → OnlyOne (word_in state.settings.target) value settings.target
+  target_only : (settings : Settings) (others : List Word) → Reaches state (Joint Target value) settings others
+      → OnlyOne (word_in state.settings.target) value settings.target
   target_only settings others r = only_word (word_in state.settings.target) value (r.values Target).0 settings.target (r.values Target).1
 
-  target_fact : (settings : Settings) (others : List Word) → Reaches state (Joint Target value) settings others → IsTrue (takes_build state.verb) × IsAppName value
+  target_fact : (settings : Settings) (others : List Word) → Reaches state (Joint Target value) settings others
+      → IsTrue (takes_build state.verb) × IsAppName value
   target_fact settings others r =
       at_some (λ (t : Word). IsTrue (takes_build state.verb) × IsAppName t) settings.target value (target_only settings others r).is r.takes.target
 
@@ -171,7 +174,8 @@ module _ (state : State) (value : Word) where
 -- ---- `--partitions`
 
 module _ (state : State) (value : Word) where
-  count_only : (settings : Settings) (others : List Word) → Reaches state (Joint Partitions value) settings others → OnlyNumber (number_in state.settings.partitions) value settings.partitions
+  count_only : (settings : Settings) (others : List Word) → Reaches state (Joint Partitions value) settings others
+      → OnlyNumber (number_in state.settings.partitions) value settings.partitions
   count_only settings others r = only_number (number_in state.settings.partitions) value (r.values Partitions).0 settings.partitions (r.values Partitions).1
 
   count_fact : (settings : Settings) (others : List Word) (r : Reaches state (Joint Partitions value) settings others)
@@ -198,106 +202,3 @@ module _ (state : State) (value : Word) where
       let only = count_only settings others r in
       let fact = count_fact settings others r in
       never only.number (record { bytes = only.bytes; least = fact.1.least; most = fact.1.most })
-
--- ---- `--plain` and `--trace`
-
-module _ (state : State) where
-  plain_only : (settings : Settings) (others : List Word) → Reaches state (Raised Plain) settings others → OnlyFlag (flag_if Plain state.settings.plain) settings.plain
-  plain_only settings others r = only_flag Plain (flag_if Plain state.settings.plain) Plain (r.flags Plain).0 settings.plain (r.flags Plain).1
-
-  trace_only : (settings : Settings) (others : List Word) → Reaches state (Raised Trace) settings others → OnlyFlag (flag_if Trace state.settings.trace) settings.trace
-  trace_only settings others r = only_flag Trace (flag_if Trace state.settings.trace) Trace (r.flags Trace).0 settings.trace (r.flags Trace).1
-
-  plain_not_taken : takes_run state.verb ≡ false → Bars state (Raised Plain)
-  plain_not_taken never settings others r = true_or_false (takes_run state.verb) (r.takes.plain (plain_only settings others r).is) never
-
-  plain_raised : state.settings.plain ≡ true → Bars state (Raised Plain)
-  plain_raised is settings others r =
-      let e : flag_if Plain true ≡ [] = ap (flag_if Plain) (sym is) ∙ (plain_only settings others r).none in cc
-
-  plain_after_trace : state.settings.trace ≡ true → Bars state (Raised Plain)
-  plain_after_trace is settings others r =
-      let traced = raised_stays Trace state.settings.trace settings.trace (r.flags Trace).0 (r.flags Trace).1 is in
-      true_or_false settings.plain (plain_only settings others r).is (r.takes.trace traced).1
-
-  plain_after_count : (n : ℕ) → state.settings.partitions ≡ Some n → Bars state (Raised Plain)
-  plain_after_count n is settings others r =
-      let still = number_stays state.settings.partitions settings.partitions (r.values Partitions).0 n (r.values Partitions).1 is in
-      let fact = at_some (λ (n : ℕ). IsTrue (takes_run state.verb) × IsPartitionCount n × IsFalse settings.plain) settings.partitions still.0 still.1 r.takes.partitions in
-      true_or_false settings.plain (plain_only settings others r).is fact.2
-
-  trace_not_taken : takes_run state.verb ≡ false → Bars state (Raised Trace)
-  trace_not_taken never settings others r = true_or_false (takes_run state.verb) (r.takes.trace (trace_only settings others r).is).0 never
-
-  trace_raised : state.settings.trace ≡ true → Bars state (Raised Trace)
-  trace_raised is settings others r =
-      let e : flag_if Trace true ≡ [] = ap (flag_if Trace) (sym is) ∙ (trace_only settings others r).none in cc
-
-  trace_after_plain : state.settings.plain ≡ true → Bars state (Raised Trace)
-  trace_after_plain is settings others r =
-      true_or_false settings.plain (raised_stays Plain state.settings.plain settings.plain (r.flags Plain).0 (r.flags Plain).1 is)
-      (r.takes.trace (trace_only settings others r).is).1
-
--- ---- the tests
-
-some_at : {X : Type 0} (o : Option X) → is_none o ≡ false → (x : X) × (o ≡ Some x)
-some_at None e = cc
-some_at (Some x) e = (x, refl)
-
-raised_at : (b : Bool) → not b ≡ false → b ≡ true
-raised_at true e = refl
-raised_at false e = cc
-
-pub may_not_give : (state : State) (option : Valued) → may_give state option ≡ false → BarsOption state option
-may_not_give state Env e value =
-    ⊎_elim (λ h. env_not_taken state value h)
-    (λ h. let given = some_at state.settings.env h in env_given state value given.0 given.1) (and_cases (takes_build state.verb) (is_none state.settings.env) e)
-may_not_give state Target e value =
-    ⊎_elim (λ h. target_not_taken state value h)
-    (λ h. let given = some_at state.settings.target h in target_given state value given.0 given.1) (and_cases (takes_build state.verb) (is_none state.settings.target) e)
-may_not_give state Partitions e value =
-    let s = state.settings in
-    ⊎_elim (λ h. count_not_taken state value h)
-    (λ h. ⊎_elim (λ k. let given = some_at s.partitions k in count_given state value given.0 given.1)
-    (λ k. count_after_plain state value (raised_at s.plain k)) (and_cases (is_none s.partitions) (not s.plain) h))
-    (and_cases (takes_run state.verb) (is_none s.partitions && not s.plain) e)
-
-pub may_not_raise : (state : State) (flag : Flag) → may_raise state flag ≡ false → Bars state (Raised flag)
-may_not_raise state Plain e =
-    let s = state.settings in
-    ⊎_elim (λ h. plain_not_taken state h)
-    (λ h. ⊎_elim (λ k. plain_raised state (raised_at s.plain k))
-    (λ k. ⊎_elim (λ t. plain_after_trace state (raised_at s.trace t))
-    (λ t. let given = some_at s.partitions t in plain_after_count state given.0 given.1)
-    (and_cases (not s.trace) (is_none s.partitions) k))
-    (and_cases (not s.plain) (not s.trace && is_none s.partitions) h))
-    (and_cases (takes_run state.verb) (not s.plain && (not s.trace && is_none s.partitions)) e)
-may_not_raise state Trace e =
-    let s = state.settings in
-    ⊎_elim (λ h. trace_not_taken state h)
-    (λ h. ⊎_elim (λ k. trace_after_plain state (raised_at s.plain k)) (λ k. trace_raised state (raised_at s.trace k)) (and_cases (not s.plain) (not s.trace) h))
-    (and_cases (takes_run state.verb) (not s.plain && not s.trace) e)
-
--- ---- other words
-
-fits_at_end : (verb : Verb) (before done : List Word) (word : Word) (more : List Word) → FitInTurn (IsApp verb) before (done ++ (word ∷ more)) → IsApp verb (before ++ done) word
-fits_at_end verb before [] word more fits = subst (λ (b : List Word). IsApp verb b word) (sym (append-nil before)) fits.0
-fits_at_end verb before (x ∷ xs) word more fits =
-    subst (λ (b : List Word). IsApp verb b word) (append_assoc before (x ∷ []) xs) (fits_at_end verb (before ++ x ∷ []) xs word more fits.1)
-
-module _ (state : State) (word : Word) where
-  pub app_fact : (settings : Settings) (others : List Word) → Reaches state (Other word) settings others → IsApp state.verb state.others word
-  app_fact settings others r =
-      fits_at_end state.verb [] state.others word r.more (subst (FitInTurn (IsApp state.verb) []) (sym r.whole) r.takes.apps)
-
-  pub app_barred : (IsApp state.verb state.others word → ⊥) → Bars state (Other word)
-  app_barred never settings others r = never (app_fact settings others r)
-
--- no name was found
-pub none_named : (P : Type 0) (o : Option Word) → IfNone o (P → ⊥) → o ≡ None → P → ⊥
-none_named P None h e p = h p
-none_named P (Some x) h e p = cc
-
-pub at_none : {X : Type 0} (P : Type 0) (o : Option X) → IfNone o P → o ≡ None → P
-at_none P None h e = h
-at_none P (Some x) h e = cc

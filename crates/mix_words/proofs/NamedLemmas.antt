@@ -95,10 +95,12 @@ refused_unnamed first rest never = record {
 
 -- ---- as the reader has them
 
-pub means_named : (verb : Verb) (first : Word) (rest : List Word) (command : Command) → first ≡ name_of verb → Asks verb rest command → Means (first ∷ rest) command
+pub means_named : (verb : Verb) (first : Word) (rest : List Word) (command : Command) → first ≡ name_of verb → Asks verb rest command
+    → Means (first ∷ rest) command
 means_named verb first rest command e asks = record { verb = verb; behind = rest; spelled = ap (λ (w : Word). w ∷ rest) e; asks = asks }
 
-pub refused_later : (verb : Verb) (first : Word) (rest : List Word) (at : ℕ) → first ≡ name_of verb → IsRefusedAt (IsAsked verb) rest at → IsRefusedAt IsMeant (first ∷ rest) (at + 1)
+pub refused_later : (verb : Verb) (first : Word) (rest : List Word) (at : ℕ) → first ≡ name_of verb → IsRefusedAt (IsAsked verb) rest at
+    → IsRefusedAt IsMeant (first ∷ rest) (at + 1)
 refused_later verb first rest at e refused =
     subst (IsRefusedAt IsMeant (first ∷ rest)) (sym (add-one at))
     (subst (λ (w : Word). IsRefusedAt IsMeant (w ∷ rest) (suc at)) (sym e) (refused_named verb rest at refused))

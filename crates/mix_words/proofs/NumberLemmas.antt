@@ -32,7 +32,8 @@ read_is_decimal {E} (byte ∷ bytes) n r plain parses is =
     sym back ∙ ap decimal (sym read.1)
 
 -- a text that is a number in decimal is read
-pub decimal_is_read : {E : Type 0} (text : List ℕ) (n : ℕ) (r : Result ℕ E) (e : E) → n < 2 ^ 32 → text ≡ decimal n → ParsesUnsigned 32 10 text r → r ≡ Err e → ⊥
+pub decimal_is_read : {E : Type 0} (text : List ℕ) (n : ℕ) (r : Result ℕ E) (e : E) → n < 2 ^ 32 → text ≡ decimal n → ParsesUnsigned 32 10 text r
+    → r ≡ Err e → ⊥
 decimal_is_read text n r e small same parses is = let ok = parse-decimal 32 n text r small (omega arith) same parses in cc
 
 first_digit : (digits : List ℕ) → 0 < length digits → AllDigits 10 digits → get_or digits 0 0 ≤ 57
@@ -57,7 +58,8 @@ pub no_decimal : (text : List ℕ) (n : ℕ) → is_plain text ≡ false → n <
 no_decimal text n never small same = let both : true ≡ false = sym (decimal_plain n small) ∙ ap is_plain (sym same) ∙ never in cc
 
 -- a number out of the bounds is none within them
-pub none_within : (low high n : ℕ) (text : List ℕ) → n < 2 ^ 32 → high < 2 ^ 32 → text ≡ decimal n → (low ≤ n → n ≤ high → ⊥) → (m : ℕ) → IsNumber low high text m → ⊥
+pub none_within : (low high n : ℕ) (text : List ℕ) → n < 2 ^ 32 → high < 2 ^ 32 → text ≡ decimal n → (low ≤ n → n ≤ high → ⊥) → (m : ℕ)
+    → IsNumber low high text m → ⊥
 none_within low high n text small top same never m is =
     let e : m ≡ n = decimal_injective m n (omega (arith, is.most)) (omega arith) (sym is.bytes ∙ same) in
     never (omega (arith, is.least, e)) (omega (arith, is.most, e))

@@ -20,7 +20,8 @@ use Rattle.mix_words.specs.Reading.{IsAsked, IsBehind, blame_of}
 
 -- ---- `gen`
 
-pub asks_units : (first second : Word) (n m : ℕ) → IsNumber 0 most_units first n → IsNumber 0 most_start second m → AsksUnits (first ∷ second ∷ []) (commands.Gen n m)
+pub asks_units : (first second : Word) (n m : ℕ) → IsNumber 0 most_units first n → IsNumber 0 most_start second m
+    → AsksUnits (first ∷ second ∷ []) (commands.Gen n m)
 asks_units first second n m a b = record { first = first; second = second; count = n; start = m; two = refl; counts = a; starts = b; makes = refl }
 
 zero_units : IsNumber 0 most_units (decimal 0) 0
@@ -124,7 +125,8 @@ script_over word next rest path is =
 
 -- ---- as the reader has them
 
-pub computes_refused : (verb : Verb) (words : List Word) (at : ℕ) → IsRefusedAt (IsAsked verb) words at → Computes blame_of (Err (Refused at)) (IsBehind verb words)
+pub computes_refused : (verb : Verb) (words : List Word) (at : ℕ) → IsRefusedAt (IsAsked verb) words at
+    → Computes blame_of (Err (Refused at)) (IsBehind verb words)
 computes_refused verb words at refused = record { answer = λ _. refused; alone = refl }
 
 module _ {A : Type 0} (f : A → Word) where
@@ -139,11 +141,14 @@ module _ {A : Type 0} (f : A → Word) where
   refused_empty_units xs e = subst (λ (t : List Word). IsRefusedAt (IsAsked Gen) t 0) (no_words xs e) units_empty
 
   pub refused_first_units : (xs rest : List A) (x : A) → xs ≡ x ∷ rest → ((n : ℕ) → IsNumber 0 most_units (f x) n → ⊥) → IsRefusedAt (IsAsked Gen) (map f xs) 0
-  refused_first_units xs rest x e never = subst (λ (t : List Word). IsRefusedAt (IsAsked Gen) t 0) (first_words xs rest x e) (units_first (f x) (map f rest) never)
+  refused_first_units xs rest x e never = subst (λ (t : List Word). IsRefusedAt (IsAsked Gen) t 0) (first_words xs rest x e) (units_first (f x)
+      (map f rest) never)
 
-  pub refused_one_unit : (xs rest : List A) (x : A) (n : ℕ) → xs ≡ x ∷ rest → length rest ≡ 0 → IsNumber 0 most_units (f x) n → IsRefusedAt (IsAsked Gen) (map f xs) 1
+  pub refused_one_unit : (xs rest : List A) (x : A) (n : ℕ) → xs ≡ x ∷ rest → length rest ≡ 0 → IsNumber 0 most_units (f x) n
+      → IsRefusedAt (IsAsked Gen) (map f xs) 1
   refused_one_unit xs rest x n e none is =
-      subst (λ (t : List Word). IsRefusedAt (IsAsked Gen) t 1) (ap (λ (t : List Word). f x ∷ t) (no_words rest none) ∙ first_words xs rest x e) (units_one (f x) n is)
+      subst (λ (t : List Word). IsRefusedAt (IsAsked Gen) t 1) (ap (λ (t : List Word). f x ∷ t) (no_words rest none) ∙ first_words xs rest x e)
+          (units_one (f x) n is)
 
   pub refused_second_units : (xs rest more : List A) (x y : A) (n : ℕ) → xs ≡ x ∷ rest → rest ≡ y ∷ more → IsNumber 0 most_units (f x) n
       → ((m : ℕ) → IsNumber 0 most_start (f y) m → ⊥) → IsRefusedAt (IsAsked Gen) (map f xs) 1
@@ -155,7 +160,8 @@ module _ {A : Type 0} (f : A → Word) where
   refused_empty_script xs e = subst (λ (t : List Word). IsRefusedAt (IsAsked Batch) t 0) (no_words xs e) script_empty
 
   pub refused_first_script : (xs rest : List A) (x : A) → xs ≡ x ∷ rest → ((path : List ℕ) → IsScript (f x) path → ⊥) → IsRefusedAt (IsAsked Batch) (map f xs) 0
-  refused_first_script xs rest x e never = subst (λ (t : List Word). IsRefusedAt (IsAsked Batch) t 0) (first_words xs rest x e) (script_first (f x) (map f rest) never)
+  refused_first_script xs rest x e never = subst (λ (t : List Word). IsRefusedAt (IsAsked Batch) t 0) (first_words xs rest x e) (script_first (f x)
+      (map f rest) never)
 
   pub refused_over_units : (xs rest more : List A) (x y : A) (n m : ℕ) → xs ≡ x ∷ rest → rest ≡ y ∷ more → length more ≢ 0 → IsNumber 0 most_units (f x) n
       → IsNumber 0 most_start (f y) m → IsRefusedAt (IsAsked Gen) (map f xs) 2
@@ -164,7 +170,8 @@ module _ {A : Type 0} (f : A → Word) where
       subst (λ (t : List Word). IsRefusedAt (IsAsked Gen) t 2) (ap (λ (t : List Word). f x ∷ t) (first_words rest (z ∷ zs) y g) ∙ first_words xs rest x e)
       (units_over (f x) (f y) (f z) (map f zs) n m a b)
 
-  pub refused_over_script : (xs rest : List A) (x : A) (path : List ℕ) → xs ≡ x ∷ rest → length rest ≢ 0 → IsScript (f x) path → IsRefusedAt (IsAsked Batch) (map f xs) 1
+  pub refused_over_script : (xs rest : List A) (x : A) (path : List ℕ) → xs ≡ x ∷ rest → length rest ≢ 0 → IsScript (f x) path
+      → IsRefusedAt (IsAsked Batch) (map f xs) 1
   refused_over_script xs [] x path e some is = absurd (some refl)
   refused_over_script xs (z ∷ zs) x path e some is =
       subst (λ (t : List Word). IsRefusedAt (IsAsked Batch) t 1) (first_words xs (z ∷ zs) x e) (script_over (f x) (f z) (map f zs) path is)

@@ -119,7 +119,8 @@ pub record HasValue (option : Valued) (piece : Piece) (left more : List Word) : 
   pub before : left ≡ value ∷ rest
   pub behind : more ≡ rest
 
-wanted : (option : Valued) (left more : List Word) (p : Piece) → valued_word option ∷ left ≡ words_in p ++ more → Wants option ≡ kind_in p → HasValue option p left more
+wanted : (option : Valued) (left more : List Word) (p : Piece) → valued_word option ∷ left ≡ words_in p ++ more → Wants option ≡ kind_in p
+    → HasValue option p left more
 wanted option left more (Spaced o v) e k = record { value = v; rest = more; spaced = cc; before = cc; behind = refl }
 wanted option left more (Joint o v) e k = cc
 wanted option left more (Raised o) e k = cc

@@ -15,12 +15,14 @@ use Rattle.mix_words.specs.Reading.{IsAsked, IsBehind, blame_of, refused_at}
 use Rattle.mix_words.specs.Table.{is_optioned}
 use Rattle.mix_words.proofs.RefusedLemmas.{IsOrdered, Led, led_more, orders_ask, refused_at_end, refused_at_word, refused_behind}
 
-one_taken : {A : Type 0} (f : A → Word) (xs : List A) (i : ℕ) (x : A) → i < length xs → x ≡ get_or xs i x → take (suc i) (map f xs) ≡ take i (map f xs) ++ f x ∷ []
+one_taken : {A : Type 0} (f : A → Word) (xs : List A) (i : ℕ) (x : A) → i < length xs → x ≡ get_or xs i x
+    → take (suc i) (map f xs) ≡ take i (map f xs) ++ f x ∷ []
 one_taken f [] i x within is = absurd (omega arith)
 one_taken f (y ∷ ys) zero x within is = ap (λ z. f z ∷ []) (sym is)
 one_taken f (y ∷ ys) (suc i) x within is = ap (λ t. f y ∷ t) (one_taken f ys i x (omega arith) is)
 
-cut_at : {A : Type 0} (f : A → Word) (xs : List A) (i : ℕ) (x : A) → i < length xs → x ≡ get_or xs i x → (rest : List Word) × (map f xs ≡ take i (map f xs) ++ f x ∷ rest)
+cut_at : {A : Type 0} (f : A → Word) (xs : List A) (i : ℕ) (x : A) → i < length xs → x ≡ get_or xs i x
+    → (rest : List Word) × (map f xs ≡ take i (map f xs) ++ f x ∷ rest)
 cut_at f [] i x within is = absurd (omega arith)
 cut_at f (y ∷ ys) zero x within is = (map f ys, ap (λ z. f z ∷ map f ys) (sym is))
 cut_at f (y ∷ ys) (suc i) x within is = let more = cut_at f ys i x (omega arith) is in (more.0, ap (λ t. f y ∷ t) more.1)
@@ -46,7 +48,8 @@ module _ {A : Type 0} (f : A → Word) (verb : Verb) (xs : List A) (i : ℕ) whe
       (led_more verb (take i (map f xs)) old new (f x) led follows)
 
   -- the word is refused
-  pub refused_there : IsTrue (is_optioned verb) → (x : A) (place : Place) → i < length xs → x ≡ get_or xs i x → Led verb (take i (map f xs)) place → Dies place (f x)
+  pub refused_there : IsTrue (is_optioned verb) → (x : A) (place : Place) → i < length xs → x ≡ get_or xs i x → Led verb (take i (map f xs)) place
+      → Dies place (f x)
       → IsRefusedAt (IsAsked verb) (map f xs) i
   refused_there optioned x place within is led dies =
       let cut = cut_at f xs i x within is in

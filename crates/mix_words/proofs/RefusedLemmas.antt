@@ -29,7 +29,8 @@ leads_along state a b command e l = subst (λ (t : List Word). Leads state t com
 whole : (p : Piece) (word : Word) (left : List Word) → words_in p ≡ word ∷ [] → words_in p ++ left ≡ word ∷ left
 whole p word left e = ap (λ (t : List Word). t ++ left) e
 
-pub follows_piece : (state new : State) (p : Piece) (word : Word) → Stands p → words_in p ≡ word ∷ [] → Goes state p new → Follows (ready_at state) word (ready_at new)
+pub follows_piece : (state new : State) (p : Piece) (word : Word) → Stands p → words_in p ≡ word ∷ [] → Goes state p new
+    → Follows (ready_at state) word (ready_at new)
 follows_piece state new p word stands e goes = record {
   on = λ left command l. adds_on state new p stands goes.adds left command (leads_along state _ _ command (sym (whole p word left e)) l);
   back = λ left command l. leads_along state _ _ command (whole p word left e) (adds_back state new p stands goes.adds left command l);
@@ -43,7 +44,8 @@ dies_piece state p word stands e bars left command l =
 abbrev pub waiting_at : State → Valued → Place
 waiting_at state option = record { state = state; waiting = Some option }
 
-pub follows_value : (state new : State) (option : Valued) (value : Word) → Goes state (Joint option value) new → Follows (waiting_at state option) value (ready_at new)
+pub follows_value : (state new : State) (option : Valued) (value : Word) → Goes state (Joint option value) new
+    → Follows (waiting_at state option) value (ready_at new)
 follows_value state new option value goes =
     let adds = spaced_adds state new option value goes.adds in record {
       on = λ left command l. adds_on state new (Spaced option value) tt adds left command l;
@@ -63,7 +65,8 @@ follows_option state option word e lives may = record {
 }
 
 pub dies_option : (state : State) (option : Valued) (word : Word) → word ≡ valued_word option → BarsOption state option → Dies (ready_at state) word
-dies_option state option word e bars left command l = option_barred state option bars left command (leads_along state _ _ command (ap (λ (w : Word). w ∷ left) e) l)
+dies_option state option word e bars left command l = option_barred state option bars left command (leads_along state _ _ command (ap (λ
+    (w : Word). w ∷ left) e) l)
 
 pub dies_unknown : (state : State) (word : Word) → IsUnknown word → Dies (ready_at state) word
 dies_unknown state word unknown left command l = unknown_barred state word unknown left command l
@@ -148,8 +151,10 @@ led_start verb optioned = record {
 
 pub led_more : (verb : Verb) (words : List Word) (old new : Place) (word : Word) → Led verb words old → Follows old word new → Led verb (words ++ word ∷ []) new
 led_more verb words old new word led follows = record {
-  on = λ left command o. follows.on left command (led.on (word ∷ left) command (subst (λ (t : List Word). Orders verb t command) (append_assoc words (word ∷ []) left) o));
-  back = λ left command l. subst (λ (t : List Word). Orders verb t command) (sym (append_assoc words (word ∷ []) left)) (led.back (word ∷ left) command (follows.back left command l));
+  on = λ left command o. follows.on left command (led.on (word ∷ left) command (subst (λ (t : List Word). Orders verb t command) (append_assoc words
+      (word ∷ []) left) o));
+  back = λ left command l. subst (λ (t : List Word). Orders verb t command) (sym (append_assoc words (word ∷ []) left)) (led.back
+      (word ∷ left) command (follows.back left command l));
   lives = follows.lives;
 }
 
@@ -208,7 +213,8 @@ asks_order Clean e words command o = o
 asks_order Gen e words command o = cc
 asks_order Batch e words command o = cc
 
-pub refused_behind : (verb : Verb) → IsTrue (is_optioned verb) → (words : List Word) (at : ℕ) → IsRefusedAt (IsOrdered verb) words at → IsRefusedAt (IsAsked verb) words at
+pub refused_behind : (verb : Verb) → IsTrue (is_optioned verb) → (words : List Word) (at : ℕ) → IsRefusedAt (IsOrdered verb) words at
+    → IsRefusedAt (IsAsked verb) words at
 refused_behind verb e words at refused =
     refused_same (IsOrdered verb) (IsAsked verb)
     (λ text o. (o.0, orders_ask verb e text o.0 o.1)) (λ text o. (o.0, asks_order verb e text o.0 o.1)) words at refused
@@ -233,9 +239,11 @@ follows_value_at at other new option value e same goes =
     follows_same at (ready_at new) other value same
     (subst (λ (p : Place). Follows p value (ready_at new)) (sym (waiting_is at option e)) (follows_value at.state new option value goes))
 
-pub follows_piece_as : (state new : State) (other : Place) (p : Piece) (word : Word) → Stands p → words_in p ≡ word ∷ [] → other ≡ ready_at new → Goes state p new
+pub follows_piece_as : (state new : State) (other : Place) (p : Piece) (word : Word) → Stands p → words_in p ≡ word ∷ [] → other ≡ ready_at new
+    → Goes state p new
     → Follows (ready_at state) word other
-follows_piece_as state new other p word stands e same goes = follows_same (ready_at state) (ready_at new) other word same (follows_piece state new p word stands e goes)
+follows_piece_as state new other p word stands e same goes = follows_same (ready_at state) (ready_at new) other word same
+    (follows_piece state new p word stands e goes)
 
 pub ends_wanting : (at : Place) (option : Valued) → at.waiting ≡ Some option → (command : Command) → LeadsOn at [] command → ⊥
 ends_wanting at option e command l =

@@ -87,28 +87,34 @@ cut_off state (Other w) left command s l = piece_cut state (Other w) left comman
 others_along : (old new : State) (p : Piece) → Adds old p new → (more : List Word) → new.others ++ more ≡ old.others ++ (other_in p ++ more)
 others_along old new p adds more = ap (λ (t : List Word). t ++ more) adds.others ∙ append_assoc old.others (other_in p) more
 
-pub adds_on : (old new : State) (p : Piece) → Stands p → Adds old p new → (left : List Word) (command : Command) → Leads old (words_in p ++ left) command → Leads new left command
+pub adds_on : (old new : State) (p : Piece) → Stands p → Adds old p new → (left : List Word) (command : Command)
+    → Leads old (words_in p ++ left) command → Leads new left command
 adds_on old new p stands adds left command l =
     let cut = cut_off old p left command stands l in record {
       pieces = cut.pieces;
       settings = cut.settings;
       spelled = cut.spelled;
       stand = cut.stand;
-      values = λ o. ap (λ (t : List Word). t ++ values_of o cut.pieces) (adds.values o) ∙ append_assoc (given_in old.settings o) (value_in o p) (values_of o cut.pieces) ∙ cut.values o;
-      flags = λ f. ap (λ (t : List Flag). t ++ flags_of f cut.pieces) (adds.flags f) ∙ append_assoc (raised_in old.settings f) (flag_in f p) (flags_of f cut.pieces) ∙ cut.flags f;
+      values = λ o. ap (λ (t : List Word). t ++ values_of o cut.pieces) (adds.values o) ∙ append_assoc (given_in old.settings o) (value_in o p)
+          (values_of o cut.pieces) ∙ cut.values o;
+      flags = λ f. ap (λ (t : List Flag). t ++ flags_of f cut.pieces) (adds.flags f) ∙ append_assoc (raised_in old.settings f) (flag_in f p)
+          (flags_of f cut.pieces) ∙ cut.flags f;
       takes = takes_same new.verb old.verb cut.settings _ _ adds.verb (others_along old new p adds (others_of cut.pieces)) cut.takes;
       build = cut.build;
       makes = made_same new.verb old.verb cut.settings _ _ adds.verb (others_along old new p adds (others_of cut.pieces)) ∙ cut.makes;
     }
 
-pub adds_back : (old new : State) (p : Piece) → Stands p → Adds old p new → (left : List Word) (command : Command) → Leads new left command → Leads old (words_in p ++ left) command
+pub adds_back : (old new : State) (p : Piece) → Stands p → Adds old p new → (left : List Word) (command : Command) → Leads new left command
+    → Leads old (words_in p ++ left) command
 adds_back old new p stands adds left command l = record {
   pieces = p ∷ l.pieces;
   settings = l.settings;
   spelled = ap (λ (t : List Word). words_in p ++ t) l.spelled;
   stand = (stands, l.stand);
-  values = λ o. sym (append_assoc (given_in old.settings o) (value_in o p) (values_of o l.pieces)) ∙ ap (λ (t : List Word). t ++ values_of o l.pieces) (sym (adds.values o)) ∙ l.values o;
-  flags = λ f. sym (append_assoc (raised_in old.settings f) (flag_in f p) (flags_of f l.pieces)) ∙ ap (λ (t : List Flag). t ++ flags_of f l.pieces) (sym (adds.flags f)) ∙ l.flags f;
+  values = λ o. sym (append_assoc (given_in old.settings o) (value_in o p) (values_of o l.pieces)) ∙ ap (λ (t : List Word). t ++ values_of o l.pieces)
+      (sym (adds.values o)) ∙ l.values o;
+  flags = λ f. sym (append_assoc (raised_in old.settings f) (flag_in f p) (flags_of f l.pieces)) ∙ ap (λ (t : List Flag). t ++ flags_of f l.pieces)
+      (sym (adds.flags f)) ∙ l.flags f;
   takes = takes_same old.verb new.verb l.settings _ _ (sym adds.verb) (sym (others_along old new p adds (others_of l.pieces))) l.takes;
   build = l.build;
   makes = made_same old.verb new.verb l.settings _ _ (sym adds.verb) (sym (others_along old new p adds (others_of l.pieces))) ∙ l.makes;
@@ -147,7 +153,8 @@ pub spaced_adds : (old new : State) (option : Valued) (value : Word) → Adds ol
 spaced_adds old new option value a = record { verb = a.verb; values = a.values; flags = a.flags; others = a.others }
 
 -- an option that may not be given ends every way on
-pub option_barred : (state : State) (option : Valued) → BarsOption state option → (left : List Word) (command : Command) → Leads state (valued_word option ∷ left) command → ⊥
+pub option_barred : (state : State) (option : Valued) → BarsOption state option → (left : List Word) (command : Command)
+    → Leads state (valued_word option ∷ left) command → ⊥
 option_barred state option bars left command l =
     let first = first_piece state (valued_word option) left command l in
     let has = has_value option left first.left first.piece first.stands first.spelled in

@@ -16,5 +16,6 @@ not_memory OutOfMemory other = absurd (other refl)
 pub returns-in_default : goal.returns-in_default
 returns-in_default c = record {
   some = tt;
-  none = no_app_name c.args.text.now (subst (λ (t : List ℕ). IsFalse (is_app_name t)) c.as_bytes.ensures.value (c.in-Err.ensures.exact (not_memory c.in-Err.error c.in_default.not-OutOfMemory)));
+  none = no_app_name c.args.text.now (subst (λ (t : List ℕ). IsFalse (is_app_name t)) c.as_bytes.ensures.value (c.in-Err.ensures.exact (not_memory
+      c.in-Err.error c.in_default.not-OutOfMemory)));
 }

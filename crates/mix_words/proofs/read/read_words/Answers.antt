@@ -11,7 +11,8 @@ pub returns-in_default : goal.returns-in_default
 returns-in_default c = computes_reading _ 0 (refused_no_words (λ word. string_bytes word) c.args.words.now c.in_default.ensures.cases)
 
 pub returns-in_default-named : goal.returns-in_default-named
-returns-in_default-named c = computes_reading _ 0 (refused_first (λ word. string_bytes word) c.args.words.now c.in-Some.rest.now c.in-Some.first.now c.in-Some.ensures.cases.0
+returns-in_default-named c = computes_reading _ 0 (refused_first (λ word. string_bytes word) c.args.words.now c.in-Some.rest.now c.in-Some.first.now
+    c.in-Some.ensures.cases.0
     (λ verb e. c.in_default-named.ensures.none verb (c.as_str.ensures.value ∙ e)))
 
 pub returns-in-Err-Refused : goal.returns-in-Err-Refused

@@ -5,7 +5,8 @@ use Rattle.mix_words.specs.Choice.{is_among}
 use Rattle.mix_words.specs.Sofar.{state_of}
 use Rattle.mix_words.specs.Table.{takes_apps}
 use Rattle.mix_words.proofs.GoesLemmas.{goes_app_as}
-use Rattle.mix_words.proofs.LiveLemmas.{app_barred, at_some, none_named}
+use Rattle.mix_words.proofs.BarLemmas.{app_barred, none_named}
+use Rattle.mix_words.proofs.LiveLemmas.{at_some}
 use Rattle.mix_words.proofs.sofar.Sofar.with_app.Goals as goal
 
 pub returns-then-not-takes_apps : goal.returns-then-not-takes_apps

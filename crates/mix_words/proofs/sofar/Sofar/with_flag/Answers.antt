@@ -1,6 +1,6 @@
 use Rattle.std.proofs.Common.{sym}
 use Rattle.mix_words.specs.Sofar.{state_of}
-use Rattle.mix_words.proofs.LiveLemmas.{may_not_raise}
+use Rattle.mix_words.proofs.BarLemmas.{may_not_raise}
 use Rattle.mix_words.proofs.sofar.Sofar.with_flag.Goals as goal
 
 pub returns-then-not-may_raise : goal.returns-then-not-may_raise
