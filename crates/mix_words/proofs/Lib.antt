@@ -1,0 +1,15 @@
+pub mod AmongLemmas
+pub mod BarLemmas
+pub mod ChoiceLemmas
+pub mod GoesLemmas
+pub mod LeadLemmas
+pub mod LiveLemmas
+pub mod MeaningLemmas
+pub mod NamedLemmas
+pub mod NumberLemmas
+pub mod OperandLemmas
+pub mod PieceLemmas
+pub mod ReadLemmas
+pub mod RefusedLemmas
+pub mod StateLemmas
+pub mod WordsLemmas

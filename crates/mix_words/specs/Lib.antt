@@ -1,0 +1,10 @@
+pub mod Choice
+pub mod Chosen
+pub mod Live
+pub mod Meaning
+pub mod Numbers
+pub mod Piece
+pub mod Reading
+pub mod Said
+pub mod Sofar
+pub mod Table
