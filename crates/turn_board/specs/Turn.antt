@@ -77,6 +77,10 @@ module _ {X O E : Type 0} (account : Account X O E) where
         ((x : X) × (homes ≡ some (Some x) ∷ []) × (account.opening x ≡ start) × (account.history x ≡ log))
         ⊎ ((j : ℕ) × (v : Sight O E) × (get_elem? views j ≡ some v) × (v.stage ≡ Has served))
 
+  -- one of the seats has a tally of this number
+  abbrev pub IsOwned : List (Sight O E) → ℕ → Type 0
+  IsOwned views k = (j : ℕ) × (v : Sight O E) × (get_elem? views j ≡ some v) × Owns k v.tallies
+
   -- the board has its value
   pub record Turning (n : ℕ) (s : State (Option X) (Sight O E)) : Type 0 where
     pub start : O
@@ -89,6 +93,7 @@ module _ {X O E : Type 0} (account : Account X O E) where
     pub tickets : drawn ≡ served + total holding s.views
     pub whole : total share s.views ≡ n
     pub counted : total events s.views ≡ length log
+    pub makers : (k : ℕ) → 0 < made_by account.maker k log → IsOwned s.views k
     pub housed : Housed start log drawn served s.homes s.views
     pub each : (j : ℕ) (v : Sight O E) → get_elem? s.views j ≡ some v → Fits start log drawn served s.homes v
     pub apart : (i j : ℕ) (v w : Sight O E) → get_elem? s.views i ≡ some v → get_elem? s.views j ≡ some w → i ≢ j → Apart v w

@@ -1,0 +1,13 @@
+pub mod Growing
+pub mod Failing
+pub mod Holding
+pub mod Seen
+pub mod HomeLemmas
+pub mod StoryHomes
+pub mod Calls
+pub mod Handing
+pub mod Looking
+pub mod Gathering
+pub mod Closing
+pub mod Beginning
+mod Walks
