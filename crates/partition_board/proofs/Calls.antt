@@ -50,7 +50,8 @@ module _ (o : Opening) (by : ℕ) (seen now : List Event) (legal : Legal o now) 
   present = record { opening = o; events = now }
 
   holds_later : (place b : ℕ) → b ≡ by → Holds (replay o seen) place b → Holds (replay o now) place b
-  holds_later place b own is = ap (standing (replay o now).standings) own ∙ still o by seen now legal went ∙ ap (standing (replay o seen).standings) (sym own) ∙ is
+  holds_later place b own is = ap (standing (replay o now).standings) own ∙ still o by seen now legal went ∙ ap (standing (replay o seen).standings)
+      (sym own) ∙ is
 
   runs_by : (event : Event) → EndsRun event → by_of event ≡ by → IsLegal o (replay o seen) event → Holds (replay o seen) (place_of event) by
   runs_by (Keep place b) ends own is = absurd ends
@@ -82,7 +83,8 @@ module _ (o : Opening) (by : ℕ) (seen now : List Event) (legal : Legal o now) 
   holds_after : (event : Event) (held : Holding) → HoldsAfter past event held → HoldsAfter present event held
   holds_after (Keep place b) held holds = tt
   holds_after (Start place b) held holds = tt
-  holds_after (Finish place b outcome) held holds = holds_grow o (replay o seen).fates (replay o now).fates (grows_seen o by seen now legal went) place outcome held holds
+  holds_after (Finish place b outcome) held holds = holds_grow o (replay o seen).fates (replay o now).fates
+      (grows_seen o by seen now legal went) place outcome held holds
   holds_after (Fail place b outcome) held holds = holds
   holds_after (Skip place need b) held holds = tt
   holds_after (Back place b cause) held holds = tt
@@ -187,14 +189,17 @@ module _ {F : Type 0} where
 
       pub state_left : k.opening ≡ new.opening → state_at l ≡ state_now new
       state_left kept =
-          ap (λ (b : Begun F). replay b.build l.seen) begun_left ∙ ap (λ (o : Opening). replay o l.seen) kept ∙ ap (λ (es : List Event). replay new.opening es) seen_left
+          ap (λ (b : Begun F). replay b.build l.seen) begun_left ∙ ap (λ (o : Opening). replay o l.seen) kept ∙ ap
+          (λ (es : List Event). replay new.opening es) seen_left
 
       legal_left : k.opening ≡ new.opening → Legal new.opening new.events → Legal (opening_at l) l.seen
       legal_left kept legal =
-          subst (λ (b : Begun F). Legal b.build l.seen) (sym begun_left) (subst (λ (o : Opening). Legal o l.seen) (sym kept) (subst (λ (es : List Event). Legal new.opening es) (sym seen_left) legal))
+          subst (λ (b : Begun F). Legal b.build l.seen) (sym begun_left)
+          (subst (λ (o : Opening). Legal o l.seen) (sym kept) (subst (λ (es : List Event). Legal new.opening es) (sym seen_left) legal))
 
       -- the post still knows what its board began with
-      pub opening_left : (now : HouseView F) → new.opening ≡ k.opening → now.handed ≡ handed → e.opening ≡ Some (record { build = new.opening; folders = now.handed })
+      pub opening_left : (now : HouseView F) → new.opening ≡ k.opening → now.handed ≡ handed → e.opening ≡ Some
+          (record { build = new.opening; folders = now.handed })
       opening_left now kept same_folders =
           ap (λ (p : PostView F). p.opening) enters ∙ f.opening
           ∙ ap (λ (o : Opening). Some (record { build = o; folders = handed })) (sym kept)

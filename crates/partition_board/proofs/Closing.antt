@@ -28,7 +28,7 @@ use Rattle.partition_board.specs.Holds.{AreLeft, HoldsBy}
 use Rattle.partition_board.specs.Homes.{AllHere, Belongs, Fits, HouseView, IsAtHome, IsHoused, RunsAt, StateView}
 use Rattle.partition_board.specs.Posts.{HoldsPlace, IsHistoryOf, PostView, begun_at, begun_in, nothing_begun}
 use Rattle.partition_board.proofs.Calls.{Found, standing_is}
-use Rattle.partition_board.proofs.Gathering.{here_all}
+use Rattle.partition_board.proofs.Giving.{here_all}
 use Rattle.partition_board.proofs.Holding.{if_weaker}
 
 -- ---- who runs a place has made an event
@@ -43,7 +43,8 @@ some_number standings by now is = at_zero (by == 0) (slice_get standings (by - 1
 
 leaves_runs : (standings : List Standing) (b i place : ℕ) (now : Standing) → ((p : ℕ) → now ≡ Runs p → ⊥)
     → slice_get (slice_set standings b now) i ≡ Some (Runs place) → slice_get standings i ≡ Some (Runs place)
-leaves_runs standings b i place now nothing runs = elim (get_set standings b i now (Runs place) runs) [ inl same ↦ absurd (nothing place same.1) | inr other ↦ other.1 ]
+leaves_runs standings b i place now nothing runs = elim
+    (get_set standings b i now (Runs place) runs) [ inl same ↦ absurd (nothing place same.1) | inr other ↦ other.1 ]
 
 idle_not : (p : ℕ) → Idle ≡ Runs p → ⊥
 idle_not p e = cc
@@ -119,14 +120,16 @@ module _ {F : Type 0} where
       → All (λ p. Continues by_of p.number p.seen v.story.events) posts → length v.story.events ≡ sum_by (λ (p : PostView F). p.made) posts
       → ((n : ℕ) → 0 < made_by by_of n v.story.events → HasSeat posts n) → Legal k.opening k.events → Closes posts k h.handed
   closes posts k h v same openings went counted makers legal = record {
-    openings = subst (λ (w : StateView F). All (λ p. p.opening ≡ Some (record { build = w.story.opening; folders = w.house.handed })) posts) (sym same) openings;
+    openings = subst (λ (w : StateView F). All (λ p. p.opening ≡ Some (record { build = w.story.opening; folders = w.house.handed })) posts)
+        (sym same) openings;
     went = subst (λ (w : StateView F). All (λ p. Continues by_of p.number p.seen w.story.events) posts) (sym same) went;
     counted = ap (λ (w : StateView F). length w.story.events) same ∙ counted;
     makers = subst (λ (w : StateView F). (n : ℕ) → 0 < made_by by_of n w.story.events → HasSeat posts n) (sym same) makers;
     legal = legal;
   }
 
-  module _ (posts : List (PostView F)) (k : Story) (handed : List F) (c : Closes posts k handed) (seats : ℕ) (all : length posts ≡ seats) (some : 0 < seats) where
+  module _ (posts : List (PostView F)) (k : Story) (handed : List F) (c : Closes posts k handed) (seats : ℕ)
+      (all : length posts ≡ seats) (some : 0 < seats) where
     -- no lease is out, so nothing runs
     pub nothing_runs : All (λ p. (place : ℕ) → HoldsPlace p place → ⊥) posts → (i place : ℕ) → RunsAt (state_now k) i place → ⊥
     nothing_runs returned i place runs =
@@ -140,7 +143,8 @@ module _ {F : Type 0} where
         one_of (λ p. (pl : ℕ) → HoldsPlace p pl → ⊥) posts seat.0 post returned seat.2 place
         (sym (standing_is post k handed f) ∙ ap (standing (state_now k).standings) seat.3 ∙ sym (numbered_at (state_now k).standings i) ∙ runs)
 
-    begun_of : (p : PostView F) → p.opening ≡ Some (record { build = k.opening; folders = handed }) → begun_at p ≡ record { build = k.opening; folders = handed }
+    begun_of : (p : PostView F) → p.opening ≡ Some (record { build = k.opening; folders = handed })
+        → begun_at p ≡ record { build = k.opening; folders = handed }
     begun_of p e = ap (λ (x : Option (Begun F)). unwrap_or x nothing_begun) e
 
     -- what their board began with
@@ -184,7 +188,8 @@ module _ {F : Type 0} (known : F → FolderKnown) where
       let here : h ≡ first.first = let e = first.here in cc in
       ap (λ (key : BuildKey). key ∷ map (λ (k : FolderKnown). k.key) (map known fs)) (first.key ∙ ap (λ (g : F). (known g).key) (sym here))
       ∙ ap (λ (keys : List BuildKey). (known h).key ∷ keys)
-      (keys_same fs hs (omega arith) (λ place folder is. let other = each (suc place) folder is in record { first = other.first; here = other.here; key = other.key }))
+      (keys_same fs hs (omega arith)
+      (λ place folder is. let other = each (suc place) folder is in record { first = other.first; here = other.here; key = other.key }))
 
   module _ (k : Story) (house : HouseView F) (housed : IsHoused known k house) (none : (i place : ℕ) → RunsAt (state_now k) i place → ⊥) where
     -- all folders are at home where nothing runs
@@ -213,7 +218,8 @@ module _ {F : Type 0} (known : F → FolderKnown) where
             let found = map_at known folders place told is in
             let home = folder_home place found.0 found.1 in
             subst (λ (kn : FolderKnown). IfSome kn.held (HoldsBy k.opening (state_now k).fates place (at (state_now k).fates place))) found.2
-            (if_weaker (Fits k.opening (state_now k) place (at (state_now k).fates place)) (HoldsBy k.opening (state_now k).fates place (at (state_now k).fates place))
+            (if_weaker (Fits k.opening (state_now k) place (at (state_now k).fates place))
+            (HoldsBy k.opening (state_now k).fates place (at (state_now k).fates place))
             (known found.0).held (fits_holds k.opening (state_now k) place (at (state_now k).fates place)) home.fits);
       }
 

@@ -47,7 +47,8 @@ others_failure place (Back p by Memory) apart = refl
 
 -- a place that is given back because its folder failed
 pub own_failure : (events : List Event) (place by : ℕ) → has_failed (events ++ Back place by Tree ∷ []) place ≡ true
-own_failure events place by = list_any-append (is_failure place) events (Back place by Tree ∷ []) ∙ last (has_failed events place) (place == place) (grind (arith, nat_tests))
+own_failure events place by = list_any-append (is_failure place) events (Back place by Tree ∷ []) ∙ last (has_failed events place) (place == place)
+    (grind (arith, nat_tests))
   where
     last : (a b : Bool) → b ≡ true → (a || (b || false)) ≡ true
     last true b e = refl

@@ -29,25 +29,25 @@ module _ {F : Type 0} (known : F → FolderKnown) (post : PostView F) (lease : L
       counted_as post.seen (post.seen ++ event ∷ []) lease.place (known lease.folder) (sym (failed_more post.seen event lease.place no)) count
 
   pub finish_legal : (outcome : Twin) → IsFinished known post lease outcome → IsLegalOf post (Finish lease.place lease.by outcome.event)
-  finish_legal outcome is = (is.lease.by, lease_holds is.lease, is.status)
+  finish_legal outcome is = (is.mine.by, lease_holds is.mine, is.status)
 
   pub finish_suits : (outcome : Twin) → IsFinished known post lease outcome
       → SuitsEvent known (story_at post) (begun_at post).folders (Finish lease.place lease.by outcome.event) lease.folder
   finish_suits outcome is = record {
     ends = tt;
-    own = is.lease.own;
+    own = is.mine.own;
     count = counted_then (Finish lease.place lease.by outcome.event) refl is.count;
     holds = is.holds;
   }
 
   pub fail_legal : (outcome : Twin) → IsFailed known post lease outcome → IsLegalOf post (Fail lease.place lease.by outcome.event)
-  fail_legal outcome is = (is.lease.by, lease_holds is.lease, is.status)
+  fail_legal outcome is = (is.mine.by, lease_holds is.mine, is.status)
 
   pub fail_suits : (outcome : Twin) → IsFailed known post lease outcome
       → SuitsEvent known (story_at post) (begun_at post).folders (Fail lease.place lease.by outcome.event) lease.folder
   fail_suits outcome is = record {
     ends = tt;
-    own = is.lease.own;
+    own = is.mine.own;
     count = counted_then (Fail lease.place lease.by outcome.event) refl is.count;
     holds = is.holds;
   }
@@ -55,7 +55,8 @@ module _ {F : Type 0} (known : F → FolderKnown) (post : PostView F) (lease : L
   pub back_legal : (cause : BackCause) → IsLeaseOf known post lease → IsLegalOf post (Back lease.place lease.by cause)
   back_legal cause is = (is.by, lease_holds is)
 
-  back_counted : (cause : BackCause) → HasCause known post lease cause → IsCounted (post.seen ++ Back lease.place lease.by cause ∷ []) lease.place (known lease.folder)
+  back_counted : (cause : BackCause) → HasCause known post lease cause → IsCounted (post.seen ++ Back lease.place lease.by cause ∷ []) lease.place
+      (known lease.folder)
   back_counted Died has = counted_then (Back lease.place lease.by Died) refl has
   back_counted Tree has = ((λ some. own_failure post.seen lease.place lease.by), (λ failed. has))
   back_counted Memory has = counted_then (Back lease.place lease.by Memory) refl has

@@ -43,12 +43,14 @@ idle_runs p e = cc
 ended_runs : (p : ℕ) → Ended ≡ Runs p → ⊥
 ended_runs p e = cc
 
-module _ {F : Type 0} (known : F → FolderKnown) (Is Next : ℕ → F → Type 0) (o : Opening) (s : State) (tidy : Tidy s) (homes : List (Option F)) (home : AreHome known Is o s homes) where
+module _ {F : Type 0} (known : F → FolderKnown) (Is Next : ℕ → F → Type 0) (o : Opening) (s : State) (tidy : Tidy s) (homes : List (Option F))
+    (home : AreHome known Is o s homes) where
   abbrev HomeAt : (ℕ → F → Type 0) → State → List (Option F) → ℕ → Type 0
   HomeAt Belong now new place = (folder : F) × (slice_get new place ≡ Some (Some folder)) × IsAtHome known Belong o now place folder
 
   -- the folder of a place that is as it was
-  home_grows : (now : State) (new : List (Option F)) → Grows s.fates now.fates → (p : ℕ) → slice_get now.fates p ≡ slice_get s.fates p → slice_get new p ≡ slice_get homes p
+  home_grows : (now : State) (new : List (Option F)) → Grows s.fates now.fates → (p : ℕ) → slice_get now.fates p ≡ slice_get s.fates p
+      → slice_get new p ≡ slice_get homes p
       → ((folder : F) → Is p folder → Next p folder) → HomeAt Is s homes p → HomeAt Next now new p
   home_grows now new grows p fates same keeps there = (
     there.0,
@@ -122,7 +124,8 @@ module _ {F : Type 0} (known : F → FolderKnown) (Is Next : ℕ → F → Type 
       keeps
       fates
       (λ p other. set_other homes place p (Some folder) other)
-      (λ p i other. subst (λ (ss : List Standing). (slice_get ss i ≡ Some (Runs p) → RunsAt s i p) × (RunsAt s i p → slice_get ss i ≡ Some (Runs p))) (sym stood)
+      (λ p i other. subst (λ (ss : List Standing). (slice_get ss i ≡ Some (Runs p) → RunsAt s i p) × (RunsAt s i p → slice_get ss i ≡ Some (Runs p)))
+      (sym stood)
       (runs_set s.standings (by - 1) (Runs place) standing i p own (other_runs place p other) (nothing p)))
       (λ i runs. elim (get_set s.standings (by - 1) i standing (Runs place) (ap (λ (ss : List Standing). slice_get ss i) (sym stood) ∙ runs)) [
         | inl same ↦ absurd (nothing place same.1)
@@ -149,7 +152,8 @@ module _ {F : Type 0} (known : F → FolderKnown) (Is Next : ℕ → F → Type 
   pub skip_home : (place need by : ℕ) → IsLegal o s (Skip place need by) → ((p : ℕ) (folder : F) → Is p folder → Next p folder)
       → AreHome known Next o (after o s (Skip place need by)) homes
   skip_home place need by legal keeps =
-      settled place (Some (Skipped need)) (grows_step o s tidy (Skip place need by) legal) keeps legal.0.open_place (not_run s place by legal.0) (λ held fits. tt)
+      settled place (Some (Skipped need)) (grows_step o s tidy (Skip place need by) legal) keeps legal.0.open_place (not_run s place by legal.0)
+      (λ held fits. tt)
 
   -- the folder of a place that may be started
   pub start_there : (place by : ℕ) → IsLegal o s (Start place by) → place < length o.plan.jobs → HomeAt Is s homes place

@@ -7,7 +7,7 @@ pub mod StoryHomes
 pub mod Calls
 pub mod Handing
 pub mod Looking
-pub mod Gathering
+pub mod Giving
 pub mod Closing
 pub mod Beginning
 mod Walks

@@ -29,16 +29,19 @@ legal_parts o s [] ys legal = (tt, legal)
 legal_parts o s (x ∷ xs) ys legal = let rest = legal_parts o (after o s x) xs ys legal.1 in ((legal.0, rest.0), rest.1)
 
 -- another partition does something else
-stand_other : (standings : List Standing) (by b : ℕ) (now was : Standing) → standing standings b ≡ Some was → (b ≡ by → ⊥) → standing (slice_set standings (b - 1) now) by ≡ standing standings by
+stand_other : (standings : List Standing) (by b : ℕ) (now was : Standing) → standing standings b ≡ Some was → (b ≡ by → ⊥) → standing
+    (slice_set standings (b - 1) now) by ≡ standing standings by
 stand_other standings by b now was acts apart = by_both (b == 0) (by == 0) refl refl acts
   where
-    by_both : (zb zby : Bool) → (b == 0) ≡ zb → (by == 0) ≡ zby → cond zb None (slice_get standings (b - 1)) ≡ Some was → cond zby None (slice_get (slice_set standings (b - 1) now) (by - 1)) ≡ cond zby None (slice_get standings (by - 1))
+    by_both : (zb zby : Bool) → (b == 0) ≡ zb → (by == 0) ≡ zby → cond zb None (slice_get standings (b - 1)) ≡ Some was → cond zby None
+        (slice_get (slice_set standings (b - 1) now) (by - 1)) ≡ cond zby None (slice_get standings (by - 1))
     by_both true zby eb eby e = cc
     by_both false true eb eby e = refl
     by_both false false eb eby e = set_other standings (b - 1) (by - 1) now (λ same. apart (grind (arith, nat_tests)))
 
 -- an event of another partition leaves what this one does
-step_other : (o : Opening) (s : State) (by : ℕ) (event : Event) → IsLegal o s event → (by_of event ≡ by → ⊥) → standing (after o s event).standings by ≡ standing s.standings by
+step_other : (o : Opening) (s : State) (by : ℕ) (event : Event) → IsLegal o s event → (by_of event ≡ by → ⊥) → standing
+    (after o s event).standings by ≡ standing s.standings by
 step_other o s by (Keep place b) legal apart = refl
 step_other o s by (Start place b) legal apart = stand_other s.standings by b (Runs place) Idle legal.0.idle apart
 step_other o s by (Finish place b outcome) legal apart = stand_other s.standings by b Idle (Runs place) legal.0 apart
@@ -53,14 +56,16 @@ not_made event events by e = by_test (by_of event == by) refl e
     by_test true is h = absurd (omega arith)
     by_test false is h = ((λ same. grind (arith, nat_tests)), omega arith)
 
-steps_other : (o : Opening) (s : State) (by : ℕ) (events : List Event) → AreLegal o s events → made_by by_of by events ≡ 0 → standing (after_all o s events).standings by ≡ standing s.standings by
+steps_other : (o : Opening) (s : State) (by : ℕ) (events : List Event) → AreLegal o s events → made_by by_of by events ≡ 0 → standing
+    (after_all o s events).standings by ≡ standing s.standings by
 steps_other o s by [] legal none = refl
 steps_other o s by (event ∷ events) legal none =
     let parts = not_made event events by none in
     steps_other o (after o s event) by events legal.1 parts.1 ∙ step_other o s by event legal.0 parts.0
 
 -- where the history went on by others' events alone, the partition does what it did
-pub still : (o : Opening) (by : ℕ) (seen now : List Event) → Legal o now → Continues by_of by seen now → standing (replay o now).standings by ≡ standing (replay o seen).standings by
+pub still : (o : Opening) (by : ℕ) (seen now : List Event) → Legal o now → Continues by_of by seen now → standing (replay o now).standings by ≡ standing
+    (replay o seen).standings by
 still o by seen now legal went =
     let parts = legal_parts o (start_of o) seen went.0 (subst (λ (es : List Event). Legal o es) went.1 legal) in
     ap (λ (es : List Event). standing (replay o es).standings by) went.1
@@ -86,7 +91,8 @@ ready_grows o s now grows was same = record {
   ready = λ i p runs. first_grow s.fates now.fates grows (needs_at o p) (was.ready i p (ap (λ (ss : List Standing). slice_get ss i) (sym same) ∙ runs));
 }
 
-ready_left : (o : Opening) (s now : State) (b : ℕ) (new : Standing) → Grows s.fates now.fates → Ready o s → now.standings ≡ slice_set s.standings b new → ((p : ℕ) → new ≡ Runs p → ⊥) → Ready o now
+ready_left : (o : Opening) (s now : State) (b : ℕ) (new : Standing) → Grows s.fates now.fates → Ready o s → now.standings ≡ slice_set s.standings b new
+    → ((p : ℕ) → new ≡ Runs p → ⊥) → Ready o now
 ready_left o s now b new grows was stood nothing = record {
   ready = λ i p runs. elim (get_set s.standings b i new (Runs p) (ap (λ (ss : List Standing). slice_get ss i) (sym stood) ∙ runs)) [
     | inl same ↦ absurd (nothing p same.1)
@@ -108,29 +114,37 @@ ready_step o s tidy was (Start place by) legal = record {
     | inr other ↦ was.ready i p other.1
   ];
 }
-ready_step o s tidy was (Finish place by outcome) legal = ready_left o s (after o s (Finish place by outcome)) (by - 1) Idle (grows_step o s tidy (Finish place by outcome) legal) was refl idle_not
-ready_step o s tidy was (Fail place by outcome) legal = ready_left o s (after o s (Fail place by outcome)) (by - 1) Idle (grows_step o s tidy (Fail place by outcome) legal) was refl idle_not
+ready_step o s tidy was (Finish place by outcome) legal = ready_left o s (after o s (Finish place by outcome)) (by - 1) Idle
+    (grows_step o s tidy (Finish place by outcome) legal) was refl idle_not
+ready_step o s tidy was (Fail place by outcome) legal = ready_left o s (after o s (Fail place by outcome)) (by - 1) Idle
+    (grows_step o s tidy (Fail place by outcome) legal) was refl idle_not
 ready_step o s tidy was (Skip place need by) legal = ready_grows o s (after o s (Skip place need by)) (grows_step o s tidy (Skip place need by) legal) was refl
-ready_step o s tidy was (Back place by cause) legal = ready_left o s (after o s (Back place by cause)) (by - 1) Ended (grows_step o s tidy (Back place by cause) legal) was refl ended_not
+ready_step o s tidy was (Back place by cause) legal = ready_left o s (after o s (Back place by cause)) (by - 1) Ended
+    (grows_step o s tidy (Back place by cause) legal) was refl ended_not
 
 ready_all : (o : Opening) (s : State) (events : List Event) → Tidy s → Ready o s → AreLegal o s events → Ready o (after_all o s events)
 ready_all o s [] tidy was legal = was
-ready_all o s (event ∷ events) tidy was legal = ready_all o (after o s event) events (tidy_step o s tidy event legal.0) (ready_step o s tidy was event legal.0) legal.1
+ready_all o s (event ∷ events) tidy was legal = ready_all o (after o s event) events (tidy_step o s tidy event legal.0)
+    (ready_step o s tidy was event legal.0) legal.1
 
 pub ready_now : (o : Opening) (events : List Event) → Legal o events → Ready o (replay o events)
-ready_now o events legal = ready_all o (start_of o) events (tidy_start o) (record { ready = λ i p runs. absurd (idle_not p (get_replicate o.partitions i Idle (Runs p) runs)) }) legal
+ready_now o events legal = ready_all o (start_of o) events (tidy_start o)
+    (record { ready = λ i p runs. absurd (idle_not p (get_replicate o.partitions i Idle (Runs p) runs)) }) legal
 
 pub legal_seen : (o : Opening) (by : ℕ) (seen now : List Event) → Legal o now → Continues by_of by seen now → Legal o seen
 legal_seen o by seen now legal went = (legal_parts o (start_of o) seen went.0 (subst (λ (es : List Event). Legal o es) went.1 legal)).0
 
 -- an outcome that a place's input meant when its partition last looked is what it means now
-pub meant_now : (compile : Content → Outcome) (o : Opening) (by place : ℕ) (outcome : Outcome) (seen now : List Event) → Legal o now → Continues by_of by seen now → Holds (replay o seen) place by → IsMeant compile o (replay o seen) place outcome → IsMeant compile o (replay o now) place outcome
+pub meant_now : (compile : Content → Outcome) (o : Opening) (by place : ℕ) (outcome : Outcome) (seen now : List Event) → Legal o now
+    → Continues by_of by seen now → Holds (replay o seen) place by → IsMeant compile o (replay o seen) place outcome → IsMeant compile o
+    (replay o now) place outcome
 meant_now compile o by place outcome seen now legal went holds meant = λ job is.
     let before = legal_seen o by seen now legal went in
     let none = (ready_now o seen before).ready (by - 1) place (standing_get (replay o seen).standings by (Runs place) holds) in
     let same = outcomes_grow (replay o seen).fates (replay o now).fates (grows_seen o by seen now legal went) (needs_at o place) none in
     let needs : needs_at o place ≡ job.needs = ap needs_of is in
-    meant job is ∙ ap (λ (os : List Outcome). compile (content_of job os)) (ap (outcomes_now (replay o seen).fates) (sym needs) ∙ same ∙ ap (outcomes_now (replay o now).fates) needs)
+    meant job is ∙ ap (λ (os : List Outcome). compile (content_of job os))
+    (ap (outcomes_now (replay o seen).fates) (sym needs) ∙ same ∙ ap (outcomes_now (replay o now).fates) needs)
 
 made_append : (by : ℕ) (xs ys : List Event) → made_by by_of by (xs ++ ys) ≡ made_by by_of by xs + made_by by_of by ys
 made_append by [] ys = omega arith
@@ -147,13 +161,15 @@ pub went_nothing : (by : ℕ) (seen : List Event) → Continues by_of by seen se
 went_nothing by seen = ([], sym (append-nil seen), refl)
 
 -- what a partition does after it was set
-pub stands_now : (standings : List Standing) (by : ℕ) (was now : Standing) → standing standings by ≡ Some was → standing (slice_set standings (by - 1) now) by ≡ Some now
+pub stands_now : (standings : List Standing) (by : ℕ) (was now : Standing) → standing standings by ≡ Some was → standing
+    (slice_set standings (by - 1) now) by ≡ Some now
 stands_now standings by was now is = by_zero (by == 0) is
   where
     found : slice_get standings (by - 1) ≡ Some was
     found = standing_get standings by was is
 
-    by_zero : (zeroth : Bool) → cond zeroth None (slice_get standings (by - 1)) ≡ Some was → cond zeroth None (slice_get (slice_set standings (by - 1) now) (by - 1)) ≡ Some now
+    by_zero : (zeroth : Bool) → cond zeroth None (slice_get standings (by - 1)) ≡ Some was → cond zeroth None
+        (slice_get (slice_set standings (by - 1) now) (by - 1)) ≡ Some now
     by_zero true e = cc
     by_zero false e = set_same standings (by - 1) now was found
 
@@ -187,7 +203,8 @@ no_failure o s place by (Back p b Tree) tidy holds legal apart = others_failure 
 
     one_runner : (s : State) (place by b : ℕ) → Tidy s → Holds s place by → Holds s place b → b ≡ by
     one_runner s place by b tidy mine other =
-        let same : b - 1 ≡ by - 1 = tidy.once (b - 1) (by - 1) place (standing_get s.standings b (Runs place) other) (standing_get s.standings by (Runs place) mine) in
+        let same : b - 1 ≡ by - 1 = tidy.once (b - 1) (by - 1) place (standing_get s.standings b (Runs place) other)
+        (standing_get s.standings by (Runs place) mine) in
         let some : (by == 0) ≡ false = numbered_from (by == 0) (slice_get s.standings (by - 1)) (Runs place) mine in
         let also : (b == 0) ≡ false = numbered_from (b == 0) (slice_get s.standings (b - 1)) (Runs place) other in
         grind (arith, nat_tests)

@@ -32,7 +32,8 @@ start_runs old new place by legal state =
 pub start_within : (old : Story) (place by : ℕ) → IsLegal old.opening (state_now old) (Start place by) → place < length old.opening.plan.jobs
 start_within old place by legal = place_within old.opening old.events place legal.0.open_place
 
-pub start_outputs : (old new : Story) (place by : ℕ) → new ≡ with_event old (Start place by) → state_now new ≡ after old.opening (state_now old) (Start place by)
+pub start_outputs : (old new : Story) (place by : ℕ) → new ≡ with_event old (Start place by) → state_now new ≡ after old.opening (state_now old)
+    (Start place by)
     → outcomes_now (state_now old).fates (needs_at old.opening place) ≡ outcomes_now (state_now new).fates (needs_at new.opening place)
 start_outputs old new place by story state =
     ap (λ (s : State). outcomes_now s.fates (needs_at old.opening place)) (sym state)
@@ -92,13 +93,15 @@ module _ {F : Type 0} (known : F → FolderKnown) where
     pub start_full : (place by : ℕ) → IsLegal old.opening (state_now old) (Start place by) → place < length old.opening.plan.jobs
         → slice_get house.homes place ≡ Some None → ⊥
     start_full place by is within e =
-        let there = start_there known Before Before old.opening (state_now old) (tidy_now old.opening old.events legal) house.homes housed.home place by is within in
+        let there = start_there known Before Before old.opening (state_now old)
+        (tidy_now old.opening old.events legal) house.homes housed.home place by is within in
         let folder = there.1 in cc
 
     pub start_folder : (place by : ℕ) (folder : F) → IsLegal old.opening (state_now old) (Start place by) → place < length old.opening.plan.jobs
         → slice_get house.homes place ≡ Some (Some folder) → Later (Start place by) place folder
     start_folder place by folder is within e =
-        let there = start_there known Before Before old.opening (state_now old) (tidy_now old.opening old.events legal) house.homes housed.home place by is within in
+        let there = start_there known Before Before old.opening (state_now old)
+        (tidy_now old.opening old.events legal) house.homes housed.home place by is within in
         let found = there.1 in
         let same : there.0 ≡ folder = cc in
         belongs_more house.handed old.events (Start place by) place folder refl (subst (Before place) same there.2.is)
@@ -137,12 +140,12 @@ module _ {F : Type 0} (known : F → FolderKnown) where
 -- the same of a core and folders that are these
 pub housed_as : {F : Type 0} (known : F → FolderKnown) (old new : Story) (house now : HouseView F) → new ≡ old → now ≡ house → IsHoused known old house
     → IsHoused known new now
-housed_as known old new house now story same housed =
-    subst (λ (s : Story). IsHoused known s now) (sym story) (subst (λ (h : HouseView _). IsHoused known old h) (sym same) housed)
+housed_as {F} known old new house now story same housed =
+    subst (λ (s : Story). IsHoused known s now) (sym story) (subst (λ (h : HouseView F). IsHoused known old h) (sym same) housed)
 
 pub belongs_as : {F : Type 0} (known : F → FolderKnown) (handed others : List F) (events now : List Event) (place : ℕ) (folder : F) → others ≡ handed
     → now ≡ events
     → Belongs known handed events place folder → Belongs known others now place folder
-belongs_as known handed others events now place folder same story belongs =
+belongs_as {F} known handed others events now place folder same story belongs =
     subst (λ (es : List Event). Belongs known others es place folder) (sym story)
-    (subst (λ (fs : List _). Belongs known fs events place folder) (sym same) belongs)
+    (subst (λ (fs : List F). Belongs known fs events place folder) (sym same) belongs)

@@ -31,7 +31,7 @@ module _ {F : Type 0} (known : F → FolderKnown) where
 
   -- the place is built: the folder holds the outcome's files and its mark, and has failed as often as when it was lent
   pub record IsFinished (post : PostView F) (lease : Lease F) (outcome : Twin) : Type 0 where
-    pub lease : IsLeaseOf post lease
+    pub mine : IsLeaseOf post lease
     pub count : IsCounted post.seen lease.place (known lease.folder)
     pub holds : IfSome (known lease.folder).held (HoldsBuilt (opening_at post) (state_at post).fates lease.place outcome.event)
     pub status : outcome.event.status ≡ 0
@@ -39,7 +39,7 @@ module _ {F : Type 0} (known : F → FolderKnown) where
 
   -- the place has failed: the folder holds nothing
   pub record IsFailed (post : PostView F) (lease : Lease F) (outcome : Twin) : Type 0 where
-    pub lease : IsLeaseOf post lease
+    pub mine : IsLeaseOf post lease
     pub count : IsCounted post.seen lease.place (known lease.folder)
     pub holds : IfSome (known lease.folder).held (λ held. held ≡ nothing)
     pub status : outcome.event.status ≢ 0

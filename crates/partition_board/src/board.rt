@@ -1,19 +1,23 @@
 // The board, and its calls with a post.
-ghost use Rattle.std.specs.Prelude.{◌≡◌, ◌≤◌, ◌<◌, [], ◌∷◌, Some, IfErr, IfOk, length, map};
+ghost use Rattle.std.specs.Prelude.{◌≡◌, ◌≤◌, ◌<◌, ℕ, [], ◌∷◌, Some, IfErr, IfOk, length, map};
 ghost use Rattle.std.specs.List.{All};
 ghost use Rattle.compile_model.specs.Planned.{ArePlanned};
+ghost use Rattle.compile_model.specs.Seq.{seq};
 ghost use Rattle.partition_core.specs.State.{standing};
 ghost use Rattle.partition_core.specs.Refusals.{outcome_of};
-ghost use Rattle.partition_core.specs.Histories.{IsFaithful, IsMeant};
+ghost use Rattle.partition_core.specs.Histories.{Faithful, IsFaithful, IsMeant, Sound, replay};
 ghost use Rattle.turn_board.specs.Seats.{fresh_seats};
-ghost use Rattle.partition_board.specs.Holds.{AreReady};
-ghost use Rattle.partition_board.specs.Posts.{Adds, IsEndedPost, IsFreePost, IsIn, Sees, begun_at, opening_at, state_at, story_at};
+ghost use Rattle.partition_board.specs.Holds.{AreLeft, AreReady};
+ghost use Rattle.partition_board.specs.Failures.{AreCounted};
+ghost use Rattle.partition_board.specs.Posts.{Adds, AreFatesOf, HoldsPlace, IsEndedPost, IsFreePost, IsHistoryOf, IsIn, Sees, begun_at, begun_in, opening_at, state_at, story_at};
 ghost use Rattle.partition_board.specs.Answers.{Answers, IsFront};
 ghost use Rattle.partition_board.specs.Leases.{HasCause, IsFailed, IsFinished, IsLeaseOf, IsLent};
 ghost use Rattle.partition_board.specs.Steps.{IsLegalOf, SuitsEvent, standing_after};
 
+use crate::closed::Closed;
 use crate::house::House;
 use crate::lease::Lease;
+use crate::refused::BoardRefused;
 use crate::state::{BoardState, Post};
 use crate::take::{Front, Take};
 use crate::taking::{end, front, take_from};
@@ -25,12 +29,6 @@ use std::marker::Model;
 use std::sync::Wait;
 use tree_store::Folder;
 use turn_board::{TurnBoard, TurnRefused};
-
-/// There was no memory for a board. The folders come back as they were handed in.
-#[derive(Drop)]
-pub struct BoardRefused<F> {
-    pub folders: Vec<F>,
-}
 
 /// A board on which partitions build one plan. Contracts see which one it is, and how many posts it has.
 #[derive(Drop)]
@@ -257,5 +255,35 @@ impl<M: Meaning, F: Folder> Board<M, F> {
         let front = front(&core);
         self.turn.leave(post, BoardState { core, house }, false);
         front
+    }
+
+    /// Ends the build, once no lease is out. It takes all posts of the board, in any order, and no memory.
+    pub fn close(self, posts: Vec<Post<M, F>>) -> Closed<F>
+        requires all { length posts.items ≡ self.seats }
+        requires own { All (IsIn self.board) posts.items }
+        requires returned { All (λ p. (place : ℕ) → HoldsPlace p place → ⊥) posts.items }
+        ensures history { IsHistoryOf posts.items result.history.items }
+        ensures fates { result.fates.items
+            ≡ (replay (begun_in posts.items).build result.history.items).fates }
+        ensures faithful { M.honest
+            → Faithful M.compile_of (begun_in posts.items).build result.history.items }
+        // Each fate is the one of compiling job after job.
+        ensures sequential { M.honest → Sound M.compile_of (begun_in posts.items).build
+            → AreFatesOf (seq M.compile_of (begun_in posts.items).build.plan.jobs)
+            result.fates.items }
+        ensures left { AreLeft (begun_in posts.items).build result.fates.items
+            (map F.known (begun_in posts.items).folders) (map F.known result.folders.items) }
+        ensures counted { AreCounted result.history.items (map F.known result.folders.items) }
+    {
+        let Board { turn } = self;
+        let BoardState { core, house } = turn.close(posts);
+        let _front = front(&core);
+        let (fates, history) = core.close();
+        let folders = house.gather();
+        Closed {
+            fates,
+            folders,
+            history,
+        }
     }
 }

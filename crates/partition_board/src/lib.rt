@@ -7,12 +7,14 @@ mod gathering;
 mod house;
 mod lease;
 mod memo;
+mod refused;
 mod state;
 mod take;
 mod taking;
 
-pub use board::{Board, BoardRefused};
+pub use board::Board;
 pub use closed::Closed;
 pub use lease::Lease;
+pub use refused::BoardRefused;
 pub use state::{BoardOpening, BoardState, Post};
 pub use take::{Front, Take};

@@ -17,5 +17,7 @@ take_in-requires-clause-away g c =
 pub returns-clause-home : goal.returns-clause-home
 returns-clause-home g c =
     housed_as g.F.Folder.known (with_event c.args.core.now c.args.event) c.make.new.core _ c.take_in.new.self c.make.ensures.story
-    (c.take_in.ensures ∙ ap (λ (n : ℕ). record { handed = c.args.house.now.handed; homes = slice_set c.args.house.now.homes n (Some c.args.folder) }) c.place-place.ensures)
-    (end_story g.F.Folder.known c.args.core.now c.args.house.now c.make.ensures.legal c.requires.home c.args.event c.args.folder c.requires.legal c.requires.suits)
+    (c.take_in.ensures ∙ ap (λ (n : ℕ). record { handed = c.args.house.now.handed; homes = slice_set c.args.house.now.homes n (Some c.args.folder) })
+    c.place-place.ensures)
+    (end_story g.F.Folder.known c.args.core.now c.args.house.now c.make.ensures.legal c.requires.home c.args.event c.args.folder c.requires.legal
+    c.requires.suits)

@@ -19,13 +19,17 @@ start-folder-requires-clause-legal g c = c.in-Start.ensures.legal (Start c.in-St
 
 pub returns-in-Keep-clause-home : goal.returns-in-Keep-clause-home
 returns-in-Keep-clause-home g c =
-    housed_as g.F.Folder.known (with_event c.args.core.now (Keep c.in-Keep.place c.args.by)) c.make.new.core c.args.house.now c.args.house.now c.make.ensures.story refl
-    (keep_story g.F.Folder.known c.args.core.now c.args.house.now c.make.ensures.legal c.requires.home c.in-Keep.place c.args.by (c.in-Keep.ensures.legal (Keep c.in-Keep.place c.args.by) refl))
+    housed_as g.F.Folder.known (with_event c.args.core.now (Keep c.in-Keep.place c.args.by)) c.make.new.core c.args.house.now c.args.house.now
+    c.make.ensures.story refl
+    (keep_story g.F.Folder.known c.args.core.now c.args.house.now c.make.ensures.legal c.requires.home c.in-Keep.place c.args.by
+    (c.in-Keep.ensures.legal (Keep c.in-Keep.place c.args.by) refl))
 
 pub returns-in-Skip-clause-home : goal.returns-in-Skip-clause-home
 returns-in-Skip-clause-home g c =
-    housed_as g.F.Folder.known (with_event c.args.core.now (Skip c.in-Skip.place c.in-Skip.need c.args.by)) c.make-in-Skip.new.core c.args.house.now c.args.house.now c.make-in-Skip.ensures.story refl
-    (skip_story g.F.Folder.known c.args.core.now c.args.house.now c.make-in-Skip.ensures.legal c.requires.home c.in-Skip.place c.in-Skip.need c.args.by (c.in-Skip.ensures.legal (Skip c.in-Skip.place c.in-Skip.need c.args.by) refl))
+    housed_as g.F.Folder.known (with_event c.args.core.now (Skip c.in-Skip.place c.in-Skip.need c.args.by)) c.make-in-Skip.new.core c.args.house.now
+    c.args.house.now c.make-in-Skip.ensures.story refl
+    (skip_story g.F.Folder.known c.args.core.now c.args.house.now c.make-in-Skip.ensures.legal c.requires.home c.in-Skip.place c.in-Skip.need c.args.by
+    (c.in-Skip.ensures.legal (Skip c.in-Skip.place c.in-Skip.need c.args.by) refl))
 
 pub returns-else-is_err-clause-lent : goal.returns-else-is_err-clause-lent
 returns-else-is_err-clause-lent g c =

@@ -11,4 +11,5 @@ pub end_run-requires-clause-suits : goal.end_run-requires-clause-suits
 end_run-requires-clause-suits g c = fail_suits g.F.Folder.known c.args.post.now c.args.lease c.args.outcome c.requires.failed
 
 pub returns-clause-made : goal.returns-clause-made
-returns-clause-made g c = subst (λ (n : ℕ). Adds (Fail c.args.lease.place n c.args.outcome.event ∷ []) c.args.post.now c.end_run.new.post) c.requires.failed.lease.by c.end_run.ensures.made
+returns-clause-made g c = subst (λ (n : ℕ). Adds (Fail c.args.lease.place n c.args.outcome.event ∷ []) c.args.post.now c.end_run.new.post)
+    c.requires.failed.mine.by c.end_run.ensures.made

@@ -11,4 +11,5 @@ pub end_run-requires-clause-suits : goal.end_run-requires-clause-suits
 end_run-requires-clause-suits g c = back_suits g.F.Folder.known c.args.post.now c.args.lease c.args.cause c.requires.lease c.requires.cause
 
 pub returns-clause-made : goal.returns-clause-made
-returns-clause-made g c = subst (λ (n : ℕ). Adds (Back c.args.lease.place n c.args.cause ∷ []) c.args.post.now c.end_run.new.post) c.requires.lease.by c.end_run.ensures.made
+returns-clause-made g c = subst (λ (n : ℕ). Adds (Back c.args.lease.place n c.args.cause ∷ []) c.args.post.now c.end_run.new.post) c.requires.lease.by
+    c.end_run.ensures.made

@@ -11,7 +11,7 @@ use Rattle.partition_board.specs.Begun.{Begun}
 use Rattle.partition_board.specs.Holds.{AreLeft}
 use Rattle.partition_board.specs.Posts.{AreFatesOf, begun_in}
 use Rattle.partition_board.proofs.Closing.{all_counted, all_here, all_left, begun_all, closes, history_is, nothing_runs}
-use Rattle.partition_board.proofs.closed.Board.close.Goals as goal
+use Rattle.partition_board.proofs.board.Board.close.Goals as goal
 
 pub gather-folders-requires : goal.gather-folders-requires
 gather-folders-requires g c =
@@ -19,7 +19,8 @@ gather-folders-requires g c =
     let h = c.core.inside.house in
     let posts = c.args.posts.items in
     let some : 0 < c.args.self.seats = subst (λ (b : BoardView). 0 < b.seats) c.self.view_is c.self.invariant in
-    let cl = closes posts k h c.close.result c.core.view_is c.close.ensures.opening c.close.ensures.seen c.close.ensures.counted c.close.ensures.makers c.front-front.ensures.legal in
+    let cl = closes posts k h c.close.result c.core.view_is c.close.ensures.opening c.close.ensures.seen c.close.ensures.counted c.close.ensures.makers
+    c.front-front.ensures.legal in
     let none = nothing_runs posts k h.handed cl c.args.self.seats c.requires.all some c.requires.returned in
     all_here g.F.Folder.known k h c.core.invariant none
 
@@ -29,7 +30,8 @@ returns-clause-history g c =
     let h = c.core.inside.house in
     let posts = c.args.posts.items in
     let some : 0 < c.args.self.seats = subst (λ (b : BoardView). 0 < b.seats) c.self.view_is c.self.invariant in
-    let cl = closes posts k h c.close.result c.core.view_is c.close.ensures.opening c.close.ensures.seen c.close.ensures.counted c.close.ensures.makers c.front-front.ensures.legal in
+    let cl = closes posts k h c.close.result c.core.view_is c.close.ensures.opening c.close.ensures.seen c.close.ensures.counted c.close.ensures.makers
+    c.front-front.ensures.legal in
     history_is posts k h.handed cl c.args.self.seats c.requires.all some c.close-fates.result.1.items c.close-fates.ensures.history
 
 pub returns-clause-fates : goal.returns-clause-fates
@@ -38,7 +40,8 @@ returns-clause-fates g c =
     let h = c.core.inside.house in
     let posts = c.args.posts.items in
     let some : 0 < c.args.self.seats = subst (λ (b : BoardView). 0 < b.seats) c.self.view_is c.self.invariant in
-    let cl = closes posts k h c.close.result c.core.view_is c.close.ensures.opening c.close.ensures.seen c.close.ensures.counted c.close.ensures.makers c.front-front.ensures.legal in
+    let cl = closes posts k h c.close.result c.core.view_is c.close.ensures.opening c.close.ensures.seen c.close.ensures.counted c.close.ensures.makers
+    c.front-front.ensures.legal in
     let begun : begun_in posts ≡ record { build = k.opening; folders = h.handed } = begun_all posts k h.handed cl c.args.self.seats c.requires.all some in
     c.close-fates.ensures.fates ∙ ap (λ (b : Begun g.row.F.Denot). (replay b.build k.events).fates) (sym begun)
     ∙ ap (λ (es : List Event). (replay (begun_in posts).build es).fates) (sym c.close-fates.ensures.history)
@@ -49,7 +52,8 @@ returns-clause-faithful g c = λ honest.
     let h = c.core.inside.house in
     let posts = c.args.posts.items in
     let some : 0 < c.args.self.seats = subst (λ (b : BoardView). 0 < b.seats) c.self.view_is c.self.invariant in
-    let cl = closes posts k h c.close.result c.core.view_is c.close.ensures.opening c.close.ensures.seen c.close.ensures.counted c.close.ensures.makers c.front-front.ensures.legal in
+    let cl = closes posts k h c.close.result c.core.view_is c.close.ensures.opening c.close.ensures.seen c.close.ensures.counted c.close.ensures.makers
+    c.front-front.ensures.legal in
     let begun : begun_in posts ≡ record { build = k.opening; folders = h.handed } = begun_all posts k h.handed cl c.args.self.seats c.requires.all some in
     subst (λ (b : Begun g.row.F.Denot). Faithful g.M.Meaning.compile_of b.build c.close-fates.result.1.items) (sym begun)
     (subst (λ (es : List Event). Faithful g.M.Meaning.compile_of k.opening es) (sym c.close-fates.ensures.history) (c.close-fates.ensures.faithful honest))
@@ -60,9 +64,11 @@ returns-clause-sequential g c = λ honest.
     let h = c.core.inside.house in
     let posts = c.args.posts.items in
     let some : 0 < c.args.self.seats = subst (λ (b : BoardView). 0 < b.seats) c.self.view_is c.self.invariant in
-    let cl = closes posts k h c.close.result c.core.view_is c.close.ensures.opening c.close.ensures.seen c.close.ensures.counted c.close.ensures.makers c.front-front.ensures.legal in
+    let cl = closes posts k h c.close.result c.core.view_is c.close.ensures.opening c.close.ensures.seen c.close.ensures.counted c.close.ensures.makers
+    c.front-front.ensures.legal in
     let begun : begun_in posts ≡ record { build = k.opening; folders = h.handed } = begun_all posts k h.handed cl c.args.self.seats c.requires.all some in
-    subst (λ (b : Begun g.row.F.Denot). Sound g.M.Meaning.compile_of b.build → AreFatesOf (seq g.M.Meaning.compile_of b.build.plan.jobs) c.close-fates.result.0.items)
+    subst (λ (b : Begun g.row.F.Denot). Sound g.M.Meaning.compile_of b.build → AreFatesOf (seq g.M.Meaning.compile_of b.build.plan.jobs)
+    c.close-fates.result.0.items)
     (sym begun)
     (λ sound. record {
       each = c.close-fates.ensures.each honest sound;
@@ -75,10 +81,12 @@ returns-clause-left g c =
     let h = c.core.inside.house in
     let posts = c.args.posts.items in
     let some : 0 < c.args.self.seats = subst (λ (b : BoardView). 0 < b.seats) c.self.view_is c.self.invariant in
-    let cl = closes posts k h c.close.result c.core.view_is c.close.ensures.opening c.close.ensures.seen c.close.ensures.counted c.close.ensures.makers c.front-front.ensures.legal in
+    let cl = closes posts k h c.close.result c.core.view_is c.close.ensures.opening c.close.ensures.seen c.close.ensures.counted c.close.ensures.makers
+    c.front-front.ensures.legal in
     let none = nothing_runs posts k h.handed cl c.args.self.seats c.requires.all some c.requires.returned in
     let begun : begun_in posts ≡ record { build = k.opening; folders = h.handed } = begun_all posts k h.handed cl c.args.self.seats c.requires.all some in
-    subst (λ (b : Begun g.row.F.Denot). AreLeft b.build c.close-fates.result.0.items (map g.F.Folder.known b.folders) (map g.F.Folder.known c.gather-folders.result.items))
+    subst (λ (b : Begun g.row.F.Denot). AreLeft b.build c.close-fates.result.0.items (map g.F.Folder.known b.folders)
+    (map g.F.Folder.known c.gather-folders.result.items))
     (sym begun)
     (subst (λ (fates : List (Option Fate)). AreLeft k.opening fates (map g.F.Folder.known h.handed) (map g.F.Folder.known c.gather-folders.result.items))
     (sym c.close-fates.ensures.fates)
@@ -90,6 +98,8 @@ returns-clause-counted g c =
     let h = c.core.inside.house in
     let posts = c.args.posts.items in
     let some : 0 < c.args.self.seats = subst (λ (b : BoardView). 0 < b.seats) c.self.view_is c.self.invariant in
-    let cl = closes posts k h c.close.result c.core.view_is c.close.ensures.opening c.close.ensures.seen c.close.ensures.counted c.close.ensures.makers c.front-front.ensures.legal in
+    let cl = closes posts k h c.close.result c.core.view_is c.close.ensures.opening c.close.ensures.seen c.close.ensures.counted c.close.ensures.makers
+    c.front-front.ensures.legal in
     let none = nothing_runs posts k h.handed cl c.args.self.seats c.requires.all some c.requires.returned in
-    all_counted g.F.Folder.known k h c.core.invariant none c.gather-folders.result.items c.gather-folders.ensures c.close-fates.result.1.items c.close-fates.ensures.history
+    all_counted g.F.Folder.known k h c.core.invariant none c.gather-folders.result.items c.gather-folders.ensures c.close-fates.result.1.items
+    c.close-fates.ensures.history
