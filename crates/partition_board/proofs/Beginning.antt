@@ -1,14 +1,12 @@
 -- A board when it begins.
-use Rattle.std.proofs.Common.{◌≡◌, ◌≢◌, ℕ, zero, suc, ◌+◌, ◌<◌, ◌≤◌, ◌⊎◌, inl, inr, List, [], ◌∷◌, ◌++◌, length, map, replicate, Option, Some, None, IfSome, option_map, slice_get, get_or, refl, sym, ◌∙◌, ap, subst, arith, length-append}
+use Rattle.std.proofs.Common.{◌≡◌, ℕ, zero, suc, ◌+◌, ◌<◌, ◌⊎◌, inl, inr, List, [], ◌∷◌, ◌++◌, length, map, replicate, Option, Some, None, IfSome, option_map, slice_get, get_or, refl, sym, ◌∙◌, ap, subst, arith, length-append}
 use Rattle.std.specs.List.{All}
 use Rattle.std.proofs.lemmas.List.{length-map}
 use Rattle.std.proofs.lemmas.Option.{slice_get-get_or, slice_get-map, slice_get_cases}
 use Rattle.atomic_table.specs.Seated.{TableId}
 use Rattle.compile_model.specs.declared.outcome.Fate.{Fate}
-use Rattle.staleness.specs.declared.kept.Kept.{Kept}
 use Rattle.tree_store.specs.FolderKnown.{FolderKnown}
 use Rattle.tree_store.proofs.MomentLemmas.{if_told, told_has}
-use Rattle.partition_core.specs.declared.event.Event.{Event}
 use Rattle.partition_core.specs.declared.event.Standing.TheVariants.{Idle, Runs}
 use Rattle.partition_core.specs.State.{Opening, at, start_of}
 use Rattle.partition_core.specs.Story.{Story}

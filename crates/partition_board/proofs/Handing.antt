@@ -1,8 +1,6 @@
 -- What is handed in with a lease.
-use Rattle.std.proofs.Common.{◌≡◌, ◌≢◌, ℕ, false, List, [], ◌∷◌, ◌++◌, Some, IfSome, refl, sym, ◌∙◌, ap, subst}
-use Rattle.compile_model.specs.declared.outcome.Outcome.{Outcome}
+use Rattle.std.proofs.Common.{◌≡◌, false, [], ◌∷◌, ◌++◌, refl, sym, ◌∙◌, ap}
 use Rattle.compile_model.specs.declared.outcome.Twin.{Twin}
-use Rattle.tree_store.specs.declared.holding.Holding.{Holding}
 use Rattle.tree_store.specs.FolderKnown.{FolderKnown}
 use Rattle.tree_store.proofs.MomentLemmas.{if_told}
 use Rattle.partition_core.specs.declared.event.BackCause.{BackCause}

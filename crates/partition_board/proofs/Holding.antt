@@ -1,5 +1,5 @@
 -- What folders hold, while fates are added.
-use Rattle.std.proofs.Common.{◌≡◌, ℕ, ◌⊎◌, inl, inr, List, Option, Some, None, IfSome, slice_get, refl, sym, ◌∙◌, ap, subst}
+use Rattle.std.proofs.Common.{◌≡◌, ℕ, ◌⊎◌, inl, inr, List, Option, Some, None, IfSome, slice_get, refl, sym, ◌∙◌, ap}
 use Rattle.compile_model.specs.declared.job.Job.{Job}
 use Rattle.compile_model.specs.declared.outcome.Outcome.{Outcome}
 use Rattle.compile_model.specs.declared.outcome.Fate.{Fate}
@@ -9,7 +9,7 @@ use Rattle.build_manifest.specs.MarkOf.{mark_of}
 use Rattle.staleness.specs.declared.kept.Kept.{Kept}
 use Rattle.tree_store.specs.declared.holding.Holding.{Holding}
 use Rattle.tree_store.proofs.MomentLemmas.{if_told, told_has}
-use Rattle.partition_core.specs.State.{Opening, State, at, kept_matches, needs_at, outcomes_now}
+use Rattle.partition_core.specs.State.{Opening, State, at, kept_matches, needs_at}
 use Rattle.partition_board.specs.Holds.{HoldsBuilt, HoldsBy, HoldsKept, WasKept, WasMade}
 use Rattle.partition_board.specs.Homes.{Fits, IsStale}
 use Rattle.partition_board.proofs.Growing.{Grows, first_grow, outcomes_grow}

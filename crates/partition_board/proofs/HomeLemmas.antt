@@ -3,7 +3,6 @@ use Rattle.std.proofs.Common.{◌≡◌, ℕ, ◌-◌, ◌<◌, ◌⊎◌, inl, 
 use Rattle.std.specs.Option.{option_and_then}
 use Rattle.std.proofs.lemmas.Bool.{cases_eq}
 use Rattle.std.proofs.lemmas.List.{length-set}
-use Rattle.compile_model.specs.declared.job.Job.{Job}
 use Rattle.compile_model.specs.declared.outcome.Outcome.{Outcome}
 use Rattle.compile_model.specs.declared.outcome.Fate.{Fate}
 use Rattle.compile_model.specs.declared.outcome.Fate.TheVariants.{Built, Failed, Skipped}
@@ -22,7 +21,7 @@ use Rattle.partition_core.proofs.Tidy.{Tidy, not_run}
 use Rattle.partition_core.proofs.Places.{get_set, kept_parts, set_other, set_same, standing_get}
 use Rattle.partition_board.specs.Holds.{HoldsBuilt, HoldsKept}
 use Rattle.partition_board.specs.Homes.{AreHome, Fits, IsAtHome, IsStale, RunsAt}
-use Rattle.partition_board.proofs.Growing.{Grows, at_open, at_other, at_set, grows_step}
+use Rattle.partition_board.proofs.Growing.{Grows, at_open, at_set, grows_step}
 use Rattle.partition_board.proofs.Holding.{fits_grow, holds_grow, if_weaker, kept_holds, stale_grow}
 
 -- what one partition does changes nothing of who runs a place that it runs neither before nor after

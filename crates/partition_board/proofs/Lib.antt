@@ -4,6 +4,7 @@ pub mod Holding
 pub mod Seen
 pub mod HomeLemmas
 pub mod StoryHomes
+pub mod Later
 pub mod Calls
 pub mod Handing
 pub mod Looking

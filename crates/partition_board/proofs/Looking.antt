@@ -1,5 +1,5 @@
 -- Posts that look again and again.
-use Rattle.std.proofs.Common.{◌≡◌, ℕ, refl, sym, ◌∙◌, ap}
+use Rattle.std.proofs.Common.{◌≡◌, refl, ◌∙◌}
 use Rattle.atomic_table.specs.Seated.{TableId}
 use Rattle.partition_core.specs.State.{standing}
 use Rattle.partition_core.specs.Refusals.{by_of}

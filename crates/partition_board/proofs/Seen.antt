@@ -12,7 +12,7 @@ use Rattle.partition_core.specs.declared.event.Standing.TheVariants.{Idle, Runs,
 use Rattle.partition_core.specs.State.{Opening, State, start_of, standing, missing, needs_at, needs_of, outcomes_now}
 use Rattle.partition_core.specs.Steps.{IsLegal, Holds, after}
 use Rattle.partition_core.specs.Histories.{AreLegal, Legal, IsMeant, after_all, replay}
-use Rattle.partition_core.specs.Refusals.{by_of, place_of}
+use Rattle.partition_core.specs.Refusals.{by_of}
 use Rattle.partition_core.proofs.Places.{get_set, get_replicate, set_other, set_same, standing_get}
 use Rattle.partition_core.proofs.Tidy.{Tidy, places_all, tidy_all, tidy_start, tidy_step}
 use Rattle.turn_board.specs.Histories.{Continues, made_by}

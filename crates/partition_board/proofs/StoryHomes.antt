@@ -1,9 +1,7 @@
 -- The folders of a board, from one story of its core to the next.
-use Rattle.std.proofs.Common.{◌≡◌, ◌≢◌, ℕ, ◌-◌, ◌<◌, false, true, List, [], ◌∷◌, ◌++◌, length, Option, Some, None, Result, Ok, Err, OnOk, is_err, IfSome, slice_get, slice_set, refl, sym, ◌∙◌, ap, subst}
+use Rattle.std.proofs.Common.{◌≡◌, ℕ, ◌-◌, ◌<◌, false, List, [], ◌∷◌, ◌++◌, length, Option, Some, None, Result, Ok, Err, OnOk, is_err, slice_get, slice_set, refl, sym, ◌∙◌, ap, subst}
 use Rattle.compile_model.specs.declared.job.Job.{Job}
-use Rattle.compile_model.specs.declared.outcome.Outcome.{Outcome}
 use Rattle.tree_store.specs.FolderKnown.{FolderKnown}
-use Rattle.partition_core.specs.declared.event.BackCause.{BackCause}
 use Rattle.partition_core.specs.declared.event.Event.{Event}
 use Rattle.partition_core.specs.declared.event.Event.TheVariants.{Keep, Start, Finish, Fail, Skip, Back}
 use Rattle.partition_core.specs.declared.event.Standing.TheVariants.{Idle, Runs}

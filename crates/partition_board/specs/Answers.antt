@@ -1,19 +1,16 @@
 -- What a post is given to do.
-use Rattle.std.specs.Prelude.{◌≡◌, ◌↔◌, ℕ, ◌+◌, List, [], ◌++◌, length, Option, Some, None, option_to_list, Bool, true, false}
-use Rattle.compile_model.specs.declared.outcome.Outcome.{Outcome}
-use Rattle.tree_store.specs.FolderKnown.{FolderKnown}
+use Rattle.std.specs.Prelude.{◌≡◌, ◌↔◌, ℕ, List, [], Option, Some, None, option_to_list, Bool, true, false}
 use Rattle.partition_core.specs.declared.event.Event.{Event}
 use Rattle.partition_core.specs.declared.event.Next.{Next}
 use Rattle.partition_core.specs.declared.event.Next.TheVariants.{Keep as ToKeep, Start as ToStart, Skip as ToSkip, Later as ToLater, Over as ToOver}
-use Rattle.partition_core.specs.State.{Opening, State, needs_at, outcomes_now}
+use Rattle.partition_core.specs.State.{Opening, State}
 use Rattle.partition_core.specs.Steps.{IsLegal}
 use Rattle.partition_core.specs.Histories.{replay}
-use Rattle.partition_core.specs.Refusals.{by_of, place_of}
+use Rattle.partition_core.specs.Refusals.{place_of}
 use Rattle.partition_core.specs.Nexts.{AreSettled, IsOfFree, IsUpTo, SomeRuns, event_of}
 use Rattle.partition_board.specs.declared.take.Take.{Take}
 use Rattle.partition_board.specs.declared.take.Take.TheVariants.{Started, Kept, Skipped, Later, Over, NoMemory}
-use Rattle.partition_board.specs.Leases.{IsLent}
-use Rattle.partition_board.specs.Posts.{Adds, IsFreePost, PostView, opening_at, state_at}
+use Rattle.partition_board.specs.Posts.{Adds, PostView, opening_at}
 
 -- what the core answers to the partition of this number
 pub record IsAnswer (o : Opening) (s : State) (by : ℕ) (next : Next) : Type 0 where

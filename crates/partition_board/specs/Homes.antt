@@ -8,7 +8,7 @@ use Rattle.partition_core.specs.declared.event.Event.{Event}
 use Rattle.partition_core.specs.declared.event.Standing.TheVariants.{Runs}
 use Rattle.partition_core.specs.State.{Opening, State, at, missing, stands}
 use Rattle.partition_core.specs.Story.{Story, state_now}
-use Rattle.partition_board.specs.Begun.{Begun, IsOf}
+use Rattle.partition_board.specs.Begun.{IsOf}
 use Rattle.partition_board.specs.Failures.{IsCounted}
 use Rattle.partition_board.specs.Holds.{HoldsBy, HoldsKept}
 

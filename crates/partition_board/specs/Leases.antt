@@ -1,5 +1,5 @@
 -- What comes with a lease, and what is handed in with it.
-use Rattle.std.specs.Prelude.{◌≡◌, ◌≢◌, ℕ, List, [], IfSome}
+use Rattle.std.specs.Prelude.{◌≡◌, ◌≢◌, List, [], IfSome}
 use Rattle.compile_model.specs.declared.outcome.Outcome.{Outcome}
 use Rattle.compile_model.specs.declared.outcome.Twin.{Twin}
 use Rattle.tree_store.specs.FolderKnown.{FolderKnown}

@@ -1,5 +1,5 @@
 -- What a post has seen, and what its calls add.
-use Rattle.std.specs.Prelude.{◌≡◌, ℕ, ◌+◌, List, [], ◌∷◌, ◌++◌, length, map, false, Option, Some, None, slice_get, unwrap_or}
+use Rattle.std.specs.Prelude.{◌≡◌, ℕ, ◌+◌, List, [], ◌∷◌, ◌++◌, length, map, false, Option, Some, unwrap_or}
 use Rattle.std.specs.List.{All, sum_by}
 use Rattle.compile_model.specs.declared.outcome.Fate.{Fate}
 use Rattle.partition_core.specs.declared.event.Event.{Event}

@@ -1,7 +1,6 @@
-use Rattle.std.proofs.Common.{ℕ, ◌<◌, ◌≡◌, Option, Some, None, List, slice_get, slice_set, sym, ap, subst, ◌∙◌}
+use Rattle.std.proofs.Common.{ℕ, ◌<◌, Some, slice_get, slice_set, sym, ap, subst, ◌∙◌}
 use Rattle.partition_core.specs.Story.{with_event}
 use Rattle.partition_core.specs.Refusals.{place_of}
-use Rattle.partition_board.specs.Homes.{HouseView}
 use Rattle.partition_board.proofs.StoryHomes.{end_away, end_story, housed_as}
 use Rattle.partition_board.proofs.taking.end.Goals as goal
 

@@ -1,6 +1,6 @@
-use Rattle.std.proofs.Common.{refl, sym, ◌∙◌, ap, append-nil}
+use Rattle.std.proofs.Common.{refl, sym, ◌∙◌, ap}
 use Rattle.partition_core.specs.declared.event.Event.TheVariants.{Keep, Start, Skip}
-use Rattle.partition_core.specs.State.{Opening, State, standing}
+use Rattle.partition_core.specs.State.{State, standing}
 use Rattle.partition_core.specs.Story.{with_event}
 use Rattle.partition_board.proofs.StoryHomes.{housed_as, keep_story, on_ok, skip_story, start_outputs, start_runs, start_within}
 use Rattle.partition_board.proofs.taking.take_from.Goals as goal

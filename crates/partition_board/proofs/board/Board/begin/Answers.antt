@@ -1,11 +1,5 @@
-use Rattle.std.proofs.Common.{refl, Some, ap, ◌∙◌}
 use Rattle.partition_core.specs.State.{Opening}
-use Rattle.partition_core.specs.Story.{Story}
-use Rattle.turn_board.specs.Seats.{fresh_seats}
-use Rattle.partition_board.specs.Begun.{Begun}
-use Rattle.partition_board.specs.Homes.{HouseView, StateView}
-use Rattle.partition_board.proofs.Beginning.{begun_housed, fresh_each}
-use Rattle.partition_board.proofs.Giving.{map_some}
+use Rattle.partition_board.proofs.Beginning.{begun_housed}
 use Rattle.partition_board.proofs.board.Board.begin.Goals as goal
 
 pub invariant_of-state : goal.invariant_of-state

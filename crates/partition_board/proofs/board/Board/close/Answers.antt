@@ -1,8 +1,7 @@
-use Rattle.std.proofs.Common.{◌≡◌, ◌<◌, List, length, Some, map, ap, sym, ◌∙◌, subst}
+use Rattle.std.proofs.Common.{◌≡◌, ◌<◌, List, map, ap, sym, ◌∙◌, subst}
 use Rattle.compile_model.specs.declared.outcome.Fate.{Fate}
 use Rattle.compile_model.specs.Seq.{seq}
 use Rattle.std.specs.Prelude.{Option}
-use Rattle.tree_store.specs.FolderKnown.{FolderKnown}
 use Rattle.partition_core.specs.declared.event.Event.{Event}
 use Rattle.partition_core.specs.Histories.{Faithful, Sound, replay}
 use Rattle.partition_core.specs.Nexts.{AreSettled}

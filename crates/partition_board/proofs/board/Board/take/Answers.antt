@@ -1,9 +1,8 @@
-use Rattle.std.proofs.Common.{ℕ, List, Bool, false, ap, refl, subst, sym, ◌∙◌}
-use Rattle.compile_model.specs.declared.outcome.Outcome.{Outcome}
+use Rattle.std.proofs.Common.{ℕ, Bool, false, ap, refl, subst, sym, ◌∙◌}
 use Rattle.partition_core.specs.Refusals.{by_of}
 use Rattle.partition_core.specs.Story.{Story}
 use Rattle.turn_board.specs.Seats.{GrewBy, left}
-use Rattle.partition_board.specs.Answers.{makes_event, next_of}
+use Rattle.partition_board.specs.Answers.{next_of}
 use Rattle.partition_board.specs.Steps.{AnsweredAt, IsLentAt}
 use Rattle.partition_board.proofs.Calls.{answers_is, events_is, found, free_is, lent_is, opening_left, take_grew}
 use Rattle.partition_board.proofs.board.Board.take.Goals as goal

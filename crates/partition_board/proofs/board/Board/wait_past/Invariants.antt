@@ -1,4 +1,3 @@
-use Rattle.std.proofs.Common.{◌≡◌}
 use Rattle.partition_board.specs.Posts.{IsIn}
 use Rattle.partition_board.proofs.Looking.{Went}
 use Rattle.partition_board.proofs.board.Board.wait_past.Given as goal
