@@ -43,6 +43,11 @@ module _ {X O E : Type 0} where
       (nx : ℕ) × (t : ℕ) × (r : Tally O E)
       × (m ≡ (seated 1 nx (Waits t) r, [])) × (ticket ≡ t % 2 ^ 64)
 
+module _ {O E : Type 0} where
+  -- one of the seats has a tally of this number
+  abbrev pub IsOwned : List (Sight O E) → ℕ → Type 0
+  IsOwned views k = (j : ℕ) × (v : Sight O E) × (get_elem? views j ≡ some v) × Owns k v.tallies
+
 module _ {X E : Type 0} (history : X → List E) where
   -- the history of the value that a seat has in its slot
   abbrev pub slot_history : List (ℕ × Option X) → List E
@@ -76,10 +81,6 @@ module _ {X O E : Type 0} (account : Account X O E) where
     Housed views =
         ((x : X) × (homes ≡ some (Some x) ∷ []) × (account.opening x ≡ start) × (account.history x ≡ log))
         ⊎ ((j : ℕ) × (v : Sight O E) × (get_elem? views j ≡ some v) × (v.stage ≡ Has served))
-
-  -- one of the seats has a tally of this number
-  abbrev pub IsOwned : List (Sight O E) → ℕ → Type 0
-  IsOwned views k = (j : ℕ) × (v : Sight O E) × (get_elem? views j ≡ some v) × Owns k v.tallies
 
   -- the board has its value
   pub record Turning (n : ℕ) (s : State (Option X) (Sight O E)) : Type 0 where
