@@ -1,5 +1,5 @@
 -- The core that a post finds, and what the post has seen when it leaves.
-use Rattle.std.proofs.Common.{◌≡◌, ℕ, ◌-◌, List, [], ◌∷◌, ◌++◌, length, Bool, true, false, Option, Some, refl, sym, ◌∙◌, ap, subst, append-nil, arith}
+use Rattle.std.proofs.Common.{◌≡◌, ℕ, ◌+◌, ◌-◌, List, [], ◌∷◌, ◌++◌, length, Bool, true, false, Option, Some, refl, sym, ◌∙◌, ap, subst, append-nil, arith}
 use Rattle.std.specs.Prelude.{if◌then◌else◌}
 use Rattle.std.specs.Option.{unwrap_or}
 use Rattle.compile_model.specs.declared.outcome.Outcome.{Outcome}
@@ -86,7 +86,7 @@ module _ {F : Type 0} where
       story_is : k ≡ v.story
       story_is = ap (λ (w : StateView F). w.story) same
 
-      events_is : k.events ≡ e.seen
+      pub events_is : k.events ≡ e.seen
       events_is = ap (λ (s : Story). s.events) story_is ∙ sym (ap (λ (p : PostView F). p.seen) enters)
 
       number_left : l.number ≡ post.number
@@ -128,7 +128,7 @@ module _ {F : Type 0} where
           ∙ ap (λ (fs : List F). Some (record { build = new.opening; folders = fs })) (sym same_folders)
 
       -- these events were made
-      pub adds_is : (events : List Event) → post.has_value ≡ false → new ≡ record k { events = k.events ++ events } → length events ≡ (if grew then 1 else 0)
+      abbrev pub adds_is : (events : List Event) → post.has_value ≡ false → new ≡ record k { events = k.events ++ events } → length events ≡ (if grew then 1 else 0)
           → Legal new.opening new.events → Adds events post l
       adds_is events home makes many legal = record {
         same = same_left home;

@@ -19,8 +19,8 @@ or_false false false e = refl
 -- an event that is no failure of the place
 pub failed_more : (events : List Event) (event : Event) (place : ℕ) → is_failure place event ≡ false
     → has_failed (events ++ event ∷ []) place ≡ has_failed events place
-failed_more events event place no =
-    list_any-append (is_failure place) events (event ∷ []) ∙ or_false (has_failed events place) (is_failure place event) no
+failed_more events event place isnt =
+    list_any-append (is_failure place) events (event ∷ []) ∙ or_false (has_failed events place) (is_failure place event) isnt
 
 pub counted_as : (one other : List Event) (place : ℕ) (folder : FolderKnown) → has_failed one place ≡ has_failed other place
     → IsCounted one place folder → IsCounted other place folder

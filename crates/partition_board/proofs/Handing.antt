@@ -23,11 +23,11 @@ module _ {F : Type 0} (known : F → FolderKnown) (post : PostView F) (lease : L
   -- the folder has failed as often as when it was lent
   counted_then : (event : Event) → is_failure lease.place event ≡ false → IsCounted post.seen lease.place (known lease.folder)
       → IsCounted (post.seen ++ event ∷ []) lease.place (known lease.folder)
-  counted_then event no count =
-      counted_as post.seen (post.seen ++ event ∷ []) lease.place (known lease.folder) (sym (failed_more post.seen event lease.place no)) count
+  counted_then event isnt count =
+      counted_as post.seen (post.seen ++ event ∷ []) lease.place (known lease.folder) (sym (failed_more post.seen event lease.place isnt)) count
 
   pub finish_legal : (outcome : Twin) → IsFinished known post lease outcome → IsLegalOf post (Finish lease.place lease.by outcome.event)
-  finish_legal outcome is = (is.mine.by, lease_holds is.mine, is.status)
+  finish_legal outcome is = (is.mine.by, (lease_holds is.mine, is.status))
 
   pub finish_suits : (outcome : Twin) → IsFinished known post lease outcome
       → SuitsEvent known (story_at post) (begun_at post).folders (Finish lease.place lease.by outcome.event) lease.folder
@@ -39,7 +39,7 @@ module _ {F : Type 0} (known : F → FolderKnown) (post : PostView F) (lease : L
   }
 
   pub fail_legal : (outcome : Twin) → IsFailed known post lease outcome → IsLegalOf post (Fail lease.place lease.by outcome.event)
-  fail_legal outcome is = (is.mine.by, lease_holds is.mine, is.status)
+  fail_legal outcome is = (is.mine.by, (lease_holds is.mine, is.status))
 
   pub fail_suits : (outcome : Twin) → IsFailed known post lease outcome
       → SuitsEvent known (story_at post) (begun_at post).folders (Fail lease.place lease.by outcome.event) lease.folder

@@ -44,9 +44,9 @@ on_ok (Err x) P p e = cc
 module _ {F : Type 0} (known : F → FolderKnown) where
   belongs_more : (handed : List F) (events : List Event) (event : Event) (place : ℕ) (folder : F) → is_failure place event ≡ false
       → Belongs known handed events place folder → Belongs known handed (events ++ event ∷ []) place folder
-  belongs_more handed events event place folder no belongs = record {
+  belongs_more handed events event place folder isnt belongs = record {
     own = belongs.own;
-    count = counted_as events (events ++ event ∷ []) place (known folder) (sym (failed_more events event place no)) belongs.count;
+    count = counted_as events (events ++ event ∷ []) place (known folder) (sym (failed_more events event place isnt)) belongs.count;
   }
 
   belongs_other : (handed : List F) (events : List Event) (event : Event) (p : ℕ) (folder : F) → (p ≡ place_of event → ⊥)

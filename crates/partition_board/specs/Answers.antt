@@ -19,6 +19,11 @@ pub record IsAnswer (o : Opening) (s : State) (by : ℕ) (next : Next) : Type 0 
   pub over : (next ≡ ToOver) ↔ AreSettled s.fates
   pub later : next ≡ ToLater → SomeRuns s
 
+-- the one event that is made with the core's answer, or none
+abbrev pub made_with : Option Next → ℕ → List Event
+made_with None by = []
+made_with (Some next) by = option_to_list (event_of next by)
+
 module _ {F : Type 0} where
   -- the core's answer behind this one, if there was memory for it
   abbrev pub next_of : Take F → Option Next
@@ -28,11 +33,6 @@ module _ {F : Type 0} where
   next_of (Later front) = Some ToLater
   next_of (Over front) = Some ToOver
   next_of NoMemory = None
-
-  -- the one event that is made with the core's answer, or none
-  abbrev pub made_with : Option Next → ℕ → List Event
-  made_with None by = []
-  made_with (Some next) by = option_to_list (event_of next by)
 
   abbrev pub makes_event : Take F → Bool
   makes_event (Started lease) = true

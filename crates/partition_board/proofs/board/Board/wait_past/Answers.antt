@@ -13,5 +13,10 @@ loop-preserved g c = record {
   went = went_more c.args.post.now c.loop.post c.look-now.new.post c.loop.invariant.went c.look-now.ensures.sees;
 }
 
-pub loop-entry-went : goal.loop-entry-went
-loop-entry-went g c = went_none c.args.post.now
+pub loop-init : goal.loop-init
+loop-init g c = record {
+  can_next = search rules;
+  finite = search rules;
+  own = search rules;
+  went = went_none c.args.post.now;
+}
