@@ -47,7 +47,7 @@ module _ {F : Type 0} where
   }
 
   module _ (post : PostView F) (k : Story) (handed : List F) (f : Found post k handed) where
-    begun_is : begun_at post ≡ record { build = k.opening; folders = handed }
+    pub begun_is : begun_at post ≡ record { build = k.opening; folders = handed }
     begun_is = ap (λ (x : Option (Begun F)). unwrap_or x nothing_begun) f.opening
 
     pub opening_is : opening_at post ≡ k.opening
@@ -83,22 +83,22 @@ module _ {F : Type 0} where
     -- the post when it leaves, after it entered
     module _ (e l : PostView F) (v : StateView F) (new : Story) (h : HouseView F) (grew : Bool) (same : record { story = k; house = h } ≡ v)
         (enters : e ≡ entered post v.story.events) (leaves : l ≡ left e new.events grew) where
-      story_is : k ≡ v.story
+      pub story_is : k ≡ v.story
       story_is = ap (λ (w : StateView F). w.story) same
 
       pub events_is : k.events ≡ e.seen
       events_is = ap (λ (s : Story). s.events) story_is ∙ sym (ap (λ (p : PostView F). p.seen) enters)
 
-      number_left : l.number ≡ post.number
+      pub number_left : l.number ≡ post.number
       number_left = ap (λ (p : PostView F). p.number) leaves ∙ ap (λ (p : PostView F). p.number) enters
 
-      begun_left : begun_at l ≡ record { build = k.opening; folders = handed }
+      pub begun_left : begun_at l ≡ record { build = k.opening; folders = handed }
       begun_left = ap (λ (p : PostView F). begun_at p) leaves ∙ ap (λ (p : PostView F). begun_at p) enters ∙ begun_is
 
-      seen_left : l.seen ≡ new.events
+      pub seen_left : l.seen ≡ new.events
       seen_left = ap (λ (p : PostView F). p.seen) leaves
 
-      same_left : post.has_value ≡ false → IsSamePost post l
+      pub same_left : post.has_value ≡ false → IsSamePost post l
       same_left home = (
         ap (λ (p : PostView F). p.board) leaves ∙ ap (λ (p : PostView F). p.board) enters,
         number_left,
@@ -106,7 +106,7 @@ module _ {F : Type 0} where
         ap (λ (p : PostView F). p.has_value) leaves ∙ sym home,
       )
 
-      made_left : l.made ≡ post.made + (if grew then 1 else 0)
+      pub made_left : l.made ≡ post.made + (if grew then 1 else 0)
       made_left = ap (λ (p : PostView F). p.made) leaves ∙ ap (λ (p : PostView F). p.made + (if grew then 1 else 0)) enters
 
       pub state_left : k.opening ≡ new.opening → state_at l ≡ state_now new
@@ -114,7 +114,7 @@ module _ {F : Type 0} where
           ap (λ (b : Begun F). replay b.build l.seen) begun_left ∙ ap (λ (o : Opening). replay o l.seen) kept ∙ ap
           (λ (es : List Event). replay new.opening es) seen_left
 
-      legal_left : k.opening ≡ new.opening → Legal new.opening new.events → Legal (opening_at l) l.seen
+      pub legal_left : k.opening ≡ new.opening → Legal new.opening new.events → Legal (opening_at l) l.seen
       legal_left kept legal =
           subst (λ (b : Begun F). Legal b.build l.seen) (sym begun_left)
           (subst (λ (o : Opening). Legal o l.seen) (sym kept) (subst (λ (es : List Event). Legal new.opening es) (sym seen_left) legal))
