@@ -47,7 +47,7 @@ module _ {F : Type 0} where
   }
 
   module _ (post : PostView F) (k : Story) (handed : List F) (f : Found post k handed) where
-    pub begun_is : begun_at post ≡ record { build = k.opening; folders = handed }
+    begun_is : begun_at post ≡ record { build = k.opening; folders = handed }
     begun_is = ap (λ (x : Option (Begun F)). unwrap_or x nothing_begun) f.opening
 
     pub opening_is : opening_at post ≡ k.opening
@@ -83,16 +83,16 @@ module _ {F : Type 0} where
     -- the post when it leaves, after it entered
     module _ (e l : PostView F) (v : StateView F) (new : Story) (h : HouseView F) (grew : Bool) (same : record { story = k; house = h } ≡ v)
         (enters : e ≡ entered post v.story.events) (leaves : l ≡ left e new.events grew) where
-      pub story_is : k ≡ v.story
+      story_is : k ≡ v.story
       story_is = ap (λ (w : StateView F). w.story) same
 
       pub events_is : k.events ≡ e.seen
       events_is = ap (λ (s : Story). s.events) story_is ∙ sym (ap (λ (p : PostView F). p.seen) enters)
 
-      pub number_left : l.number ≡ post.number
+      number_left : l.number ≡ post.number
       number_left = ap (λ (p : PostView F). p.number) leaves ∙ ap (λ (p : PostView F). p.number) enters
 
-      pub begun_left : begun_at l ≡ record { build = k.opening; folders = handed }
+      begun_left : begun_at l ≡ record { build = k.opening; folders = handed }
       begun_left = ap (λ (p : PostView F). begun_at p) leaves ∙ ap (λ (p : PostView F). begun_at p) enters ∙ begun_is
 
       pub seen_left : l.seen ≡ new.events
@@ -128,7 +128,8 @@ module _ {F : Type 0} where
           ∙ ap (λ (fs : List F). Some (record { build = new.opening; folders = fs })) (sym same_folders)
 
       -- these events were made
-      abbrev pub adds_is : (events : List Event) → post.has_value ≡ false → new ≡ record k { events = k.events ++ events } → length events ≡ (if grew then 1 else 0)
+      abbrev pub adds_is : (events : List Event) → post.has_value ≡ false → new ≡ record k { events = k.events ++ events }
+          → length events ≡ (if grew then 1 else 0)
           → Legal new.opening new.events → Adds events post l
       adds_is events home makes many legal = record {
         same = same_left home;

@@ -26,7 +26,8 @@ use Rattle.partition_board.specs.Begun.{Begun, IsOf}
 use Rattle.partition_board.specs.Failures.{AreCounted, IsCounted}
 use Rattle.partition_board.specs.Holds.{AreLeft, HoldsBy}
 use Rattle.partition_board.specs.Homes.{AllHere, Belongs, Fits, HouseView, IsAtHome, IsHoused, RunsAt, StateView}
-use Rattle.partition_board.specs.Posts.{HoldsPlace, IsHistoryOf, PostView, begun_at, begun_in, nothing_begun}
+use Rattle.atomic_table.specs.Seated.{TableId}
+use Rattle.partition_board.specs.Posts.{HasReturned, IsHistoryOf, PostView, begun_at, begun_in, nothing_begun}
 use Rattle.partition_board.proofs.Calls.{Found, standing_is}
 use Rattle.partition_board.proofs.Giving.{here_all}
 use Rattle.partition_board.proofs.Holding.{if_weaker}
@@ -107,6 +108,11 @@ module _ {F : Type 0} where
   post_of (post ∷ posts) n (inl own) = (0, post, refl, own)
   post_of (post ∷ posts) n (inr rest) = let found = post_of posts n rest in (suc found.0, found.1, found.2, found.3)
 
+  pub own_all : (posts : List (PostView F)) (inner board : TableId) → inner ≡ board → All (HasReturned board) posts
+      → All (λ p. (p.board ≡ inner) × (p.has_value ≡ false)) posts
+  own_all posts inner board same returned =
+      All-weaker (HasReturned board) (λ p. (p.board ≡ inner) × (p.has_value ≡ false)) (λ p h. (h.0.0 ∙ sym same, h.0.1)) posts returned
+
   -- what is known of all posts and of the core at the end
   pub record Closes (posts : List (PostView F)) (k : Story) (handed : List F) : Type 0 where
     pub openings : All (λ p. p.opening ≡ Some (record { build = k.opening; folders = handed })) posts
@@ -131,8 +137,8 @@ module _ {F : Type 0} where
   module _ (posts : List (PostView F)) (k : Story) (handed : List F) (c : Closes posts k handed) (seats : ℕ)
       (all : length posts ≡ seats) (some : 0 < seats) where
     -- no lease is out, so nothing runs
-    pub nothing_runs : All (λ p. (place : ℕ) → HoldsPlace p place → ⊥) posts → (i place : ℕ) → RunsAt (state_now k) i place → ⊥
-    nothing_runs returned i place runs =
+    pub nothing_runs : (board : TableId) → All (HasReturned board) posts → (i place : ℕ) → RunsAt (state_now k) i place → ⊥
+    nothing_runs board returned i place runs =
         let seat = post_of posts (i + 1) (c.makers (i + 1) (runs_made k.opening k.events i place c.legal runs)) in
         let post = seat.1 in
         let f : Found post k handed = record {
@@ -140,7 +146,7 @@ module _ {F : Type 0} where
           went = one_of (λ p. Continues by_of p.number p.seen k.events) posts seat.0 post c.went seat.2;
           legal = c.legal;
         } in
-        one_of (λ p. (pl : ℕ) → HoldsPlace p pl → ⊥) posts seat.0 post returned seat.2 place
+        (one_of (HasReturned board) posts seat.0 post returned seat.2).1 place
         (sym (standing_is post k handed f) ∙ ap (standing (state_now k).standings) seat.3 ∙ sym (numbered_at (state_now k).standings i) ∙ runs)
 
     begun_of : (p : PostView F) → p.opening ≡ Some (record { build = k.opening; folders = handed })

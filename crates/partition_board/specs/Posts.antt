@@ -52,6 +52,10 @@ module _ {F : Type 0} where
   abbrev pub IsEndedPost : PostView F → Type 0
   IsEndedPost post = standing (state_at post).standings post.number ≡ Some Ended
 
+  -- the post is one of this board's, and its partition runs nothing
+  abbrev pub HasReturned : TableId → PostView F → Type 0
+  HasReturned board post = IsIn board post × ((place : ℕ) → HoldsPlace post place → ⊥)
+
   -- the same post of the same board
   abbrev pub IsSamePost : PostView F → PostView F → Type 0
   IsSamePost old new = (new.board ≡ old.board) × (new.number ≡ old.number) × (new.opening ≡ old.opening) × (new.has_value ≡ old.has_value)

@@ -1,5 +1,5 @@
 // The board, and its calls with a post.
-ghost use Rattle.std.specs.Prelude.{◌≡◌, ◌≤◌, ◌<◌, ℕ, [], ◌∷◌, Some, IfErr, IfOk, length, map};
+ghost use Rattle.std.specs.Prelude.{◌≡◌, ◌≤◌, ◌<◌, [], ◌∷◌, Some, IfErr, IfOk, length, map};
 ghost use Rattle.std.specs.List.{All};
 ghost use Rattle.compile_model.specs.Planned.{ArePlanned};
 ghost use Rattle.compile_model.specs.Seq.{seq};
@@ -9,7 +9,7 @@ ghost use Rattle.partition_core.specs.Histories.{Faithful, IsFaithful, IsMeant, 
 ghost use Rattle.turn_board.specs.Seats.{fresh_seats};
 ghost use Rattle.partition_board.specs.Holds.{AreLeft, AreReady};
 ghost use Rattle.partition_board.specs.Failures.{AreCounted};
-ghost use Rattle.partition_board.specs.Posts.{Adds, AreFatesOf, HoldsPlace, IsEndedPost, IsFreePost, IsHistoryOf, IsIn, Sees, begun_at, begun_in, opening_at, state_at, story_at};
+ghost use Rattle.partition_board.specs.Posts.{Adds, AreFatesOf, HasReturned, IsEndedPost, IsFreePost, IsHistoryOf, IsIn, Sees, begun_at, begun_in, opening_at, state_at, story_at};
 ghost use Rattle.partition_board.specs.Answers.{Answers, IsFront};
 ghost use Rattle.partition_board.specs.Leases.{HasCause, IsFailed, IsFinished, IsLeaseOf, IsLent};
 ghost use Rattle.partition_board.specs.Steps.{IsLegalOf, SuitsEvent, standing_after};
@@ -260,8 +260,7 @@ impl<M: Meaning, F: Folder> Board<M, F> {
     /// Ends the build, once no lease is out. It takes all posts of the board, in any order, and no memory.
     pub fn close(self, posts: Vec<Post<M, F>>) -> Closed<F>
         requires all { length posts.items ≡ self.seats }
-        requires own { All (IsIn self.board) posts.items }
-        requires returned { All (λ p. (place : ℕ) → HoldsPlace p place → ⊥) posts.items }
+        requires returned { All (HasReturned self.board) posts.items }
         ensures history { IsHistoryOf posts.items result.history.items }
         ensures fates { result.fates.items
             ≡ (replay (begun_in posts.items).build result.history.items).fates }

@@ -6,7 +6,8 @@ use Rattle.partition_board.proofs.taking.end.Goals as goal
 
 pub take_in-requires-clause-within : goal.take_in-requires-clause-within
 take_in-requires-clause-within g c =
-    subst (λ (n : ℕ). n < length c.args.house.now.homes) (sym c.place-place.ensures) (subst (λ (n : ℕ). place_of c.args.event < n) (sym c.requires.home.home.places) c.make.ensures.within)
+    subst (λ (n : ℕ). n < length c.args.house.now.homes) (sym c.place-place.ensures)
+    (subst (λ (n : ℕ). place_of c.args.event < n) (sym c.requires.home.home.places) c.make.ensures.within)
 
 pub take_in-requires-clause-away : goal.take_in-requires-clause-away
 take_in-requires-clause-away g c =

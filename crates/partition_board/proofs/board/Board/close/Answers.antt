@@ -9,8 +9,11 @@ use Rattle.turn_board.specs.Seats.{BoardView}
 use Rattle.partition_board.specs.Begun.{Begun}
 use Rattle.partition_board.specs.Holds.{AreLeft}
 use Rattle.partition_board.specs.Posts.{AreFatesOf, begun_in}
-use Rattle.partition_board.proofs.Closing.{all_counted, all_here, all_left, begun_all, closes, history_is, nothing_runs}
+use Rattle.partition_board.proofs.Closing.{all_counted, all_here, all_left, begun_all, closes, history_is, nothing_runs, own_all}
 use Rattle.partition_board.proofs.board.Board.close.Goals as goal
+
+pub close-requires-clause-each : goal.close-requires-clause-each
+close-requires-clause-each g c = own_all c.args.posts.items c.self.inside.turn.board c.args.self.board (ap (λ (b : BoardView). b.board) c.self.view_is) c.requires.returned
 
 pub gather-folders-requires : goal.gather-folders-requires
 gather-folders-requires g c =
@@ -20,7 +23,7 @@ gather-folders-requires g c =
     let some : 0 < c.args.self.seats = subst (λ (b : BoardView). 0 < b.seats) c.self.view_is c.self.invariant in
     let cl = closes posts k h c.close.result c.core.view_is c.close.ensures.opening c.close.ensures.seen c.close.ensures.counted c.close.ensures.makers
     c.front-front.ensures.legal in
-    let none = nothing_runs posts k h.handed cl c.args.self.seats c.requires.all some c.requires.returned in
+    let none = nothing_runs posts k h.handed cl c.args.self.seats c.requires.all some c.args.self.board c.requires.returned in
     all_here g.F.Folder.known k h c.core.invariant none
 
 pub returns-clause-history : goal.returns-clause-history
@@ -82,7 +85,7 @@ returns-clause-left g c =
     let some : 0 < c.args.self.seats = subst (λ (b : BoardView). 0 < b.seats) c.self.view_is c.self.invariant in
     let cl = closes posts k h c.close.result c.core.view_is c.close.ensures.opening c.close.ensures.seen c.close.ensures.counted c.close.ensures.makers
     c.front-front.ensures.legal in
-    let none = nothing_runs posts k h.handed cl c.args.self.seats c.requires.all some c.requires.returned in
+    let none = nothing_runs posts k h.handed cl c.args.self.seats c.requires.all some c.args.self.board c.requires.returned in
     let begun : begun_in posts ≡ record { build = k.opening; folders = h.handed } = begun_all posts k h.handed cl c.args.self.seats c.requires.all some in
     subst (λ (b : Begun g.row.F.Denot). AreLeft b.build c.close-fates.result.0.items (map g.F.Folder.known b.folders)
     (map g.F.Folder.known c.gather-folders.result.items))
@@ -99,6 +102,6 @@ returns-clause-counted g c =
     let some : 0 < c.args.self.seats = subst (λ (b : BoardView). 0 < b.seats) c.self.view_is c.self.invariant in
     let cl = closes posts k h c.close.result c.core.view_is c.close.ensures.opening c.close.ensures.seen c.close.ensures.counted c.close.ensures.makers
     c.front-front.ensures.legal in
-    let none = nothing_runs posts k h.handed cl c.args.self.seats c.requires.all some c.requires.returned in
+    let none = nothing_runs posts k h.handed cl c.args.self.seats c.requires.all some c.args.self.board c.requires.returned in
     all_counted g.F.Folder.known k h c.core.invariant none c.gather-folders.result.items c.gather-folders.ensures c.close-fates.result.1.items
     c.close-fates.ensures.history
