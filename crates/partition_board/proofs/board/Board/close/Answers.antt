@@ -13,7 +13,8 @@ use Rattle.partition_board.proofs.Closing.{all_counted, all_here, all_left, begu
 use Rattle.partition_board.proofs.board.Board.close.Goals as goal
 
 pub close-requires-clause-each : goal.close-requires-clause-each
-close-requires-clause-each g c = own_all c.args.posts.items c.self.inside.turn.board c.args.self.board (ap (λ (b : BoardView). b.board) c.self.view_is) c.requires.returned
+close-requires-clause-each g c =
+    own_all c.args.posts.items c.self.inside.turn.board c.args.self.board (ap (λ (b : BoardView). b.board) c.self.view_is) c.requires.returned
 
 pub gather-folders-requires : goal.gather-folders-requires
 gather-folders-requires g c =
