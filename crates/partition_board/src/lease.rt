@@ -1,8 +1,8 @@
 // Leases.
-use tree_store::Folder;
 
 /// A place that the partition of this number runs, with the place's folder.
-pub struct Lease<F: Folder> {
+#[derive(Drop)]
+pub struct Lease<F> {
     /// A job of the plan.
     pub place: u32,
     /// The number of the partition, from 1.

@@ -21,7 +21,8 @@ use Rattle.honest_tree.specs.Honest.{IsHonest}
 use Rattle.honest_tree.proofs.HonestLemmas.{more_holding}
 use Rattle.partition_face.specs.declared.counts.Counts.{Counts}
 use Rattle.partition_face.specs.Counts.{CanRun}
-use Rattle.partition_crew.specs.Build.{AreReady, StayFor, inputs_of}
+use Rattle.partition_board.specs.Holds.{AreReady}
+use Rattle.partition_crew.specs.Build.{StayFor, inputs_of}
 use Rattle.partition_crew.specs.Station.{IsLeftNow, IsStation, IsYoung, Moves, Nature, Station, is_covered, station_by}
 use Rattle.partition_crew.specs.Station.Moves.{keeps, skips, works}
 use Rattle.partition_crew.proofs.Moving.{station_moves}

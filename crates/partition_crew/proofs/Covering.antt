@@ -11,7 +11,7 @@ use Rattle.partition_core.specs.Counts.{count_below, is_compiled}
 use Rattle.partition_core.proofs.CountsBelow.{count_le, count_less}
 use Rattle.partition_core.proofs.Needs.{all_outcomes, first_since}
 use Rattle.partition_crew.specs.Station.{is_covered}
-use Rattle.partition_crew.proofs.Growing.{at_other}
+use Rattle.partition_board.proofs.Growing.{at_other}
 
 -- ---- which places are covered
 

@@ -12,10 +12,11 @@ use Rattle.partition_core.proofs.Tidy.{places_all}
 use Rattle.partition_crew.specs.declared.one.BuildFault.{BuildFault}
 use Rattle.partition_crew.specs.declared.one.BuildFault.TheVariants.{TreeFault, OutOfMemory, NoPartitionLeft}
 use Rattle.partition_crew.specs.declared.one.One.{One}
-use Rattle.partition_crew.specs.Build.{AreLeft, AreReady, CountsOf, HaveFates, IsEnding, SomeFailed, StayFor, inputs_of}
+use Rattle.partition_board.specs.Holds.{AreLeft, AreReady}
+use Rattle.partition_crew.specs.Build.{CountsOf, HaveFates, IsEnding, SomeFailed, StayFor, inputs_of}
 use Rattle.partition_crew.specs.Station.{Ends, IsYoung, Nature, Station}
 use Rattle.partition_crew.specs.Station.Cuts.{unmade, worked}
-use Rattle.partition_crew.proofs.Growing.{at_open}
+use Rattle.partition_board.proofs.Growing.{at_open}
 use Rattle.partition_crew.proofs.Inputs.{stay_worked}
 use Rattle.partition_crew.proofs.Moving.{agrees_now}
 use Rattle.partition_crew.proofs.Telling.{faithful_works, legal_works}

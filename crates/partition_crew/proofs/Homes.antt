@@ -1,11 +1,10 @@
 -- The folders of places, between two steps.
-use Rattle.std.proofs.Common.{◌≡◌, ℕ, ◌⊎◌, inl, inr, false, List, length, Option, Some, None, IfSome, slice_get, slice_set, refl, sym, ◌∙◌, ap, subst}
+use Rattle.std.proofs.Common.{◌≡◌, ℕ, inl, inr, false, List, length, Option, Some, None, IfSome, slice_get, slice_set, refl, sym, ◌∙◌, ap, subst}
 use Rattle.std.proofs.lemmas.Bool.{cases_eq}
 use Rattle.compile_model.specs.declared.job.Job.{Job}
 use Rattle.compile_model.specs.declared.outcome.Outcome.{Outcome}
 use Rattle.compile_model.specs.declared.outcome.Fate.{Fate}
 use Rattle.compile_model.specs.declared.outcome.Fate.TheVariants.{Built, Failed as NotBuilt, Skipped}
-use Rattle.build_manifest.specs.Mark.{MarkView}
 use Rattle.build_manifest.specs.MarkOf.{mark_of}
 use Rattle.build_manifest.specs.Text.{Spells}
 use Rattle.staleness.specs.declared.kept.Kept.{Kept}
@@ -17,41 +16,14 @@ use Rattle.tree_store.proofs.MomentLemmas.{if_told, told_has}
 use Rattle.partition_core.specs.State.{Opening, at, first_open, outcomes_now}
 use Rattle.partition_core.proofs.Places.{also_there}
 use Rattle.honest_tree.specs.Given.{Given}
-use Rattle.partition_crew.specs.Build.{HoldsBuilt, HoldsKept, WasKept, WasMade}
+use Rattle.partition_board.specs.Holds.{HoldsBuilt, HoldsKept}
 use Rattle.partition_crew.specs.Station.{AreHome, IsHome, IsLeftNow}
 use Rattle.partition_crew.specs.Work.{Settles, Touches, given_by}
 use Rattle.partition_crew.specs.Work.Settles.{built, failed}
-use Rattle.partition_crew.proofs.Growing.{Grows, at_open, at_other, at_set, first_grow, grows_set, outcomes_grow}
+use Rattle.partition_board.proofs.Holding.{holds_grow, kept_holds}
+use Rattle.partition_board.proofs.Growing.{Grows, at_open, at_other, at_set, first_grow, grows_set, outcomes_grow}
 
 -- ---- what holds stays, while fates are added
-
-abbrev Owns : Opening → List (Option Fate) → ℕ → Outcome → MarkView → Type 0
-Owns o fates place outcome mark = WasKept o place outcome mark ⊎ ((job : Job) × (slice_get o.plan.jobs place ≡ Some job) × WasMade job fates outcome mark)
-
-owns_grow : (o : Opening) (fates next : List (Option Fate)) → Grows fates next → (place : ℕ) (outcome : Outcome) (mark : MarkView)
-    → Owns o fates place outcome mark
-    → Owns o next place outcome mark
-owns_grow o fates next grows place outcome mark (inl kept) = inl kept
-owns_grow o fates next grows place outcome mark (inr (job, here, made)) = inr (
-  job,
-  here,
-  record {
-    ready = first_grow fates next grows job.needs made.ready;
-    own = made.own ∙ ap (λ (needs : List Outcome). mark_of job needs outcome) (outcomes_grow fates next grows job.needs made.ready);
-  },
-)
-
-holds_grow : (o : Opening) (fates next : List (Option Fate)) → Grows fates next → (place : ℕ) (outcome : Outcome) (held : Holding)
-    → HoldsBuilt o fates place outcome held
-    → HoldsBuilt o next place outcome held
-holds_grow o fates next grows place outcome held holds = record {
-  files = holds.files;
-  bytes = holds.bytes;
-  mark = holds.mark;
-  stands = holds.stands;
-  reads = holds.reads;
-  own = owns_grow o fates next grows place outcome holds.mark holds.own;
-}
 
 left_grow : (o : Opening) (fates next : List (Option Fate)) → Grows fates next → (place : ℕ) (fate : Option Fate) (first now : FolderKnown)
     → IsLeftNow o fates place fate first now
@@ -103,17 +75,6 @@ homes_settled o fates place fate first last now is homes long others here = reco
 -- ---- the place that got it
 
 -- its outcome was kept
-kept_holds : (o : Opening) (fates : List (Option Fate)) (place : ℕ) (kept : Kept) (held : Holding) → at o.kept place ≡ Some kept → HoldsKept kept held
-    → HoldsBuilt o fates place kept.outcome held
-kept_holds o fates place kept held is holds = record {
-  files = holds.files;
-  bytes = holds.bytes;
-  mark = kept.mark;
-  stands = holds.stands;
-  reads = holds.reads;
-  own = inl (record { entry = kept; kept = is; same = refl; own = refl });
-}
-
 pub kept_home : (o : Opening) (fates : List (Option Fate)) (place : ℕ) (kept : Kept) (folder : FolderKnown) → slice_get fates place ≡ Some None
     → at o.kept place ≡ Some kept
     → IfSome folder.held (HoldsKept kept) → IsHome o (slice_set fates place (Some (Built kept.outcome))) place folder folder

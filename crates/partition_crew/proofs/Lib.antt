@@ -4,7 +4,7 @@ pub mod Courses
 pub mod Covering
 pub mod Cutting
 pub mod Ending
-pub mod Growing
+pub mod Tallying
 pub mod Homes
 pub mod Inputs
 pub mod Moving

@@ -20,11 +20,11 @@ use Rattle.partition_core.proofs.Places.{kept_parts, set_other, set_same}
 use Rattle.partition_core.proofs.Tidy.{legal_more, replay_more}
 use Rattle.partition_crew.specs.declared.worked.Worked.{Worked}
 use Rattle.partition_crew.specs.declared.worked.Worked.TheVariants.{Finished, Failed, Died, TreeFault as TreeFailed, NoMemory}
-use Rattle.partition_crew.specs.Build.{AreReady}
+use Rattle.partition_board.specs.Holds.{AreReady}
 use Rattle.partition_crew.specs.Station.{AreHome, IsHome, IsStation, Moves, Nature, Station, WorksOn, event_by, given_now, is_covered, told_by}
 use Rattle.partition_crew.specs.Station.Moves.{keeps, skips, works}
 use Rattle.partition_crew.specs.Work.{has_died}
-use Rattle.partition_crew.proofs.Growing.{count_end}
+use Rattle.partition_crew.proofs.Tallying.{count_end}
 use Rattle.partition_crew.proofs.Homes.{built_home, failed_home, homes_settled, kept_home, skipped_home}
 use Rattle.partition_crew.proofs.Inputs.{stay_worked}
 use Rattle.partition_crew.proofs.Telling.{faithful_more, starts_works, legal_works, faithful_works, works_ready, replayed, counted_works}

@@ -22,7 +22,7 @@ use Rattle.partition_crew.specs.Station.{Nature, Station, Advances, WorksOn, eve
 use Rattle.partition_crew.specs.Station.Cuts.{worked}
 use Rattle.partition_crew.specs.Station.Moves.{works}
 use Rattle.partition_crew.specs.Work.{IsMeant, given_by}
-use Rattle.partition_crew.proofs.Growing.{one_each}
+use Rattle.partition_board.proofs.Growing.{one_each}
 
 -- what holds where it is told holds of what tells
 pub told_must : (X P : Type 0) (told : Option X) → IsSome told → IfSome told (λ _. P) → P

@@ -16,7 +16,7 @@ use Rattle.partition_crew.specs.declared.worked.Worked.TheVariants.{Finished, Fa
 use Rattle.partition_crew.specs.Station.{Nature, Station, WorksOn, event_by, given_now}
 use Rattle.partition_crew.specs.Station.Moves.{works}
 use Rattle.partition_crew.specs.Work.{HasWorked}
-use Rattle.partition_crew.proofs.Growing.{count_end}
+use Rattle.partition_crew.proofs.Tallying.{count_end}
 use Rattle.partition_crew.proofs.Starting.{meant_event, start_ready}
 
 -- ---- one event more

@@ -12,7 +12,8 @@ use Rattle.partition_core.specs.Counts.{count_below}
 use Rattle.partition_face.specs.declared.counts.Counts.{Counts}
 use Rattle.partition_crew.specs.declared.one.BuildFault.TheVariants.{TreeFault, OutOfMemory, NoPartitionLeft}
 use Rattle.partition_crew.specs.declared.one.One.{One}
-use Rattle.partition_crew.specs.Build.{AreLeft, CountsOf, HoldsBy, IsEnding, IsHistory, SomeFailed, fault_unless}
+use Rattle.partition_board.specs.Holds.{AreLeft, HoldsBy}
+use Rattle.partition_crew.specs.Build.{CountsOf, IsEnding, IsHistory, SomeFailed, fault_unless}
 use Rattle.partition_crew.proofs.Beginning.{at_none}
 
 pub unbegun_history : (o : Opening) (one : One) → one.fates.items ≡ [] → one.history.items ≡ [] → IsHistory o one

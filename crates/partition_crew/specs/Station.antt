@@ -21,7 +21,8 @@ use Rattle.partition_crew.specs.declared.one.BuildFault.{BuildFault}
 use Rattle.partition_crew.specs.declared.one.BuildFault.TheVariants.{TreeFault, OutOfMemory, NoPartitionLeft}
 use Rattle.partition_crew.specs.declared.worked.Worked.{Worked}
 use Rattle.partition_crew.specs.declared.worked.Worked.TheVariants.{Finished, Failed, Died, TreeFault as TreeFailed, NoMemory}
-use Rattle.partition_crew.specs.Build.{HaveFates, HoldsBuilt, StayFor, inputs_of}
+use Rattle.partition_board.specs.Holds.{HoldsBuilt}
+use Rattle.partition_crew.specs.Build.{HaveFates, StayFor, inputs_of}
 use Rattle.partition_crew.specs.Work.{HasWorked, IsCounted, IsMeant, StaysHonest, Touches, given_by, tree_failed}
 
 -- what the types of the partition and the folders state: that the partitions are honest and the folders tell, that no partition dies, and what compiling means

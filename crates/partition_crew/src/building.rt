@@ -4,7 +4,8 @@ ghost use Rattle.compile_model.specs.Planned.{ArePlanned};
 ghost use Rattle.compile_model.specs.Seq.{seq};
 ghost use Rattle.partition_core.specs.Counts.{count_below, is_compiled};
 ghost use Rattle.partition_core.specs.Histories.{Agrees, Faithful, Sound, replay};
-ghost use Rattle.partition_crew.specs.Build.{AreLeft, AreReady, CountsOf, IsEnding, IsHistory, StayFor, by_one, fault_unless, inputs_of};
+ghost use Rattle.partition_board.specs.Holds.{AreLeft, AreReady};
+ghost use Rattle.partition_crew.specs.Build.{CountsOf, IsEnding, IsHistory, StayFor, by_one, fault_unless, inputs_of};
 ghost use Rattle.partition_crew.specs.Station.{Ends, IsYoung, nature_by, station_by};
 
 use crate::advancing::advance;

@@ -1,5 +1,5 @@
 -- One seat takes in all the others, and the board ends.
-use Rattle.std.proofs.Common.{◌≡◌, ℕ, ◌+◌, List, [], ◌∷◌, ◌++◌, map, length, Bool, false, refl, sym, ap, ◌∙◌, subst, arith, append_assoc}
+use Rattle.std.proofs.Common.{◌≡◌, ℕ, ◌+◌, ◌<◌, inl, inr, List, [], ◌∷◌, ◌++◌, map, length, Bool, false, refl, sym, ap, ◌∙◌, subst, arith, append_assoc}
 use Rattle.std.specs.Prelude.{Option, Some}
 use Rattle.std.specs.List.{All, sum_by}
 use Rattle.std.proofs.lemmas.List.Sums.{sum_by-cons}
@@ -10,10 +10,10 @@ use Rattle.atomic_table.specs.Table.{State, Me, Joins, Final, Seen}
 use Rattle.turn_board.specs.declared.sight.Tally.{Tally}
 use Rattle.turn_board.specs.declared.sight.Sight.{Sight}
 use Rattle.turn_board.specs.declared.sight.Stage.TheVariants.{Idle}
-use Rattle.turn_board.specs.Histories.{total, Account, Continues}
-use Rattle.turn_board.specs.Sights.{Each, joined, spent}
+use Rattle.turn_board.specs.Histories.{total, Account, Continues, made_by}
+use Rattle.turn_board.specs.Sights.{Each, Owns, joined, spent}
 use Rattle.turn_board.specs.Turn.{TurnRule}
-use Rattle.turn_board.specs.Seats.{SeatView}
+use Rattle.turn_board.specs.Seats.{HasSeat, SeatView}
 use Rattle.turn_board.specs.Inside.{tally_of, Keeps, SeatIs, IsOut}
 use Rattle.turn_board.proofs.Ends.{ends}
 use Rattle.turn_board.proofs.Joining.{joins_at}
@@ -26,6 +26,11 @@ module _ {O E : Type 0} where
   pub made_sum : (xs : List (SeatView O E)) → total (λ (r : Tally O E). r.made) (map tally_of xs) ≡ sum_by (λ (s : SeatView O E). s.made) xs
   made_sum [] = refl
   made_sum (x ∷ xs) = ap (λ k. x.made + k) (made_sum xs) ∙ sym (sum_by-cons (λ (s : SeatView O E). s.made) x xs)
+
+  pub has_seat : (xs : List (SeatView O E)) (k : ℕ) → Owns k (map tally_of xs) → HasSeat xs k
+  has_seat [] k o = o
+  has_seat (x ∷ xs) k (inl e) = inl e
+  has_seat (x ∷ xs) k (inr o) = inr (has_seat xs k o)
 
   pub keeps_more : {X : Type 0} (all before after : List (SeatView O E)) (m m' : Me (Option X) (Sight O E)) (x : SeatView O E) (u : Sight O E)
       → Keeps all before m → before ≡ after ++ x ∷ [] → u.parts ≡ 1 → u.tallies ≡ tally_of x ∷ [] → m' ≡ (joined m.0 u, m.1) → Keeps all after m'
@@ -60,6 +65,7 @@ module _ {X O E : Type 0} (account : Account X O E) (n : ℕ) where
       → Final (Seen Rule id m.0) ws xs → get_elem? xs 0 ≡ some y
       → (x : X) × (y ≡ Some x) × All (λ s. s.opening ≡ Some (account.opening x)) all
       × All (λ s. Continues account.maker s.number s.seen (account.history x)) all × (length (account.history x) ≡ sum_by (λ s. s.made) all)
+      × ((k : ℕ) → 0 < made_by account.maker k (account.history x) → HasSeat all k)
   closes ws xs id m all y many k final at =
       let p = k.3 in
       let same : all ≡ k.0 ∷ k.1 = k.2 in
@@ -74,4 +80,5 @@ module _ {X O E : Type 0} (account : Account X O E) (n : ℕ) where
             (each_all (λ r. Continues account.maker r.number r.seen (account.history x)) (k.0 ∷ k.1)
             (subst (Each (λ r. Continues account.maker r.number r.seen (account.history x))) k.5 z.3)),
         z.4 ∙ (ap (total (λ (r : Tally O E). r.made)) k.5 ∙ (made_sum (k.0 ∷ k.1) ∙ ap (sum_by (λ (s : SeatView O E). s.made)) (sym same))),
+        (λ number some. subst (λ l. HasSeat l number) (sym same) (has_seat (k.0 ∷ k.1) number (subst (Owns number) k.5 (z.5 number some)))),
       )

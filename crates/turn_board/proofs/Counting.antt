@@ -2,7 +2,9 @@
 use Rattle.std.proofs.Common.{◌≡◌, ℕ, ◌+◌, ◌%◌, ◌^◌, ◌<◌, [], ◌∷◌, ◌++◌, length, set, refl, sym, ap, ◌∙◌, subst, inl, inr, arith, length-append}
 use Rattle.std.specs.Prelude.{Option, Some, slice_index}
 use mathlib.Core.List.{append-nil}
+use mathlib.Core.Logic.{dite}
 use mathlib.Core.Option.{some, none}
+use native.Mathlib.Decide.{ℕ_discrete}
 use Rattle.atomic_table.specs.Table.{State, step, keeps, gives, Allows}
 use Rattle.turn_board.specs.declared.sight.Tally.{Tally}
 use Rattle.turn_board.specs.declared.sight.Sight.{Sight}
@@ -10,7 +12,7 @@ use Rattle.turn_board.specs.declared.sight.Stage.TheVariants.{Idle, Has}
 use Rattle.turn_board.specs.Histories.{Account, made_by}
 use Rattle.turn_board.specs.Sights.{seated, holding, share, events, Owns}
 use Rattle.turn_board.specs.Turn.{TurnRule, counts, Fits, passes}
-use Rattle.turn_board.proofs.Frames.{each_set, fits_grown, apart_set, fits_quiet, apart_kept}
+use Rattle.turn_board.proofs.Frames.{owned_set, each_set, fits_grown, apart_set, fits_quiet, apart_kept}
 use Rattle.turn_board.proofs.Steps.{turning, option_some}
 use Rattle.turn_board.proofs.Sums.{total_set, set_at, made_by_more}
 
@@ -55,6 +57,10 @@ module _ {X O E : Type 0} (account : Account X O E) (n : ℕ) where
           tickets = omega arith;
           whole = omega arith;
           counted = omega arith;
+          makers = λ k some. dite (ℕ_discrete (account.maker e) k)
+              (λ is. (id, w, set_at s.views id v w at, inl (sym own ∙ is)))
+              (λ ne. owned_set s.views id k v w at (λ o. o)
+              (q.makers k (let b = ap (made_by account.maker k) longer ∙ made_by_more account.maker k q.log e ne in omega arith)));
           housed = inr (id, w, set_at s.views id v w at, ap Has now);
           each = each_set (Fits account q.start (account.history x) q.drawn q.served s.homes) s.views id w
               record {
@@ -117,6 +123,7 @@ module _ {X O E : Type 0} (account : Account X O E) (n : ℕ) where
           tickets = omega arith;
           whole = omega arith;
           counted = omega arith;
+          makers = λ k some. owned_set s.views id k v w at (λ o. o) (q.makers k some);
           housed = inl (x, home, option_some (account.opening x) q.start (sym opening ∙ f.opened.0), same ∙ f.staged.3.0);
           each = each_set (Fits account q.start q.log q.drawn (q.served + 1) (set s.homes 0 (some (Some x)))) s.views id w
               record {

@@ -9,9 +9,9 @@ use Rattle.atomic_table.specs.Table.{State, Final, Seen}
 use Rattle.turn_board.specs.declared.sight.Tally.{Tally}
 use Rattle.turn_board.specs.declared.sight.Sight.{Sight}
 use Rattle.turn_board.specs.declared.sight.Stage.TheVariants.{Idle, Has}
-use Rattle.turn_board.specs.Histories.{Account, Continues, total}
-use Rattle.turn_board.specs.Sights.{Each, share, events}
-use Rattle.turn_board.specs.Turn.{TurnRule}
+use Rattle.turn_board.specs.Histories.{Account, Continues, made_by, total}
+use Rattle.turn_board.specs.Sights.{Each, Owns, share, events}
+use Rattle.turn_board.specs.Turn.{IsOwned, TurnRule}
 use Rattle.turn_board.proofs.Steps.{turning, idle_not_has}
 use Rattle.turn_board.proofs.Sums.{total_two, total_one}
 
@@ -27,6 +27,7 @@ module _ {X O E : Type 0} (account : Account X O E) (n : ℕ) where
       → v.tallies ≡ r ∷ rs → Final (Seen Rule id v) ws xs
       → (x : X) × (get_elem? xs 0 ≡ some (Some x)) × Each (λ y. y.opening ≡ Some (account.opening x)) v.tallies
       × Each (λ y. Continues account.maker y.number y.seen (account.history x)) v.tallies × (length (account.history x) ≡ total (λ y. y.made) v.tallies)
+      × ((k : ℕ) → 0 < made_by account.maker k (account.history x) → Owns k v.tallies)
   ends ws xs id v r rs all some_seat idle tally final =
       let s = final.0 in
       let at = final.1.1 in
@@ -40,6 +41,9 @@ module _ {X O E : Type 0} (account : Account X O E) (n : ℕ) where
       (λ e. idle_not_has (sym idle ∙ (ap (λ (y : V). y.stage) (some-injective v h.1 (sym at ∙ (ap (get_elem? s.views) (sym e) ∙ h.2))) ∙ h.3)))
       (λ other. idle_not_has (sym ((q.each h.0 h.1 h.2).nobody (gone h.0 h.1 other h.2)).0 ∙ h.3))))
       q.housed in
+      let mine : (k : ℕ) → IsOwned s.views k → Owns k v.tallies = λ k o. dite (ℕ_discrete o.0 id)
+      (λ e. subst (λ (y : V). Owns k y.tallies) (some-injective o.1 v (sym o.2 ∙ (ap (get_elem? s.views) e ∙ at))) o.3)
+      (λ other. absurd (subst (Owns k) ((q.each o.0 o.1 o.2).nobody (gone o.0 o.1 other o.2)).1 o.3)) in
       let x = home.0 in
       let counted : total events s.views ≡ events v = total_one events s.views id v at
       (λ j u other e. ap (λ (l : List (Tally O E)). total (λ y. y.made) l) ((q.each j u e).nobody (gone j u other e)).1) in (
@@ -48,4 +52,5 @@ module _ {X O E : Type 0} (account : Account X O E) (n : ℕ) where
         subst (λ o. Each (λ y. y.opening ≡ Some o) v.tallies) (sym home.2) f.opened,
         subst (λ l. Each (λ y. Continues account.maker y.number y.seen l) v.tallies) (sym home.3) f.continues,
         ap length home.3 ∙ (sym q.counted ∙ counted),
+        (λ k some. mine k (q.makers k (subst (λ l. 0 < made_by account.maker k l) home.3 some))),
       )

@@ -14,7 +14,7 @@ use Rattle.turn_board.specs.declared.sight.Stage.{Stage}
 use Rattle.turn_board.specs.declared.sight.Stage.TheVariants.{Idle, Waits, Has}
 use Rattle.turn_board.specs.Histories.{Account, Continues, made_by}
 use Rattle.turn_board.specs.Sights.{HasTicket, Owns, Apart, Each}
-use Rattle.turn_board.specs.Turn.{OnStage, Fits, Housed}
+use Rattle.turn_board.specs.Turn.{OnStage, Fits, Housed, IsOwned}
 use Rattle.turn_board.proofs.Sums.{at_end, made_by_more, set_at}
 
 pub has_its_ticket : (st : Stage) (t : ℕ) → st ≡ Has t → HasTicket t st
@@ -25,6 +25,38 @@ module _ {O E : Type 0} where
   owns_append k [] ys o = inr o
   owns_append k (x ∷ xs) ys (inl e) = inl (inl e)
   owns_append k (x ∷ xs) ys (inr o) = ⊎_elim (λ a. inl (inr a)) inr (owns_append k xs ys o)
+
+module _ {O E : Type 0} where
+  pub owns_left : (k : ℕ) (xs ys : List (Tally O E)) → Owns k xs → Owns k (xs ++ ys)
+  owns_left k [] ys o = absurd o
+  owns_left k (x ∷ xs) ys (inl e) = inl e
+  owns_left k (x ∷ xs) ys (inr o) = inr (owns_left k xs ys o)
+
+  pub owns_right : (k : ℕ) (xs ys : List (Tally O E)) → Owns k ys → Owns k (xs ++ ys)
+  owns_right k [] ys o = o
+  owns_right k (x ∷ xs) ys o = inr (owns_right k xs ys o)
+
+  -- whose number it is, where one seat changes and keeps its numbers
+  pub owned_set : (views : List (Sight O E)) (me k : ℕ) (v w : Sight O E) → get_elem? views me ≡ some v → (Owns k v.tallies → Owns k w.tallies)
+      → IsOwned views k → IsOwned (set views me w) k
+  owned_set views me k v w at stays (j, u, there, own) = dite (ℕ_discrete j me)
+      (λ e. (me, w, set_at views me v w at, stays (subst (λ (y : Sight O E). Owns k y.tallies) (some-injective u v (sym there ∙ (ap (get_elem? views) e ∙ at))) own)))
+      (λ ne. (j, u, set_else views me j w ne ∙ there, own))
+
+  pub owned_snoc : (views : List (Sight O E)) (w : Sight O E) (k : ℕ) → IsOwned views k → IsOwned (views ++ w ∷ []) k
+  owned_snoc views w k (j, u, there, own) = (j, u, at_longer views (w ∷ []) j u there, own)
+
+  -- one seat takes in the numbers of another, which has none then
+  pub owned_joined : (views : List (Sight O E)) (me other k : ℕ) (v u w gone : Sight O E) → (other ≡ me → ⊥) → get_elem? views me ≡ some v
+      → get_elem? views other ≡ some u → w.tallies ≡ u.tallies ++ v.tallies → IsOwned views k → IsOwned (set (set views me w) other gone) k
+  owned_joined views me other k v u w gone apart at there tallies (j, y, here, own) = dite (ℕ_discrete j other)
+      (λ e. mine (owns_left k u.tallies v.tallies (subst (λ (z : Sight O E). Owns k z.tallies) (some-injective y u (sym here ∙ (ap (get_elem? views) e ∙ there))) own)))
+      (λ ne. dite (ℕ_discrete j me)
+      (λ e. mine (owns_right k u.tallies v.tallies (subst (λ (z : Sight O E). Owns k z.tallies) (some-injective y v (sym here ∙ (ap (get_elem? views) e ∙ at))) own)))
+      (λ far. (j, y, set_else (set views me w) other j gone ne ∙ (set_else views me j w far ∙ here), own)))
+    where
+      mine : Owns k (u.tallies ++ v.tallies) → IsOwned (set (set views me w) other gone) k
+      mine o = (me, w, set_else (set views me w) other me gone (λ e. apart (sym e)) ∙ set_at views me v w at, subst (Owns k) (sym tallies) o)
 
 module _ {O E : Type 0} where
   pub each_set : (F : (Sight O E) → Type 0) (views : List (Sight O E)) (me : ℕ) (w : (Sight O E)) → F w

@@ -11,7 +11,7 @@ use Rattle.turn_board.specs.declared.sight.Stage.TheVariants.{Idle}
 use Rattle.turn_board.specs.Histories.{Account, Continues}
 use Rattle.turn_board.specs.Sights.{joined, spent, holding, share, events, tickets_of, HasTicket, Apart}
 use Rattle.turn_board.specs.Turn.{TurnRule, Fits, OnStage}
-use Rattle.turn_board.proofs.Frames.{each_set, owns_append, housed_set, apart_set_on}
+use Rattle.turn_board.proofs.Frames.{owned_joined, each_set, owns_append, housed_set, apart_set_on}
 use Rattle.turn_board.proofs.Steps.{turning, idle_not_has}
 use Rattle.turn_board.proofs.Sums.{total_set, total_append, each_append}
 
@@ -84,6 +84,7 @@ module _ {X O E : Type 0} (account : Account X O E) (n : ℕ) where
         tickets = omega arith;
         whole = omega arith;
         counted = omega arith;
+        makers = λ k some. owned_joined s.views id other k v u w spent apart at there' refl (q.makers k some);
         housed = housed_set account q.start q.log q.log q.drawn q.drawn q.served s.homes vs other u spent there refl
             (λ e. absurd (idle_not_has (sym idle' ∙ e)))
             (housed_set account q.start q.log q.log q.drawn q.drawn q.served s.homes s.views id v w at refl (λ e. absurd (idle_not_has (sym idle ∙ e)))

@@ -44,6 +44,7 @@ module _ {X O E : Type 0} (account : Account X O E) (n : ℕ) where
     tickets = refl;
     whole = omega arith;
     counted = refl;
+    makers = λ k (some : 0 < 0). absurd (omega arith);
     housed = inr (0, opener x, refl, refl);
     each = only;
     apart = alone;

@@ -10,7 +10,7 @@ use Rattle.turn_board.specs.declared.sight.Stage.TheVariants.{Idle}
 use Rattle.turn_board.specs.Histories.{Account, made_by}
 use Rattle.turn_board.specs.Sights.{seated, splitter, split_off, holding, share, events, Apart}
 use Rattle.turn_board.specs.Turn.{TurnRule, Fits}
-use Rattle.turn_board.proofs.Frames.{each_set, apart_set, housed_snoc, housed_set, each_snoc, apart_snoc}
+use Rattle.turn_board.proofs.Frames.{owned_set, owned_snoc, each_set, apart_set, housed_snoc, housed_set, each_snoc, apart_snoc}
 use Rattle.turn_board.proofs.Steps.{turning, idle_not_has}
 use Rattle.turn_board.proofs.Sums.{total_set, total_append, made_by_append}
 
@@ -119,6 +119,7 @@ module _ {X O E : Type 0} (account : Account X O E) (n : ℕ) where
         tickets = omega arith;
         whole = omega arith;
         counted = omega arith;
+        makers = λ k some. owned_snoc vs new k (owned_set s.views id k v w at (λ o. o) (q.makers k some));
         housed = housed_snoc account q.start q.log q.drawn q.served s.homes vs new
             (housed_set account q.start q.log q.log q.drawn q.drawn q.served s.homes s.views id v w at refl (λ e. absurd (idle_not_has e)) q.housed);
         each = each_snoc Fit vs new fit_new each_old;

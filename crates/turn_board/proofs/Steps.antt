@@ -17,7 +17,7 @@ use Rattle.turn_board.specs.declared.sight.Stage.TheVariants.{Idle, Waits, Has}
 use Rattle.turn_board.specs.Histories.{Account}
 use Rattle.turn_board.specs.Sights.{blank, holding, share, tickets_of, seated, events, HasTicket}
 use Rattle.turn_board.specs.Turn.{TurnRule, Turning, draws, drew, Fits, looks}
-use Rattle.turn_board.proofs.Frames.{housed_set, each_set, fits_drawn, apart_set, ticket_drawn, has_its_ticket, fits_quiet}
+use Rattle.turn_board.proofs.Frames.{housed_set, owned_set, each_set, fits_drawn, apart_set, ticket_drawn, has_its_ticket, fits_quiet}
 use Rattle.turn_board.proofs.Sums.{total_below, total_set, set_at}
 
 pub idle_not_has : {k : ℕ} → Idle ≡ Has k → ⊥
@@ -99,6 +99,7 @@ module _ {X O E : Type 0} (account : Account X O E) (n : ℕ) where
           tickets = omega arith;
           whole = omega arith;
           counted = omega arith;
+          makers = λ k some. owned_set s.views id k v w at (λ o. o) (t.makers k some);
           housed = housed_set account t.start t.log t.log t.drawn (t.drawn + 1) t.served s.homes s.views id v w at refl (λ e. absurd (idle_not_has e))
               t.housed;
           each = each_set (Fits account t.start t.log (t.drawn + 1) t.served s.homes) s.views id w
@@ -195,6 +196,7 @@ module _ {X O E : Type 0} (account : Account X O E) (n : ℕ) where
           tickets = omega arith;
           whole = omega arith;
           counted = omega arith;
+          makers = λ k some. owned_set s.views id k v w at (λ o. o) (q.makers k some);
           housed = inr (id, w, set_at s.views id v w at, ap Has now);
           each = each_set (Fits account q.start q.log q.drawn q.served (set s.homes 0 none)) s.views id w
               record {

@@ -1,5 +1,5 @@
 -- What a clause sees of a board and of its seats.
-use Rattle.std.specs.Prelude.{◌≡◌, ℕ, zero, suc, ◌+◌, List, [], ◌∷◌, ◌++◌, Bool, true, false, if◌then◌else◌, Option}
+use Rattle.std.specs.Prelude.{◌≡◌, ◌⊎◌, ℕ, zero, suc, ◌+◌, List, [], ◌∷◌, ◌++◌, Bool, true, false, if◌then◌else◌, Option}
 use Rattle.atomic_table.specs.Seated.{TableId}
 use Rattle.turn_board.specs.Histories.{Grows}
 
@@ -21,6 +21,11 @@ module _ {O E : Type 0} where
   -- a seat that has seen nothing and made nothing
   abbrev pub fresh_seat : TableId → Option O → ℕ → SeatView O E
   fresh_seat board o k = record { board = board; number = k; opening = o; seen = []; made = 0; has_value = false }
+
+  -- one of the seats has this number
+  abbrev pub HasSeat : List (SeatView O E) → ℕ → Type 0
+  HasSeat [] n = ⊥
+  HasSeat (s ∷ ss) n = (s.number ≡ n) ⊎ HasSeat ss n
 
   -- n fresh seats, with the numbers from 1 on
   abbrev pub numbered : TableId → Option O → ℕ → List (SeatView O E)

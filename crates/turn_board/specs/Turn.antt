@@ -43,6 +43,11 @@ module _ {X O E : Type 0} where
       (nx : ℕ) × (t : ℕ) × (r : Tally O E)
       × (m ≡ (seated 1 nx (Waits t) r, [])) × (ticket ≡ t % 2 ^ 64)
 
+module _ {O E : Type 0} where
+  -- one of the seats has a tally of this number
+  abbrev pub IsOwned : List (Sight O E) → ℕ → Type 0
+  IsOwned views k = (j : ℕ) × (v : Sight O E) × (get_elem? views j ≡ some v) × Owns k v.tallies
+
 module _ {X E : Type 0} (history : X → List E) where
   -- the history of the value that a seat has in its slot
   abbrev pub slot_history : List (ℕ × Option X) → List E
@@ -89,6 +94,7 @@ module _ {X O E : Type 0} (account : Account X O E) where
     pub tickets : drawn ≡ served + total holding s.views
     pub whole : total share s.views ≡ n
     pub counted : total events s.views ≡ length log
+    pub makers : (k : ℕ) → 0 < made_by account.maker k log → IsOwned s.views k
     pub housed : Housed start log drawn served s.homes s.views
     pub each : (j : ℕ) (v : Sight O E) → get_elem? s.views j ≡ some v → Fits start log drawn served s.homes v
     pub apart : (i j : ℕ) (v w : Sight O E) → get_elem? s.views i ≡ some v → get_elem? s.views j ≡ some w → i ≢ j → Apart v w

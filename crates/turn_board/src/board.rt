@@ -1,11 +1,11 @@
 //! The board, with one value that its seats take out and put back in turn.
 ghost use Rattle.std.specs.Prelude.{◌≡◌, ℕ, ◌+◌, ◌-◌, ◌%◌, ◌^◌, ◌<◌, ◌≤◌, [], ◌∷◌, length, true, false, IfOk, IfErr, Some, vec_capacity};
 ghost use Rattle.std.specs.List.{All, sum_by};
-ghost use Rattle.turn_board.specs.Histories.{Continues, account_of};
+ghost use Rattle.turn_board.specs.Histories.{Continues, account_of, made_by};
 ghost use Rattle.turn_board.specs.Sights.{blank};
 ghost use Rattle.turn_board.specs.Turn.{IsIdle, IsWaiting, drew, took};
 ghost use Rattle.turn_board.specs.Inside.{MayCount, counted_if, dealer, opening_of};
-ghost use Rattle.turn_board.specs.Seats.{BoardView, GrewBy, fresh_seats, entered, left};
+ghost use Rattle.turn_board.specs.Seats.{BoardView, GrewBy, HasSeat, fresh_seats, entered, left};
 
 use crate::counted::Counted;
 use crate::plays::{Counts, Cut, Draws, Glue, Looks, Opens, Passes, Turns};
@@ -117,6 +117,9 @@ impl<V: Counted> TurnBoard<V> {
         ensures opening { All (λ s. s.opening ≡ Some (V.opening result)) seats.items }
         ensures seen { All (λ s. Continues V.maker s.number s.seen (V.history result)) seats.items }
         ensures counted { length (V.history result) ≡ sum_by (λ s. s.made) seats.items }
+        // Who made an event is one of the seats.
+        ensures makers { (n : ℕ) → 0 < made_by V.maker n (V.history result)
+            → HasSeat seats.items n }
     {
         let TurnBoard { table } = self;
         let Some(last) = seats.pop() else {

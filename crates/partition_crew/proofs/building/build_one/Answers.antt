@@ -5,7 +5,8 @@ use Rattle.partition_core.specs.State.{at}
 use Rattle.partition_core.specs.Histories.{Agrees, replay}
 use Rattle.partition_core.specs.Story.{Story}
 use Rattle.partition_crew.specs.declared.one.One.{One}
-use Rattle.partition_crew.specs.Build.{AreLeft, by_one, inputs_of}
+use Rattle.partition_board.specs.Holds.{AreLeft}
+use Rattle.partition_crew.specs.Build.{by_one, inputs_of}
 use Rattle.partition_crew.specs.Station.{Ends, nature_by, station_by}
 use Rattle.partition_crew.proofs.Beginning.{stay_same}
 use Rattle.partition_crew.proofs.Ending.{ends_agree, ends_counts, ends_ending, ends_faithful, ends_left, ends_legal, ends_runs, ends_stay}

@@ -1,8 +1,9 @@
-use Rattle.std.proofs.Common.{rules, ◌≡◌, ◌∙◌, [], ◌∷◌, length, false, sym, ap, subst}
+use Rattle.std.proofs.Common.{rules, ◌≡◌, ◌<◌, ℕ, ◌∙◌, [], ◌∷◌, length, false, sym, ap, subst}
 use Rattle.std.specs.Prelude.{Some}
 use Rattle.std.specs.List.{All}
 use Rattle.std.proofs.lemmas.List.Elements.{All-pop}
-use Rattle.turn_board.specs.Histories.{account_of, Continues}
+use Rattle.turn_board.specs.Histories.{account_of, Continues, made_by}
+use Rattle.turn_board.specs.Seats.{HasSeat}
 use Rattle.turn_board.specs.Inside.{tally_of, Keeps}
 use Rattle.turn_board.proofs.Closing.{idle_of, joins_from, keeps_more, closes}
 use Rattle.turn_board.proofs.Steps.{option_some}
@@ -62,4 +63,5 @@ returns g c =
       opening = subst (λ v. All (λ s. s.opening ≡ Some (g.V.Counted.opening v)) c.args.seats.items) same z.2;
       seen = subst (λ v. All (λ s. Continues g.V.Counted.maker s.number s.seen (g.V.Counted.history v)) c.args.seats.items) same z.3;
       counted = ap (λ v. length (g.V.Counted.history v)) (sym same) ∙ z.4;
+      makers = subst (λ v. (n : ℕ) → 0 < made_by g.V.Counted.maker n (g.V.Counted.history v) → HasSeat c.args.seats.items n) same z.5;
     }

@@ -1,31 +1,22 @@
--- Fates that are added to, and events that are counted.
-use Rattle.std.proofs.Common.{◌≡◌, ℕ, ◌+◌, ◌≤◌, inl, inr, Bool, cond, List, [], ◌∷◌, ◌++◌, length, count_by, Option, Some, None, is_some, slice_get, slice_set, refl, sym, ◌∙◌, ap, arith}
+-- Fates that are added to.
+use Rattle.std.proofs.Common.{◌≡◌, ℕ, inl, inr, cond, List, [], ◌∷◌, length, Option, Some, None, is_some, option_map, slice_get, slice_set, refl, sym, ◌∙◌, ap, arith}
 use Rattle.std.specs.List.{cons_option}
 use Rattle.std.specs.Option.{option_and_then}
 use Rattle.std.proofs.lemmas.Bool.{cases_eq}
-use Rattle.std.proofs.lemmas.List.Sums.{sum_by-append}
 use Rattle.compile_model.specs.declared.outcome.Outcome.{Outcome}
 use Rattle.compile_model.specs.declared.outcome.Fate.{Fate}
+use Rattle.compile_model.specs.declared.outcome.Fate.TheVariants.{Built, Failed, Skipped}
 use Rattle.compile_model.specs.Seq.{built_outcome}
+use Rattle.staleness.specs.declared.kept.Kept.{Kept}
 use Rattle.partition_core.specs.declared.event.Event.{Event}
-use Rattle.partition_core.specs.State.{at, built_at, first_open, outcomes_now}
+use Rattle.partition_core.specs.declared.event.Event.TheVariants.{Keep, Start, Finish, Fail, Skip, Back}
+use Rattle.partition_core.specs.State.{Opening, State, at, built_at, first_open, outcomes_now}
+use Rattle.partition_core.specs.Steps.{IsLegal, after}
+use Rattle.partition_core.specs.Histories.{AreLegal, after_all}
+use Rattle.partition_core.proofs.Exact.{acts_on}
 use Rattle.partition_core.proofs.Needs.{head_built, rest_built}
 use Rattle.partition_core.proofs.Places.{set_other, set_same}
-use Rattle.partition_core.proofs.Starts.{count_first}
-
-pub count_end : (test : Event → Bool) (events : List Event) (event : Event)
-    → count_by test (events ++ event ∷ []) ≡ count_by test events + cond (test event) 1 0
-count_end test events event =
-    let none : count_by test [] ≡ 0 = refl in
-    let whole : count_by test (events ++ event ∷ []) ≡ count_by test events + count_by test (event ∷ []) = sum_by-append
-    (λ (e : Event). cond (test e) 1 0) events (event ∷ []) in
-    omega (arith, count_first test event [])
-
-pub count_fewer : (test other : Event → Bool) (events : List Event) → ((event : Event) → cond (test event) 1 0 ≤ cond (other event) 1 0)
-    → count_by test events ≤ count_by other events
-count_fewer test other [] fewer = omega arith
-count_fewer test other (event ∷ events) fewer =
-    omega (arith, count_first test event events, count_first other event events, fewer event, count_fewer test other events fewer)
+use Rattle.partition_core.proofs.Tidy.{Tidy, tidy_step}
 
 pub at_set : (fates : List (Option Fate)) (place : ℕ) (fate : Option Fate) → slice_get fates place ≡ Some None → at (slice_set fates place fate) place ≡ fate
 at_set fates place fate is = ap (option_and_then (λ (x : Option Fate). x)) (set_same fates place fate None is)
@@ -80,3 +71,18 @@ one_each fates (need ∷ needs) e =
     let built = head_built (built_at fates need) (first_open fates needs) need e in
     let rest = one_each fates needs (rest_built (built_at fates need) (first_open fates needs) need e) in
     ap (λ (o : Option Outcome). length (cons_option o (outcomes_now fates needs))) built.1 ∙ (omega arith)
+
+-- ---- a history adds fates
+
+pub grows_step : (o : Opening) (s : State) → Tidy s → (event : Event) → IsLegal o s event → Grows s.fates (after o s event).fates
+grows_step o s tidy (Keep place by) legal = grows_set s.fates place (option_map (λ (k : Kept). Built k.outcome) (at o.kept place)) legal.0.open_place
+grows_step o s tidy (Start place by) legal = λ p fate has. has
+grows_step o s tidy (Finish place by outcome) legal = grows_set s.fates place (Some (Built outcome)) (acts_on o s tidy (Finish place by outcome) legal)
+grows_step o s tidy (Fail place by outcome) legal = grows_set s.fates place (Some (Failed outcome)) (acts_on o s tidy (Fail place by outcome) legal)
+grows_step o s tidy (Skip place need by) legal = grows_set s.fates place (Some (Skipped need)) legal.0.open_place
+grows_step o s tidy (Back place by cause) legal = λ p fate has. has
+
+pub grows_all : (o : Opening) (s : State) (events : List Event) → Tidy s → AreLegal o s events → Grows s.fates (after_all o s events).fates
+grows_all o s [] tidy legal = λ p fate has. has
+grows_all o s (event ∷ events) tidy legal = λ p fate has.
+    grows_all o (after o s event) events (tidy_step o s tidy event legal.0) legal.1 p fate (grows_step o s tidy event legal.0 p fate has)
