@@ -9,9 +9,9 @@ ghost use Rattle.partition_face.specs.Counts.{fresh};
 ghost use Rattle.partition_face.specs.Runs.{NeverMarks};
 
 use crate::counts::Counts;
-use crate::echo::echo_into;
+use crate::lasting::compile_into;
 use crate::partition::{Partition, RunFault};
-use compile_model::{Input, Meaning, Verdict};
+use compile_model::{EchoCompiler, Input, Meaning, Verdict};
 use mx_base::RelPath;
 use std::alloc::Global;
 use tree_store::{Folder, StoreFault};
@@ -69,7 +69,7 @@ impl Partition for FakePartition {
             self.counts.deaths += 1;
             return Err(RunFault::Died);
         }
-        echo_into(alloc, input, folder)
+        compile_into::<EchoCompiler, F>(alloc, input, folder)
     }
 }
 

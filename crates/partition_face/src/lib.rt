@@ -4,17 +4,19 @@
 #![tactic(auto)]
 
 mod counts;
-mod echo;
-mod echo_maker;
 mod fake;
+mod lasting;
+mod lasting_maker;
+mod lasting_partition;
 mod list_maker;
 mod maker;
 mod partition;
 
 pub use counts::Counts;
-pub use echo::EchoPartition;
-pub use echo_maker::EchoMaker;
 pub use fake::FakePartition;
+pub use lasting::Lasting;
+pub use lasting_maker::{EchoMaker, LastingMaker};
+pub use lasting_partition::{EchoPartition, LastingPartition};
 pub use list_maker::ListMaker;
 pub use maker::{Maker, MakerFault};
 pub use partition::{Partition, RunFault};

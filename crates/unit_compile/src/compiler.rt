@@ -5,7 +5,8 @@ ghost use Rattle.unit_compile.specs.Units.{unit_meaning};
 
 use crate::compile::compile_unit;
 use compile_model::{CompileFault, Compiler, Input, Meaning, Outcome};
-use std::alloc::Global;
+use partition_face::{Lasting, LastingMaker, LastingPartition};
+use std::alloc::{AllocError, Global};
 
 /// Compiles unit files, and never dies.
 #[derive(Clone, Copy)]
@@ -32,3 +33,15 @@ impl Compiler for UnitCompiler {
         Ok(compile_unit(alloc, input)?)
     }
 }
+
+impl Lasting for UnitCompiler {
+    fn outcome(alloc: Global, input: &Input) -> Result<Outcome, AllocError> {
+        compile_unit(alloc, input)
+    }
+}
+
+/// Compiles unit files into a folder. It is honest, and never dies.
+pub type UnitPartition = LastingPartition<UnitCompiler>;
+
+/// Starts as many `UnitPartition`s as it is asked for. It never fails.
+pub type UnitMaker = LastingMaker<UnitCompiler>;

@@ -23,4 +23,4 @@ mod value;
 mod warning;
 
 pub use compile::compile_unit;
-pub use compiler::UnitCompiler;
+pub use compiler::{UnitCompiler, UnitMaker, UnitPartition};

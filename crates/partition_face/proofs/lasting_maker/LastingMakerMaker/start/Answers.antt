@@ -1,0 +1,12 @@
+use Rattle.std.proofs.Common.{◌≡◌, ℕ, ap, arith, refl}
+use Rattle.partition_face.specs.Makers.{maker_of}
+use Rattle.partition_face.proofs.LastingLemmas.{seen}
+use Rattle.partition_face.proofs.StartLemmas.{starts_all}
+use Rattle.partition_face.proofs.lasting_maker.LastingMakerMaker.start.Goals as goal
+
+pub returns : goal.returns
+returns g c =
+    let maker = λ (asked : ℕ). maker_of c.args.self.now.stopped asked 0 in
+    starts_all seen c.args.n c.loop-made.started.items (maker c.args.self.now.asked) (maker c.saturating_add-self.result)
+    c.loop-made.invariant.each (omega (arith, c.loop-made.invariant.all, c.loop-made-test.false, c.loop-made.auto.made-end))
+    (ap maker c.saturating_add-self.ensures) refl
