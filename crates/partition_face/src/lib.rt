@@ -1,6 +1,6 @@
 //! What a build asks of the things that compile: partitions, which compile a job into a folder and may die of it,
 //! and makers, which start partitions and take them back. Builds are written over the traits `Partition` and
-//! `Maker`.
+//! `Maker`. Links lead to processes that compile, and spawners run programs that do.
 #![tactic(auto)]
 
 mod counts;
@@ -8,15 +8,23 @@ mod fake;
 mod lasting;
 mod lasting_maker;
 mod lasting_partition;
+mod link;
 mod list_maker;
 mod maker;
+mod mem_link;
+mod mem_spawner;
 mod partition;
+mod spawner;
 
 pub use counts::Counts;
 pub use fake::FakePartition;
 pub use lasting::Lasting;
 pub use lasting_maker::{EchoMaker, LastingMaker};
 pub use lasting_partition::{EchoPartition, LastingPartition};
+pub use link::Link;
 pub use list_maker::ListMaker;
 pub use maker::{Maker, MakerFault};
+pub use mem_link::MemLink;
+pub use mem_spawner::MemSpawner;
 pub use partition::{Partition, RunFault};
+pub use spawner::{MOST_OUTPUT, ProgramRun, SpawnFault, Spawner, Start};
