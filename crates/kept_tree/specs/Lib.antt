@@ -3,4 +3,3 @@ pub mod Clearing
 pub mod Faults
 pub mod Reading
 pub mod Rewriting
-pub mod Tree

@@ -1,5 +1,0 @@
-pub mod Asked
-pub mod Compiles
-pub mod History
-pub mod Right
-pub mod Site
