@@ -47,7 +47,7 @@ module _ (state : State) where
   plain_after_count n is settings others r =
       let still = number_stays state.settings.partitions settings.partitions (r.values Partitions).0 n (r.values Partitions).1 is in
       let fact = at_some (λ (n : ℕ). IsTrue
-          (takes_run state.verb) × IsPartitionCount n × IsFalse settings.plain) settings.partitions still.0 still.1 r.takes.partitions in
+      (takes_run state.verb) × IsPartitionCount n × IsFalse settings.plain) settings.partitions still.0 still.1 r.takes.partitions in
       true_or_false settings.plain (plain_only settings others r).is fact.2
 
   trace_not_taken : takes_run state.verb ≡ false → Bars state (Raised Trace)
@@ -79,7 +79,7 @@ may_not_give state Env e value =
 may_not_give state Target e value =
     ⊎_elim (λ h. target_not_taken state value h)
     (λ h. let given = some_at state.settings.target h in target_given state value given.0 given.1) (and_cases (takes_build state.verb)
-        (is_none state.settings.target) e)
+    (is_none state.settings.target) e)
 may_not_give state Partitions e value =
     let s = state.settings in
     ⊎_elim (λ h. count_not_taken state value h)

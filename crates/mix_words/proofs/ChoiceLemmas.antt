@@ -49,8 +49,11 @@ plain_target env target e = (bytes_eq-Decides target host).0 (and_parts (bytes_e
 pub has_by_length : (env target : List ℕ) (fits : Bool) → is_plain env target ≡ false → length env ≤ 255 → (fits ≡ true → tagged_length env target ≤ 255)
     → (fits ≡ false → 255 < tagged_length env target) → IsTrue fits ↔ HasBuildName env target
 has_by_length env target true plain small fitting never = (λ _. short_has env target small (fitting refl), λ _. refl)
-has_by_length env target false plain small fitting never = (λ (h : false ≡ true). cc, λ (h : HasBuildName env target). absurd (omega
-    (arith, tagged_has env target plain h, never refl)))
+has_by_length env target false plain small fitting never = (
+  λ (h : false ≡ true). cc,
+  λ (h : HasBuildName env target). absurd (omega
+      (arith, tagged_has env target plain h, never refl)),
+)
 
 -- ---- how many digits a number has
 

@@ -109,7 +109,7 @@ by_choice state (Some env) None lives e f =
     env_chosen state env lives f e (subst (HasTarget env) f (subst (λ (o : Option Word). IfSome o (λ x. HasTarget x state.settings.target)) e lives.env))
 by_choice state None (Some target) lives e f =
     target_chosen state target lives e f (subst (λ (o : Option Word). HasEnv o target) e (subst (λ (o : Option Word). IfSome o
-        (λ x. HasEnv state.settings.env x)) f lives.target))
+    (λ x. HasEnv state.settings.env x)) f lives.target))
 by_choice state (Some env) (Some target) lives e f =
     let has = subst (HasTarget env) f (subst (λ (o : Option Word). IfSome o (λ x. HasTarget x state.settings.target)) e lives.env) in
     let same : target ≡ has.0 = has.1 in

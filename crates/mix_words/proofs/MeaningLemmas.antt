@@ -61,7 +61,7 @@ one_order verb words a b x y =
     let target : x.settings.target ≡ y.settings.target = same_word x.settings.target y.settings.target (values Target) in
     let count : x.settings.partitions ≡ y.settings.partitions =
     same_number x.settings.partitions y.settings.partitions (few x.settings.partitions _ _ x.takes.partitions)
-        (few y.settings.partitions _ _ y.takes.partitions) (values Partitions) in
+    (few y.settings.partitions _ _ y.takes.partitions) (values Partitions) in
     let plain : x.settings.plain ≡ y.settings.plain = same_flag Plain x.settings.plain y.settings.plain (flags Plain) in
     let trace : x.settings.trace ≡ y.settings.trace = same_flag Trace x.settings.trace y.settings.trace (flags Trace) in
     let settings : x.settings ≡ y.settings = λ i. record { env = env i; target = target i; partitions = count i; plain = plain i; trace = trace i } in
@@ -75,9 +75,9 @@ one_units words a b x y =
     let first : x.first ≡ y.first = cc in
     let second : x.second ≡ y.second = cc in
     let count : x.count ≡ y.count = decimal_injective x.count y.count (omega (arith, x.counts.most)) (omega (arith, y.counts.most))
-        (sym x.counts.bytes ∙ first ∙ y.counts.bytes) in
+    (sym x.counts.bytes ∙ first ∙ y.counts.bytes) in
     let start : x.start ≡ y.start = decimal_injective x.start y.start (omega (arith, x.starts.most)) (omega (arith, y.starts.most))
-        (sym x.starts.bytes ∙ second ∙ y.starts.bytes) in
+    (sym x.starts.bytes ∙ second ∙ y.starts.bytes) in
     cc (x.makes, y.makes)
 
 one_script : (words : List Word) (a b : Command) → AsksScript words a → AsksScript words b → a ≡ b

@@ -148,7 +148,7 @@ module _ {A : Type 0} (f : A → Word) where
       → IsRefusedAt (IsAsked Gen) (map f xs) 1
   refused_one_unit xs rest x n e none is =
       subst (λ (t : List Word). IsRefusedAt (IsAsked Gen) t 1) (ap (λ (t : List Word). f x ∷ t) (no_words rest none) ∙ first_words xs rest x e)
-          (units_one (f x) n is)
+      (units_one (f x) n is)
 
   pub refused_second_units : (xs rest more : List A) (x y : A) (n : ℕ) → xs ≡ x ∷ rest → rest ≡ y ∷ more → IsNumber 0 most_units (f x) n
       → ((m : ℕ) → IsNumber 0 most_start (f y) m → ⊥) → IsRefusedAt (IsAsked Gen) (map f xs) 1

@@ -20,6 +20,6 @@ returns-else-is_empty c =
 pub returns-in-Ok-None : goal.returns-in-Ok-None
 returns-in-Ok-None c =
     computes_refused Batch _ 0 (refused_first_script (λ word. string_bytes word) c.args.words.now c.in-Some.rest.now c.in-Some.word.now
-        c.in-Some.ensures.cases.0
+    c.in-Some.ensures.cases.0
     (λ path is. at_none ((p : List ℕ) → IsScript c.as_str.result.now p → ⊥) c.in-Ok-None.field-0 c.in-Ok-None.ensures.none c.in-Ok-None.field-0-is path
     (subst (λ (w : List ℕ). IsScript w path) (sym c.as_str.ensures.value) is)))

@@ -14,18 +14,18 @@ returns-in_err-build c = let p = err_from_is_err_and c.from_residual.result c.fr
 pub returns-in-Deps : goal.returns-in-Deps
 returns-in-Deps c =
     built_here (state_of c.args.sofar) verbs.Deps _ c.requires.lives c.in-Deps.is c.in_ok-build.ensures.1 (ap (λ (b : Chosen). Some (commands.Deps b))
-        (sym c.in_ok-build.ensures.0))
+    (sym c.in_ok-build.ensures.0))
 
 pub returns-in-Stale : goal.returns-in-Stale
 returns-in-Stale c =
     built_here (state_of c.args.sofar) verbs.Stale _ c.requires.lives c.in-Stale.is c.in_ok-build.ensures.1 (ap (λ (b : Chosen). Some
-        (commands.Stale b)) (sym c.in_ok-build.ensures.0))
+    (commands.Stale b)) (sym c.in_ok-build.ensures.0))
 
 pub returns-in-Compile : goal.returns-in-Compile
 returns-in-Compile c =
     built_here (state_of c.args.sofar) verbs.Compile _ c.requires.lives c.in-Compile.is c.in_ok-build.ensures.1
     (ap (λ (b : Chosen). Some (commands.Compile b c.args.sofar.settings.partitions c.args.sofar.settings.plain c.args.sofar.settings.trace)) (sym
-        c.in_ok-build.ensures.0))
+    c.in_ok-build.ensures.0))
 
 pub returns-in-Clean : goal.returns-in-Clean
 returns-in-Clean c =

@@ -11,7 +11,7 @@ returns-in_err-with_value-in-Some c =
 pub returns-in_ok-with_value-in-Some : goal.returns-in_ok-with_value-in-Some
 returns-in_ok-with_value-in-Some c =
     follows_value_at (place_of c.args.self) (place_of c.ready.result) (state_of c.in_ok-with_value-in-Some.field-0) c.in-Some.option c.args.word.now
-        c.in-Some.is
+    c.in-Some.is
     c.ready.ensures c.in_ok-with_value-in-Some.ensures
 
 pub returns-in-None : goal.returns-in-None

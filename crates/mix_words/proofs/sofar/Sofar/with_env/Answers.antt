@@ -12,4 +12,4 @@ returns-in_default c = λ is. env_no_name (state_of c.args.self) c.args.value.no
 pub returns-then-not-has_target : goal.returns-then-not-has_target
 returns-then-not-has_target c = λ is. env_no_build (state_of c.args.self) c.args.value.now
     (λ has. let never : false ≡ true = c.if-not-has_target.ensures.1 (subst (λ (o : Option (List ℕ)). HasTarget c.args.value.now o) (sym
-        c.as_ref.ensures.value) has) in cc)
+    c.as_ref.ensures.value) has) in cc)

@@ -12,4 +12,4 @@ returns-in_default c = λ is. target_no_name (state_of c.args.self) c.args.value
 pub returns-then-not-has_env : goal.returns-then-not-has_env
 returns-then-not-has_env c = λ is. target_no_build (state_of c.args.self) c.args.value.now
     (λ has. let never : false ≡ true = c.if-not-has_env.ensures.1 (subst (λ (o : Option (List ℕ)). HasEnv o c.args.value.now) (sym
-        c.as_ref.ensures.value) has) in cc)
+    c.as_ref.ensures.value) has) in cc)
