@@ -125,7 +125,7 @@ impl<M: Meaning, F: Folder> Board<M, F> {
         took
     }
 
-    /// The place of the lease is built. It takes no memory.
+    /// Hands in a lease whose place is built, and tells how long the history is then. It takes no memory.
     pub fn finish<R: Wait>(
         &self,
         rt: &R,
@@ -152,7 +152,7 @@ impl<M: Meaning, F: Folder> Board<M, F> {
         self.end_run(rt, post, finish, Some(fate), folder)
     }
 
-    /// The place of the lease has failed. It takes no memory.
+    /// Hands in a lease whose place has failed, and tells how long the history is then. It takes no memory.
     pub fn fail<R: Wait>(
         &self,
         rt: &R,
@@ -179,7 +179,7 @@ impl<M: Meaning, F: Folder> Board<M, F> {
         self.end_run(rt, post, fail, Some(fate), folder)
     }
 
-    /// The place of the lease is given back, and the post is live no more. It takes no memory.
+    /// Gives a place back, and tells how long the history is then. The post is live no more. It takes no memory.
     pub fn give_back<R: Wait>(
         &self,
         rt: &R,

@@ -33,7 +33,7 @@ pub(crate) fn make<M: Meaning>(core: &mut Core<M>, event: Event, fate: Option<Sh
     core.step(event, fate).unwrap();
 }
 
-// How long the history is.
+// How long the history is. A call of it also shows that the history is legal.
 pub(crate) fn front<M: Meaning>(core: &Core<M>) -> Front
     ensures length { result.events ≡ length core.now.events }
     ensures legal { Legal core.now.opening core.now.events }

@@ -20,7 +20,6 @@ use Rattle.partition_crew.specs.declared.worked.Worked.TheVariants.{Finished, Fa
 use Rattle.partition_board.specs.Holds.{AreLeft, AreReady, HoldsBy}
 use Rattle.partition_crew.specs.Build.{CountsOf, HaveFates, IsEnding, SomeFailed, is_death, is_undone}
 use Rattle.partition_crew.specs.Station.{IsStation, IsYoung, Nature, Station, WorksOn, event_by, told_by}
-use Rattle.partition_crew.specs.Station.Cuts.{worked}
 use Rattle.partition_crew.specs.Work.{has_died, tree_failed}
 use Rattle.partition_board.proofs.Growing.{at_open}
 use Rattle.partition_crew.proofs.Telling.{counted_works, replayed, starts_works}

@@ -15,7 +15,6 @@ use Rattle.partition_core.specs.Counts.{count_below, is_back, is_compiled}
 use Rattle.partition_core.proofs.CountsBelow.{count_le}
 use Rattle.partition_core.proofs.Places.{also_there}
 use Rattle.partition_core.proofs.Starts.{few_starts}
-use Rattle.partition_crew.specs.declared.worked.Worked.TheVariants.{Died}
 use Rattle.partition_board.specs.Holds.{AreLeft, AreReady, HoldsBy}
 use Rattle.partition_crew.specs.Build.{CountsOf, HaveFates, SomeFailed, is_death, is_undone}
 use Rattle.partition_crew.specs.Station.{IsLeftNow, IsStation, IsYoung, Nature, Station, is_covered}

@@ -14,7 +14,6 @@ use Rattle.partition_core.proofs.Tidy.{legal_more, replay_more}
 use Rattle.partition_crew.specs.declared.worked.Worked.{Worked}
 use Rattle.partition_crew.specs.declared.worked.Worked.TheVariants.{Finished, Failed, Died, TreeFault as TreeFailed, NoMemory}
 use Rattle.partition_crew.specs.Station.{Nature, Station, WorksOn, event_by, given_now}
-use Rattle.partition_crew.specs.Station.Moves.{works}
 use Rattle.partition_crew.specs.Work.{HasWorked}
 use Rattle.partition_crew.proofs.Tallying.{count_end}
 use Rattle.partition_crew.proofs.Starting.{meant_event, start_ready}
