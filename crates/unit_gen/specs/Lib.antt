@@ -1,4 +1,0 @@
-pub mod Stream
-pub mod Dependency
-pub mod Texts
-pub mod Seen
