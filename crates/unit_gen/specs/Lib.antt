@@ -1,0 +1,4 @@
+pub mod Stream
+pub mod Dependency
+pub mod Texts
+pub mod Seen
