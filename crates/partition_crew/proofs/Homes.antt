@@ -49,7 +49,7 @@ owns_grow o fates next grows place outcome mark (inr (job, here, made)) = inr (
   },
 )
 
-holds_grow : (o : Opening) (fates next : List (Option Fate)) → Grows fates next → (place : ℕ) (outcome : Outcome) (held : Holding)
+pub holds_grow : (o : Opening) (fates next : List (Option Fate)) → Grows fates next → (place : ℕ) (outcome : Outcome) (held : Holding)
     → HoldsBuilt o fates place outcome held
     → HoldsBuilt o next place outcome held
 holds_grow o fates next grows place outcome held holds = record {

@@ -1,0 +1,12 @@
+pub mod AppLemmas
+pub mod ComeLemmas
+pub mod KeepLemmas
+pub mod LendLemmas
+pub mod Lone
+pub mod MadeLemmas
+pub mod SoundLemmas
+pub mod StartLemmas
+pub mod TakeLemmas
+pub mod TreeLemmas
+pub mod WholeLemmas
+pub mod WorkLemmas
