@@ -57,22 +57,27 @@ brought_same (f ∷ fs) old new q e = ap (λ (s : Slot). cond (is_same_build f.k
 pub brought_other : (folders : List FolderKnown) (slots : BuildKey → Slot) (q : BuildKey)
     → ((place : ℕ) (folder : FolderKnown) → slice_get folders place ≡ Some folder → folder.key ≡ q → ⊥) → brought folders slots q ≡ slots q
 brought_other [] slots q other = refl
-brought_other (f ∷ fs) slots q other = at (is_same_build f.key q) refl
+brought_other (f ∷ fs) slots q other = at (is_same_build f.key q) refl (brought_other fs slots q (λ place folder e. other (suc place) folder e))
   where
-    at : (b : Bool) → is_same_build f.key q ≡ b → cond b (Here f.held) (brought fs slots q) ≡ slots q
-    at true is = absurd (other 0 f refl (one_key f.key q is))
-    at false is = brought_other fs slots q (λ place folder e. other (suc place) folder e)
+    at : (b : Bool) → is_same_build f.key q ≡ b → brought fs slots q ≡ slots q → cond b (Here f.held) (brought fs slots q) ≡ slots q
+    at true is rest = absurd (other 0 f refl (one_key f.key q is))
+    at false is rest = rest
 
--- two lists of folders of the same builds: both have one of the build, or neither
-pub brought_both : (first now : List FolderKnown) (slots : BuildKey → Slot) (q : BuildKey)
-    → map (λ folder. folder.key) now ≡ map (λ folder. folder.key) first
-    → ((place : ℕ) × (old : FolderKnown) × (new : FolderKnown) × (slice_get first place ≡ Some old) × (slice_get now place ≡ Some new) × (old.key ≡ q)
+-- both lists have a folder of the build, or neither has one
+abbrev pub AreBoth : List FolderKnown → List FolderKnown → (BuildKey → Slot) → BuildKey → Type 0
+AreBoth first now slots q =
+    ((place : ℕ) × (old : FolderKnown) × (new : FolderKnown) × (slice_get first place ≡ Some old) × (slice_get now place ≡ Some new) × (old.key ≡ q)
     × (brought first slots q ≡ Here old.held) × (brought now slots q ≡ Here new.held))
     ⊎ ((brought first slots q ≡ slots q) × (brought now slots q ≡ slots q))
+
+-- two lists of folders of the same builds
+pub brought_both : (first now : List FolderKnown) (slots : BuildKey → Slot) (q : BuildKey)
+    → map (λ folder. folder.key) now ≡ map (λ folder. folder.key) first
+    → AreBoth first now slots q
 brought_both [] [] slots q keys = inr (refl, refl)
 brought_both [] (n ∷ ns) slots q keys = cc
 brought_both (f ∷ fs) [] slots q keys = cc
-brought_both (f ∷ fs) (n ∷ ns) slots q keys = at (is_same_build f.key q) refl
+brought_both (f ∷ fs) (n ∷ ns) slots q keys = at (is_same_build f.key q) refl (brought_both fs ns slots q rest)
   where
     own : n.key ≡ f.key
     own = cc
@@ -86,15 +91,10 @@ brought_both (f ∷ fs) (n ∷ ns) slots q keys = at (is_same_build f.key q) ref
     here : (b : Bool) → is_same_build f.key q ≡ b → brought (f ∷ fs) slots q ≡ cond b (Here f.held) (brought fs slots q)
     here b is = ap (λ (t : Bool). cond t (Here f.held) (brought fs slots q)) is
 
-    at : (b : Bool) → is_same_build f.key q ≡ b
-        → ((place : ℕ) × (old : FolderKnown) × (new : FolderKnown) × (slice_get (f ∷ fs) place ≡ Some old) × (slice_get (n ∷ ns) place ≡ Some new)
-        × (old.key ≡ q) × (brought (f ∷ fs) slots q ≡ Here old.held) × (brought (n ∷ ns) slots q ≡ Here new.held))
-        ⊎ ((brought (f ∷ fs) slots q ≡ slots q) × (brought (n ∷ ns) slots q ≡ slots q))
-    at true is = inl (0, f, n, refl, refl, one_key f.key q is, here true is, also true is)
-    at false is = elim (brought_both fs ns slots q rest) [
-      | inl one ↦ inl (suc one.0, one.1, one.2, one.3, one.4, one.5, here false is ∙ one.6, also false is ∙ one.7)
-      | inr none ↦ inr (here false is ∙ none.0, also false is ∙ none.1)
-    ]
+    at : (b : Bool) → is_same_build f.key q ≡ b → AreBoth fs ns slots q → AreBoth (f ∷ fs) (n ∷ ns) slots q
+    at true is others = inl (0, f, n, refl, refl, one_key f.key q is, here true is, also true is)
+    at false is (inl one) = inl (suc one.0, one.1, one.2, one.3, one.4, one.5, here false is ∙ one.6, also false is ∙ one.7)
+    at false is (inr none) = inr (here false is ∙ none.0, also false is ∙ none.1)
 
 -- the build of a folder that is out
 pub brought_at : (folders : List FolderKnown) (slots : BuildKey → Slot)
@@ -105,12 +105,13 @@ brought_at (f ∷ fs) slots apart zero folder q e is =
     let same : f ≡ folder = cc in
     ap (λ (t : Bool). cond t (Here f.held) (brought fs slots q)) (ap (is_same_build f.key) (sym is ∙ ap (λ (x : FolderKnown). x.key) (sym same)) ∙ is_same_itself f.key)
     ∙ ap (λ (x : FolderKnown). Here x.held) same
-brought_at (f ∷ fs) slots apart (suc place) folder q e is = at (is_same_build f.key q) refl
+brought_at (f ∷ fs) slots apart (suc place) folder q e is =
+    at (is_same_build f.key q) refl
+    (brought_at fs slots (λ i j one two a b same. let s : suc i ≡ suc j = apart (suc i) (suc j) one two a b same in omega (arith, s)) place folder q e is)
   where
-    at : (b : Bool) → is_same_build f.key q ≡ b → cond b (Here f.held) (brought fs slots q) ≡ Here folder.held
-    at true own = let clash : 0 ≡ suc place = apart 0 (suc place) f folder refl e (one_key f.key q own ∙ sym is) in absurd (omega (arith, clash))
-    at false own =
-        brought_at fs slots (λ i j one two a b same. let s : suc i ≡ suc j = apart (suc i) (suc j) one two a b same in omega (arith, s)) place folder q e is
+    at : (b : Bool) → is_same_build f.key q ≡ b → brought fs slots q ≡ Here folder.held → cond b (Here f.held) (brought fs slots q) ≡ Here folder.held
+    at true own rest = let clash : 0 ≡ suc place = apart 0 (suc place) f folder refl e (one_key f.key q own ∙ sym is) in absurd (omega (arith, clash))
+    at false own rest = rest
 
 -- ---- one comes back
 

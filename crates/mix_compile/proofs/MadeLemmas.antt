@@ -72,7 +72,7 @@ hold_same o fates next same place told holds =
     (hold_grow o fates next (λ p fate e. sym (same p) ∙ e) place (at fates place) held (told_has (HoldsBy o fates place (at fates place)) told held is holds)))
 
 pub told_slot : (told : Option Holding) (slot : Slot) → slot ≡ Here told → IsSome told → IsTold slot
-told_slot None slot is some = absurd some
+told_slot None slot is some = cc
 told_slot (Some held) slot is some = subst IsTold (sym is) tt
 
 -- ---- what is honest

@@ -2,16 +2,20 @@
 use Rattle.std.proofs.Common.{◌≡◌, ◌≢◌, ◌⊎◌, inl, inr, ℕ, zero, suc, ◌+◌, ◌<◌, ◌≤◌, Bool, true, false, cond, List, [], ◌∷◌, ◌++◌, length, map, take, get_or, Option, Some, None, slice_get, refl, sym, ◌∙◌, ap, subst, arith}
 use Rattle.std.proofs.lemmas.Bool.{cases_lt}
 use Rattle.std.proofs.lemmas.Option.{get_or_from_slice_get, slice_get_within}
+use Rattle.std.proofs.lemmas.List.{take_all, take_more}
 use Rattle.compile_model.specs.declared.job.Job.{Job}
+use Rattle.compile_model.specs.declared.job.Plan.{Plan}
 use Rattle.compile_model.specs.Planned.{ArePlanned}
 use Rattle.tree_store.specs.declared.key.BuildKey.{BuildKey}
 use Rattle.tree_store.specs.FolderKnown.{FolderKnown}
 use Rattle.tree_store.specs.Key.{is_same_build}
+use Rattle.tree_store.specs.Known.{IsLent, Known}
 use Rattle.tree_store.specs.Slot.{Slot, AllHere, SetsSlot, with_slot}
 use Rattle.tree_store.specs.Slot.Slot.{Here, Out}
 use Rattle.tree_store.proofs.StoreLemmas.{is_same_itself, one_key}
-use Rattle.mix_compile.specs.Lending.{AreOut, brought, key_of}
-use Rattle.mix_compile.proofs.LendLemmas.{brought_both, brought_more, brought_other, brought_same, get_map, get_more, map_get}
+use Rattle.partition_crew.specs.Build.{SomeFailed}
+use Rattle.mix_compile.specs.Lending.{AreOut, AreTaken, brought, key_of}
+use Rattle.mix_compile.proofs.LendLemmas.{brought_both, brought_more, brought_other, brought_same, get_map, get_more, map_get, map_more}
 
 pub get_taken : {X : Type 0} (xs : List X) (n i : ℕ) (x : X) → slice_get (take n xs) i ≡ Some x → (slice_get xs i ≡ Some x) × (i < n)
 get_taken [] zero i x e = cc
@@ -109,3 +113,65 @@ brought_here first now slots keys home q out = elim (brought_both first now slot
   | inl one ↦ let clash : Here one.2.held ≡ Out = sym one.7 ∙ out in cc
   | inr none ↦ home q (none.0 ∙ sym none.1 ∙ out)
 ]
+
+-- ---- so far
+
+-- the folders of so many jobs are out
+pub record Taking (plan : Plan) (n : ℕ) (first now : Known) (folders : List FolderKnown) : Type 0 where
+  pub keys : map (λ folder. folder.key) folders ≡ map (key_of plan.env) (take n plan.jobs)
+  pub fresh : (place : ℕ) (folder : FolderKnown) → slice_get folders place ≡ Some folder → folder.faults ≡ 0
+  pub out : AreOut now.slot folders
+  pub whole : (q : BuildKey) → brought folders now.slot q ≡ first.slot q
+  pub sources : now.sources ≡ first.sources
+  pub faults : now.faults ≡ first.faults
+  pub returned : now.returned ≡ first.returned
+
+pub taking_none : (plan : Plan) (first : Known) → Taking plan 0 first first []
+taking_none plan first = record {
+  keys = refl;
+  fresh = λ place folder is. cc;
+  out = record { out = λ place folder is. cc; apart = λ place other one two a b same. cc };
+  whole = λ q. refl;
+  sources = refl;
+  faults = refl;
+  returned = refl;
+}
+
+pub taking_more : (plan : Plan) → ArePlanned plan.jobs → (n : ℕ) (first mid now : Known) (folders : List FolderKnown) (job : Job) (folder : FolderKnown)
+    → slice_get plan.jobs n ≡ Some job → Taking plan n first mid folders → IsLent (key_of plan.env job) (mid.slot (key_of plan.env job)) folder
+    → SetsSlot (key_of plan.env job) Out mid.slot now.slot → now ≡ record mid { slot = now.slot; faults = now.faults } → now.faults ≡ mid.faults
+    → Taking plan (n + 1) first now (folders ++ folder ∷ [])
+taking_more plan planned n first mid now folders job folder here taking lent sets rest calm = record {
+  keys = map_more (λ (f : FolderKnown). f.key) folders folder
+      ∙ ap (λ (ks : List BuildKey). ks ++ folder.key ∷ []) taking.keys ∙ ap (λ (k : BuildKey). map (key_of plan.env) (take n plan.jobs) ++ k ∷ []) lent.build
+      ∙ sym (map_more (key_of plan.env) (take n plan.jobs) job)
+      ∙ ap (map (key_of plan.env)) (sym (take_more plan.jobs n job (slice_get_within plan.jobs n job here)
+      ∙ ap (λ (j : Job). take n plan.jobs ++ j ∷ []) (get_or_from_slice_get plan.jobs n job job here)));
+  fresh = λ place one is. elim (get_more folders folder place one is) [
+    | inl was ↦ taking.fresh place one was
+    | inr end ↦ ap (λ (f : FolderKnown). f.faults) (sym end.1) ∙ lent.fresh
+  ];
+  out = taken_out plan.env plan.jobs planned n folders job folder mid.slot now.slot taking.keys here taking.out sets lent.build;
+  whole = taken_whole folders folder (key_of plan.env job) first.slot mid.slot now.slot taking.whole sets lent.build lent.held;
+  sources = ap (λ (k : Known). k.sources) rest ∙ taking.sources;
+  faults = calm ∙ taking.faults;
+  returned = ap (λ (k : Known). k.returned) rest ∙ taking.returned;
+}
+
+pub taking_all : (plan : Plan) (n : ℕ) (first now : Known) (folders : List FolderKnown) → length plan.jobs ≤ n → Taking plan n first now folders
+    → AreTaken plan first.slot now.slot folders
+taking_all plan n first now folders past taking = record {
+  keys = taking.keys ∙ ap (map (key_of plan.env)) (take_all n plan.jobs past);
+  fresh = taking.fresh;
+  out = taking.out;
+  whole = taking.whole;
+}
+
+-- they are all given back after an error
+pub taking_back : (plan : Plan) (n : ℕ) (first mid now last : Known) (folders : List FolderKnown) → Taking plan n first mid folders → now.slot ≡ mid.slot
+    → ((q : BuildKey) → last.slot q ≡ brought folders now.slot q) → (q : BuildKey) → last.slot q ≡ first.slot q
+taking_back plan n first mid now last folders taking same back q =
+    back q ∙ brought_same folders mid.slot now.slot q (ap (λ (slots : BuildKey → Slot). slots q) same) ∙ taking.whole q
+
+pub taking_calm : (plan : Plan) (n : ℕ) (first mid : Known) (folders : List FolderKnown) → Taking plan n first mid folders → SomeFailed folders → ⊥
+taking_calm plan n first mid folders taking (place, folder, is, failed) = failed (taking.fresh place folder is)

@@ -19,9 +19,10 @@ use crate::made::Made;
 use crate::settling::settle;
 use crate::tidying::tidy;
 use build_plan::plan;
-use compile_model::Plan;
-use mix_answer::{Stop, refuse, say};
+use compile_model::{Fate, Plan};
+use mix_answer::{Answer, Stop, refuse, say};
 use mx_base::{AppName, Shared, Sink};
+use partition_core::Event;
 use partition_face::Maker;
 use std::alloc::Global;
 use tree_store::Store;
@@ -138,7 +139,7 @@ fn work<S: Store, M: Maker>(
     Ok(finish(alloc, plan.get(), made, trace, store))
 }
 
-// What is done after a build, where each place has its fate.
+// What is done after a build.
 fn finish<S: Store>(alloc: Global, plan: &Plan, made: Made, trace: bool, store: &mut S) -> Ended
     requires here { AllHere (S.known store.old).slot }
     requires planned { ArePlanned plan.now.jobs }
@@ -149,9 +150,28 @@ fn finish<S: Store>(alloc: Global, plan: &Plan, made: Made, trace: bool, store: 
     ensures keeps { KeepsRest (S.known store.old) (S.known store.new) }
 {
     let Made { fates, history } = made;
-    let answer = match fates {
-        Ok(fates) => settle(alloc, plan, &fates, &history, trace, store),
-        Err(answer) => answer,
-    };
+    let answer = answer_by(alloc, plan, fates, &history, trace, store);
     Ended { answer, history }
+}
+
+// Where each place has its fate the tree is settled; else the build has its answer.
+fn answer_by<S: Store>(
+    alloc: Global,
+    plan: &Plan,
+    fates: Result<Vec<Fate>, Result<Answer, Stop>>,
+    history: &[Event],
+    trace: bool,
+    store: &mut S,
+) -> Result<Answer, Stop>
+    requires here { AllHere (S.known store.old).slot }
+    requires planned { ArePlanned plan.now.jobs }
+    requires places { IfOk fates (λ fates. length fates.items ≡ length plan.now.jobs) }
+    ensures finished { Finishes plan.now fates
+        (finish_of trace history.now (S.known store.old) (S.known store.new)) result }
+    ensures keeps { KeepsRest (S.known store.old) (S.known store.new) }
+{
+    match fates {
+        Ok(fates) => settle(alloc, plan, &fates, history, trace, store),
+        Err(answer) => answer,
+    }
 }

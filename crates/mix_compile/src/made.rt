@@ -49,16 +49,28 @@ impl Made {
             history,
             fault,
         } = one;
-        let fates = match fault {
-            None => all_fates(alloc, fates),
-            Some(BuildFault::TreeFault) => Err(Err(Stop::Tree)),
-            Some(BuildFault::OutOfMemory) => Err(Err(Stop::Memory)),
-            Some(BuildFault::NoPartitionLeft { .. }) => Err(Ok(Answer {
-                status: Status::Died,
-                text: died,
-            })),
-        };
+        let fates = fates_by(alloc, fault, fates, died);
         Made { fates, history }
+    }
+}
+
+// The fates, or what the command ends with by the fault.
+fn fates_by(
+    alloc: Global,
+    fault: Option<BuildFault>,
+    fates: Vec<Option<Fate>>,
+    died: Vec<u8>,
+) -> Result<Vec<Fate>, Result<Answer, Stop>>
+    ensures { ComesBy fault fates.items died.items result }
+{
+    match fault {
+        None => all_fates(alloc, fates),
+        Some(BuildFault::TreeFault) => Err(Err(Stop::Tree)),
+        Some(BuildFault::OutOfMemory) => Err(Err(Stop::Memory)),
+        Some(BuildFault::NoPartitionLeft { .. }) => Err(Ok(Answer {
+            status: Status::Died,
+            text: died,
+        })),
     }
 }
 
