@@ -1,7 +1,0 @@
-//! Scratch.
-#![tactic(auto)]
-
-/// One.
-pub fn one() -> u32 {
-    1
-}
