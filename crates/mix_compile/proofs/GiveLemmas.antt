@@ -87,3 +87,7 @@ none_failed (place, one, is, failed) = cc
 
 pub giving_rose : (all : List FolderKnown) (first now : Known) → Giving all [] first now → SomeFailed all → Rose first.returned now.returned
 giving_rose all first now giving some = elim (giving.rose some) [ inl failed ↦ absurd (none_failed failed) | inr rose ↦ rose ]
+
+-- none is left
+pub giving_last : (all left : List FolderKnown) (first now : Known) → left ≡ [] → Giving all left first now → Giving all [] first now
+giving_last all left first now is giving = subst (λ (fs : List FolderKnown). Giving all fs first now) is giving

@@ -38,17 +38,20 @@ pub record Ran (counts : Counts) (old new : MakerKnown) : Type 0 where
   pub asked : new.asked ≡ raised_by 1 old.asked
   pub made : new.faults ≡ old.faults
 
+plain : {n m : ℕ} → n ≡ m + 0 → n ≡ m
+plain e = omega (arith, e)
+
 pub ran_one : (old mid new : MakerKnown) (started stopped : List Counts) (last : Counts) → Starts 1 old mid (Ok started) → stopped ≡ last ∷ []
     → Stops stopped mid new → Ran last old new
 ran_one old mid new started stopped last starts one stops =
     let first = one_started old mid started starts in
     let enough : nat_lt (length started) 1 ≡ false = ap (λ (cs : List Counts). nat_lt (length cs) 1) first.1 in
-    let runs : runs_of stopped ≡ last.runs + 0 = ap runs_of one in
-    let deaths : deaths_of stopped ≡ last.deaths + 0 = ap deaths_of one in
+    let runs : runs_of stopped ≡ last.runs = plain (ap runs_of one) in
+    let deaths : deaths_of stopped ≡ last.deaths = plain (ap deaths_of one) in
     let base = starts.rest in
     record {
-      runs = ap (λ (m : MakerKnown). m.runs) stops ∙ ap (λ (n : ℕ). raised_by n mid.runs) (runs ∙ (omega arith)) ∙ ap (λ (m : MakerKnown). raised_by last.runs m.runs) base;
-      deaths = ap (λ (m : MakerKnown). m.deaths) stops ∙ ap (λ (n : ℕ). raised_by n mid.deaths) (deaths ∙ (omega arith))
+      runs = ap (λ (m : MakerKnown). m.runs) stops ∙ ap (λ (n : ℕ). raised_by n mid.runs) runs ∙ ap (λ (m : MakerKnown). raised_by last.runs m.runs) base;
+      deaths = ap (λ (m : MakerKnown). m.deaths) stops ∙ ap (λ (n : ℕ). raised_by n mid.deaths) deaths
           ∙ ap (λ (m : MakerKnown). raised_by last.deaths m.deaths) base;
       asked = ap (λ (m : MakerKnown). m.asked) stops ∙ ap (λ (m : MakerKnown). m.asked) base;
       made = ap (λ (m : MakerKnown). m.faults) stops ∙ starts.cause.kept enough;

@@ -163,7 +163,7 @@ module _ (nature : Nature) (asked : Asked) (alone : asked.partitions ≡ 1) (pla
 
   begins : Begins plan old.slot asked.partitions o
   begins = record {
-    plan = refl;
+    same = refl;
     kept = before.kept;
     some = omega arith;
     few = omega (arith, alone);
@@ -194,7 +194,7 @@ module _ (nature : Nature) (asked : Asked) (alone : asked.partitions ≡ 1) (pla
       let same = same_stale nature.compile plan old.slot kept opening.kept 1 opening.partitions before.kept other.kept (told trusts.honest) in
       let by : count_below (is_compiled nature.compile (record { plan = plan; kept = opening.kept; partitions = opening.partitions })) (length plan.jobs)
       ≡ stale_places nature opening =
-      ap (λ (p : Plan). count_below (is_compiled nature.compile (record { plan = p; kept = opening.kept; partitions = opening.partitions })) (length p.jobs)) (sym other.plan) in
+      ap (λ (p : Plan). count_below (is_compiled nature.compile (record { plan = p; kept = opening.kept; partitions = opening.partitions })) (length p.jobs)) (sym other.same) in
       omega (arith, made.few trusts.honest (sound known trusts), same, by)
 
   runs : (known : List Given) → Trusts nature plan old.slot known → (opening : Opening) → Begins plan old.slot asked.partitions opening

@@ -1,5 +1,5 @@
 // Building the jobs of a plan in the folders of a store.
-ghost use Rattle.std.specs.Prelude.{◌≡◌, ◌≢◌, ◌×◌, [], IfErr, IfOk, OnErr, length, map};
+ghost use Rattle.std.specs.Prelude.{◌≡◌, ◌≢◌, [], IfErr, IfOk, OnErr, length, map};
 ghost use Rattle.compile_model.specs.Planned.{ArePlanned};
 ghost use Rattle.kept_tree.specs.Faults.{KeepsRest};
 ghost use Rattle.honest_tree.specs.KeptOf.{AreKeptOf};

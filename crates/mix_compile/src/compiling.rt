@@ -1,5 +1,5 @@
 // Bringing a build tree up to date.
-ghost use Rattle.std.specs.Prelude.{◌≡◌, ◌×◌, [], IfErr, IfOk, length};
+ghost use Rattle.std.specs.Prelude.{◌≡◌, [], IfErr, IfOk, length};
 ghost use Rattle.mx_base.specs.BuildName.{HasBuildName};
 ghost use Rattle.compile_model.specs.Planned.{ArePlanned};
 ghost use Rattle.tree_store.specs.Slot.{AllHere};

@@ -1,5 +1,5 @@
 // What is done once each place has its fate.
-ghost use Rattle.std.specs.Prelude.{◌≡◌, ◌≢◌, ◌×◌, IfOk, OnOk, length, map};
+ghost use Rattle.std.specs.Prelude.{◌≡◌, ◌≢◌, IfOk, OnOk, length, map};
 ghost use Rattle.std.specs.List.{AllPairs, list_any};
 ghost use Rattle.compile_model.specs.Planned.{ArePlanned};
 ghost use Rattle.tree_store.specs.Slot.{AllHere};
@@ -77,8 +77,9 @@ fn built_apps<'a>(
     ensures { IfOk result (λ apps. map (λ app. app.now) apps.items
         ≡ built_apps plan.now.jobs fates.now) }
 {
+    let jobs = plan.jobs.as_slice();
     let mut apps = Vec::new(alloc);
-    for (place, job) in plan.jobs.as_slice().iter().enumerate() {
+    for (place, job) in jobs.iter().enumerate() {
         if let Fate::Built(_) = &fates[place] {
             apps.push(&job.app)?;
         }

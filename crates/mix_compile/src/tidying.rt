@@ -1,5 +1,5 @@
 // What is done before a build.
-ghost use Rattle.std.specs.Prelude.{◌≡◌, ◌×◌, All, IfOk, IfSome, OnOk, map};
+ghost use Rattle.std.specs.Prelude.{◌≡◌, All, IfOk, IfSome, OnOk, map};
 ghost use Rattle.tree_store.specs.Slot.{AllHere};
 ghost use Rattle.honest_tree.specs.KeptOf.{AreKeptOf};
 ghost use Rattle.kept_tree.specs.Clearing.{Clears, is_apart};
@@ -42,8 +42,9 @@ fn apps_of<'a>(alloc: Global, plan: &'a Plan) -> Result<Vec<&'a AppName>, AllocE
     ensures { IfOk result (λ apps. map (λ app. app.now) apps.items
         ≡ map (λ job. job.app) plan.now.jobs) }
 {
+    let jobs = plan.jobs.as_slice();
     let mut apps = Vec::new(alloc);
-    for job in plan.jobs.as_slice() {
+    for job in jobs {
         apps.push(&job.app)?;
     }
     Ok(apps)
