@@ -88,10 +88,10 @@ there_built (k ∷ ks) (x ∷ xs) (suc place) job outcome app j f is = built_mor
 
 -- ---- that they differ
 
-abbrev Apart : Job → Job → Type 0
+abbrev pub Apart : Job → Job → Type 0
 Apart one other = one.app ≢ other.app
 
-abbrev Differ : List ℕ → List ℕ → Type 0
+abbrev pub Differ : List ℕ → List ℕ → Type 0
 Differ one other = one ≢ other
 
 -- a name that differs from all of these

@@ -1,5 +1,6 @@
 -- From a build in folders to one in the store.
-use Rattle.std.proofs.Common.{◌≡◌, ◌≢◌, ◌⊎◌, inl, inr, ℕ, zero, suc, ◌+◌, ◌<◌, ◌≤◌, Bool, true, false, List, [], ◌∷◌, ◌++◌, length, map, count_by, Option, Some, None, IfSome, IsSome, slice_get, replicate, refl, sym, ◌∙◌, ap, subst, arith}
+use Rattle.std.proofs.Common.{◌≡◌, ◌≢◌, ◌⊎◌, inl, inr, ℕ, zero, suc, ◌+◌, ◌<◌, ◌≤◌, Bool, true, false, List, [], ◌∷◌, ◌++◌, length, map, count_by, Option, Some, None, IfSome, IsSome, slice_get, replicate, ◌==◌, Result, Ok, Err, IfOk, OnErr, refl, sym, ◌∙◌, ap, subst, arith}
+use Rattle.std.proofs.lemmas.Bool.{eqb-true}
 use Rattle.std.proofs.lemmas.List.{length-map}
 use Rattle.compile_model.specs.declared.job.Job.{Job}
 use Rattle.compile_model.specs.declared.job.Plan.{Plan}
@@ -19,15 +20,16 @@ use Rattle.partition_core.specs.declared.event.Event.{Event}
 use Rattle.partition_core.specs.State.{Opening, at}
 use Rattle.partition_core.specs.Histories.{replay}
 use Rattle.partition_crew.specs.declared.one.One.{One}
-use Rattle.partition_crew.specs.Build.{AreReady, HoldsBy, by_one, inputs_of}
+use Rattle.mix_answer.specs.declared.stop.Stop.{Stop}
+use Rattle.partition_crew.specs.Build.{AreReady, HoldsBy, SomeFailed, by_one, inputs_of}
 use Rattle.partition_crew.specs.Station.{Nature}
 use Rattle.partition_face.specs.Counts.{raised_by}
 use Rattle.partition_face.specs.Makers.{MakerKnown}
 use Rattle.mix_compile.specs.Building.{HasBuilt, IsFinished, IsMade, bench_of}
 use Rattle.mix_compile.specs.History.{wanted}
-use Rattle.mix_compile.specs.Lending.{AreTaken, HoldsAt, brought, key_of}
+use Rattle.mix_compile.specs.Lending.{AreOut, AreTaken, HoldsAt, brought, key_of}
 use Rattle.mix_compile.specs.Site.{IsCalm, passage_of, site_of}
-use Rattle.mix_compile.proofs.MadeLemmas.{among_first, hold_same, made_at, made_elsewhere, made_stays, told_slot}
+use Rattle.mix_compile.proofs.MadeLemmas.{among_first, hold_same, made_at, made_elsewhere, made_out, made_stays, told_slot}
 use Rattle.mix_compile.proofs.SoundLemmas.{kept_ready}
 
 one_wanted : (jobs : List Job) → jobs ≢ [] → wanted jobs 1 ≡ 1
@@ -105,3 +107,28 @@ module _ (nature : Nature) (plan : Plan) (none : plan.jobs ≡ []) (kept : List 
     whole = ap (λ (h : List Event). (replay (by_one plan kept) h).fates) is ∙ ap (λ (js : List Job). replicate (length js) None) none ∙ ap (map Some) (sym are);
     calm = record { reads = refl; trees = refl; deaths = refl; makers = refl };
   }
+
+-- ---- what is given back
+
+module _ {F : Type 0} (known : F → FolderKnown) (nature : Nature) (plan : Plan) (planned : ArePlanned plan.jobs) (kept : List (Option Kept))
+    (old mid : BuildKey → Slot) (first now : List F) (m0 m1 : MakerKnown) (taken : AreTaken plan old mid (map known first)) where
+  pub built_out : (result : Result One Stop)
+      → IfOk result (λ one. HasBuilt nature (by_one plan kept) (bench_of (map known first) m0) (bench_of (map known now) m1) one)
+      → OnErr result (now ≡ first) → AreOut mid (map known now)
+  built_out (Ok one) built same =
+      made_out plan planned (map known first) (map known now) old mid (brought (map known now) mid) taken built.left.keys (λ q. refl)
+  built_out (Err stop) built same = subst (λ (fs : List F). AreOut mid (map known fs)) (sym same) taken.out
+
+  pub none_failed : now ≡ first → SomeFailed (map known now) → ⊥
+  none_failed same some = at (subst (λ (fs : List F). SomeFailed (map known fs)) same some)
+    where
+      at : SomeFailed (map known first) → ⊥
+      at (place, folder, is, failed) = failed (taken.fresh place folder is)
+
+-- nothing was read
+pub none_by : (jobs read : List Job) (empty : Bool) → read ≡ jobs → empty ≡ (length read == 0) → empty ≡ true → jobs ≡ []
+none_by jobs read empty same is yes = sym same ∙ nil_from_length read (eqb-true (length read) 0 (sym is ∙ yes))
+  where
+    nil_from_length : (xs : List Job) → length xs ≡ 0 → xs ≡ []
+    nil_from_length [] e = refl
+    nil_from_length (x ∷ xs) e = absurd (omega (arith, e))

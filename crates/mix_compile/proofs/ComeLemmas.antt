@@ -1,8 +1,8 @@
 -- What the end of a build comes to.
-use Rattle.std.proofs.Common.{◌≡◌, ◌≢◌, ◌⊎◌, inl, inr, ℕ, zero, suc, ◌+◌, ◌<◌, ◌≤◌, Bool, true, false, List, [], ◌∷◌, ◌++◌, length, map, filter_map, count_by, Option, Some, None, Result, Ok, Err, Vec, is_some, slice_get, refl, sym, ◌∙◌, ap, subst, arith}
+use Rattle.std.proofs.Common.{◌≡◌, ◌≢◌, ◌⊎◌, inl, inr, ℕ, zero, suc, ◌+◌, ◌<◌, ◌≤◌, Bool, true, false, List, [], ◌∷◌, ◌++◌, length, map, filter_map, count_by, Option, Some, None, Result, Ok, Err, IfOk, Vec, is_some, slice_get, refl, sym, ◌∙◌, ap, subst, arith}
 use Rattle.std.specs.List.{cons_option}
 use Rattle.std.specs.declared.alloc.Global.{Global}
-use Rattle.std.proofs.lemmas.Option.{slice_get_within}
+use Rattle.std.proofs.lemmas.List.{length-map}
 use Rattle.mx_base.specs.Causes.{Rose}
 use Rattle.compile_model.specs.declared.job.Job.{Job}
 use Rattle.compile_model.specs.declared.outcome.Fate.{Fate}
@@ -26,7 +26,7 @@ use Rattle.mix_answer.specs.Texts.{died_line}
 use Rattle.mix_compile.specs.Building.{Bench, ComesTo, HasBuilt, IsCut, IsFinished}
 use Rattle.mix_compile.specs.Building.IsCut.{died, no_memory, tree_fault}
 use Rattle.mix_compile.specs.Making.{ComesBy, reply_by}
-use Rattle.mix_compile.specs.Site.{IsCalm, passage_of, site_of}
+use Rattle.mix_compile.specs.Site.{IsCalm, Passage, passage_of, site_of}
 
 -- ---- fates
 
@@ -96,3 +96,11 @@ module _ (nature : Nature) (o : Opening) (old mid new : Known) (before after : B
   pub comes_to : (fates : Result (Vec Fate Global) (Result Answer Stop)) → ComesBy one.fault one.fates.items text fates
       → ComesTo nature o (passage_of (site_of old before.maker) (site_of new after.maker)) one.history.items fates
   comes_to fates by = comes one.fault refl fates by
+
+-- one fate for each job
+pub fates_many : (nature : Nature) (o : Opening) (passage : Passage) (history : List Event) (fates : Result (Vec Fate Global) (Result Answer Stop))
+    → ComesTo nature o passage history fates → IfOk fates (λ all. length all.items ≡ length o.plan.jobs)
+fates_many nature o passage history (Ok fates) comes =
+    let many : length (replay o history).fates ≡ length (map Some fates.items) = ap length comes.whole in
+    omega (arith, many, places_all o history, length-map fates.items (λ (f : Fate). Some f))
+fates_many nature o passage history (Err answer) comes = tt

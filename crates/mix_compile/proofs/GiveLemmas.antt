@@ -91,3 +91,7 @@ giving_rose all first now giving some = elim (giving.rose some) [ inl failed ↦
 -- none is left
 pub giving_last : (all left : List FolderKnown) (first now : Known) → left ≡ [] → Giving all left first now → Giving all [] first now
 giving_last all left first now is giving = subst (λ (fs : List FolderKnown). Giving all fs first now) is giving
+
+pub no_items : {F K : Type 0} (known : F → K) (items : List F) → length items ≡ 0 → map known items ≡ []
+no_items known [] e = refl
+no_items known (x ∷ xs) e = absurd (omega (arith, e))

@@ -26,6 +26,12 @@ keeps_same env old new same = record {
   honest = λ compile known honest. subst (Honest compile known) (sym same) honest;
 }
 
+pub keeps_each : (env : List ℕ) (old new : BuildKey → Slot) → ((q : BuildKey) → new q ≡ old q) → KeepsTree env old new
+keeps_each env old new same = record {
+  elsewhere = λ q e. same q;
+  honest = λ compile known honest q. subst (IsHonestSlot compile known) (sym (same q)) (honest q);
+}
+
 pub keeps_then : (env : List ℕ) (old mid new : BuildKey → Slot) → KeepsTree env old mid → KeepsTree env mid new → KeepsTree env old new
 keeps_then env old mid new first next = record {
   elsewhere = λ q e. next.elsewhere q e ∙ first.elsewhere q e;
@@ -108,3 +114,9 @@ settled_both env apps old mid new rewrites clears q here = at (is_among apps q.a
         let apart : is_apart env apps q ≡ true = ap (λ (b : Bool). not b && is_in_env env q) is ∙ here in
         let same : mid q ≡ old q = subst (λ (b : Bool). RewrittenIf b (old q) (mid q)) of written in
         cleared ∙ ap (λ (b : Bool). cond b (emptied_slot (mid q)) (mid q)) apart ∙ ap emptied_slot same
+
+-- the name at a place of a list of references
+pub named_at : {X : Type 0} (f : X → List ℕ) (xs : List X) (i : ℕ) (x : X) → i < length xs → x ≡ get_or xs i x → f x ≡ get_or (map f xs) i (f x)
+named_at f [] i x within is = absurd (omega (arith, within))
+named_at f (y ∷ ys) zero x within is = ap f is
+named_at f (y ∷ ys) (suc i) x within is = named_at f ys i x (omega (arith, within)) is

@@ -1,6 +1,7 @@
 pub mod AppLemmas
 pub mod BuiltLemmas
 pub mod ComeLemmas
+pub mod FinishLemmas
 pub mod GiveLemmas
 pub mod KeepLemmas
 pub mod LendLemmas

@@ -1,5 +1,5 @@
 -- From the clauses of a build in folders to what the maker counted.
-use Rattle.std.proofs.Common.{◌≡◌, ◌≢◌, ◌↔◌, ◌⊎◌, inl, inr, ℕ, zero, suc, ◌+◌, ◌-◌, ◌^◌, ◌<◌, ◌≤◌, Bool, true, false, cond, List, [], ◌∷◌, length, map, max, min, nat_lt, count_by, Option, Some, None, Ok, refl, sym, ◌∙◌, ap, subst, arith}
+use Rattle.std.proofs.Common.{get_or, slice_set, ◌≡◌, ◌≢◌, ◌↔◌, ◌⊎◌, inl, inr, ℕ, zero, suc, ◌+◌, ◌-◌, ◌^◌, ◌<◌, ◌≤◌, Bool, true, false, cond, List, [], ◌∷◌, length, map, max, min, nat_lt, count_by, Option, Some, None, Ok, refl, sym, ◌∙◌, ap, subst, arith}
 use Rattle.std.specs.List.{All}
 use Rattle.std.proofs.lemmas.Bool.{cases_eq}
 use Rattle.mx_base.specs.Causes.{Counted, Rose}
@@ -134,3 +134,22 @@ has_built nature o first last before after old new one alone planned is ran hist
   where
     counted : IsCounted one.history.items old new
     counted = counted_ran nature.lasting one.history.items first last old new is counts ran
+
+-- ---- the list of the one partition
+
+one_item : {P : Type 0} (counted : P → Counts) (old new : MakerKnown) (items : List P) → Starts 1 old new (Ok (map counted items))
+    → (first : P) × (items ≡ first ∷ []) × (counted first ≡ fresh)
+one_item counted old new [] starts = absurd (omega (arith, starts.start.some (omega arith)))
+one_item counted old new (first ∷ []) starts = (first, refl, starts.start.each 0 (counted first) (omega arith))
+one_item counted old new (first ∷ next ∷ more) starts = absurd (omega (arith, starts.start.enough))
+
+pub first_fresh : {P : Type 0} (counted : P → Counts) (old new : MakerKnown) (items : List P) (read : P) → Starts 1 old new (Ok (map counted items))
+    → read ≡ get_or items 0 read → counted read ≡ fresh
+first_fresh {P} counted old new items read starts is =
+    let one = one_item counted old new items starts in
+    ap counted (is ∙ ap (λ (ps : List P). get_or ps 0 read) one.1) ∙ one.2
+
+pub one_set : {P : Type 0} (counted : P → Counts) (old new : MakerKnown) (items : List P) (last : P) → Starts 1 old new (Ok (map counted items))
+    → map counted (slice_set items 0 last) ≡ counted last ∷ []
+one_set {P} counted old new items last starts =
+    let one = one_item counted old new items starts in ap (λ (ps : List P). map counted (slice_set ps 0 last)) one.1

@@ -19,7 +19,7 @@ use Rattle.mix_compile.specs.Stopping.{CountsStop, StoreStops}
 
 -- ---- reading
 
-pub reads_stop : {X : Type 0} (fault : KeptFault) (old new : Known) → ReadsBuilds {X} (Err fault) old new → StoreStops (stop_of_kept fault) old new
+pub reads_stop : {X : Type 0} (fault : KeptFault) (old new : Known) → ReadsBuilds {X = X} (Err fault) old new → StoreStops (stop_of_kept fault) old new
 reads_stop Read old new (inl rose) = inl rose.0
 reads_stop Read old new (inr rose) = inr rose.0
 reads_stop Tree old new rose = absurd rose
@@ -47,12 +47,12 @@ reads_rest result old new reads home = record {
 
 -- ---- writing
 
-pub writes_stop : {X : Type 0} (fault : KeptFault) (old new : Known) → CountsWrites {X} (Err fault) old new → StoreStops (stop_of_kept fault) old new
+pub writes_stop : {X : Type 0} (fault : KeptFault) (old new : Known) → CountsWrites {X = X} (Err fault) old new → StoreStops (stop_of_kept fault) old new
 writes_stop Read old new counts = inl counts.0
 writes_stop Tree old new counts = counts.1
 writes_stop OutOfMemory old new calm = calm
 
-pub rewriting_stop : {X : Type 0} (fault : KeptFault) (old new : Known) → CountsRewriting {X} (Err fault) old new → StoreStops (stop_of_kept fault) old new
+pub rewriting_stop : {X : Type 0} (fault : KeptFault) (old new : Known) → CountsRewriting {X = X} (Err fault) old new → StoreStops (stop_of_kept fault) old new
 rewriting_stop Read old new (inl rose) = inl rose.0
 rewriting_stop Read old new (inr rose) = inr rose.1
 rewriting_stop Tree old new counts = counts.1

@@ -11,7 +11,7 @@ use Rattle.compile_model.specs.Seq.{seq}
 use Rattle.staleness.specs.declared.kept.Kept.{Kept}
 use Rattle.honest_tree.specs.Given.{Given, NoClash}
 use Rattle.honest_tree.specs.Honest.{Honest}
-use Rattle.honest_tree.specs.KeptOf.{AreKeptOf}
+use Rattle.honest_tree.specs.KeptOf.{AreKeptOf, IsKeptAt}
 use Rattle.honest_tree.proofs.HonestLemmas.{more_tree}
 use Rattle.kept_tree.specs.Clearing.{Clears, is_among, is_apart, is_in_env}
 use Rattle.kept_tree.specs.Faults.{IsCalm as IsCalmStore}
@@ -145,8 +145,16 @@ job_stays plan old new clears place job here =
     let q = key_of plan.env job in
     clears q ∙ ap (λ (b : Bool). cond (not b && is_in_env plan.env q) (emptied_slot (old q)) (old q)) (job_among plan.jobs place job here)
 
+-- what is kept of the jobs is kept still
+pub kept_stays : (plan : Plan) (old new : BuildKey → Slot) (kept : List (Option Kept)) → Clears (is_apart plan.env (map (λ job. job.app) plan.jobs)) old new
+    → AreKeptOf old plan kept → AreKeptOf new plan kept
+kept_stays plan old new kept clears are = record {
+  each = are.each;
+  at = λ place job entry here is. subst (λ (s : Slot). IsKeptAt s entry) (sym (job_stays plan old new clears place job here)) (are.at place job entry here is);
+}
+
 pub record Before (plan : Plan) (kept : List (Option Kept)) (old mid : Known) : Type 0 where
-  pub kept : AreKeptOf old.slot plan kept
+  pub entries : AreKeptOf old.slot plan kept
   pub whole : All (λ entry. IfSome entry IsWhole) kept
   pub cleared : Clears (is_apart plan.env (map (λ job. job.app) plan.jobs)) old.slot mid.slot
   pub tree : KeepsTree plan.env old.slot mid.slot
@@ -164,7 +172,7 @@ module _ (nature : Nature) (asked : Asked) (alone : asked.partitions ≡ 1) (pla
   begins : Begins plan old.slot asked.partitions o
   begins = record {
     same = refl;
-    kept = before.kept;
+    kept = before.entries;
     some = omega arith;
     few = omega (arith, alone);
   }
@@ -182,7 +190,7 @@ module _ (nature : Nature) (asked : Asked) (alone : asked.partitions ≡ 1) (pla
 
   sound : (known : List Given) → Trusts nature plan old.slot known → Sound nature.compile o
   sound known trusts =
-      kept_sound nature.compile plan planned kept old.slot known before.kept (told trusts.honest) trusts.tree trusts.apart before.whole
+      kept_sound nature.compile plan planned kept old.slot known before.entries (told trusts.honest) trusts.tree trusts.apart before.whole
 
   -- the tree after the build
   built_honest : (known : List Given) → Trusts nature plan old.slot known → Honest nature.compile (known ++ inputs_of nature.compile plan.jobs) new.slot
@@ -191,7 +199,7 @@ module _ (nature : Nature) (asked : Asked) (alone : asked.partitions ≡ 1) (pla
   stale_runs : (known : List Given) → Trusts nature plan old.slot known → (opening : Opening) → Begins plan old.slot asked.partitions opening
       → m1.runs ≤ m0.runs + stale_places nature opening
   stale_runs known trusts opening other =
-      let same = same_stale nature.compile plan old.slot kept opening.kept 1 opening.partitions before.kept other.kept (told trusts.honest) in
+      let same = same_stale nature.compile plan old.slot kept opening.kept 1 opening.partitions before.entries other.kept (told trusts.honest) in
       let by : count_below (is_compiled nature.compile (record { plan = plan; kept = opening.kept; partitions = opening.partitions })) (length plan.jobs)
       ≡ stale_places nature opening =
       ap (λ (p : Plan). count_below (is_compiled nature.compile (record { plan = p; kept = opening.kept; partitions = opening.partitions })) (length p.jobs)) (sym other.same) in
@@ -287,7 +295,7 @@ module _ (nature : Nature) (asked : Asked) (alone : asked.partitions ≡ 1) (pla
         let is = all_seq known trusts in
         subst (λ (fs : List Fate). IsTree plan fs last.slot) is
         (settled_tree nature.compile plan planned kept 1 known fates is trusts.apart
-        (kept_means nature.compile plan planned kept old.slot known before.kept (told trusts.honest) trusts.tree trusts.apart)
+        (kept_means nature.compile plan planned kept old.slot known before.entries (told trusts.honest) trusts.tree trusts.apart)
         new.slot last.slot home (built_honest known trusts)
         (λ place job here. subst (λ (fs : List (Option Fate)). HoldsAt (HoldsBy o fs place (at fs place)) (new.slot (key_of plan.env job))) finished.whole
         (made.left place job here)) settles)

@@ -5,6 +5,7 @@ ghost use Rattle.mix_compile.specs.Making.{ComesBy};
 
 use compile_model::Fate;
 use mix_answer::{Answer, Status, Stop};
+use mx_base::push_decimal;
 use partition_core::Event;
 use partition_crew::{BuildFault, One};
 use std::alloc::{AllocError, Global};
@@ -16,14 +17,16 @@ pub(crate) struct Made {
     pub(crate) history: Vec<Event>,
 }
 
-// The one partition died.
-const DIED: &[u8] = b"mixc: no partition left, 1 died\n";
-
 /// What is said where the one partition died.
 pub(crate) fn died_text(alloc: Global) -> Result<Vec<u8>, AllocError>
     ensures { IfOk result (λ text. text.items ≡ died_line 1) }
 {
-    Vec::from_slice(alloc, DIED)
+    let mut text = Vec::from_slice(alloc, b"mixc: ")?;
+    text.extend_from_slice(b"no partition left, ")?;
+    push_decimal(alloc, &mut text, 1)?;
+    text.extend_from_slice(b" died")?;
+    text.extend_from_slice(b"\n")?;
+    Ok(text)
 }
 
 impl Made {

@@ -1,6 +1,6 @@
-use Rattle.std.proofs.Common.{◌≡◌, List, [], ◌∷◌, ◌++◌, map, ap, ◌∙◌}
+use Rattle.std.proofs.Common.{◌≡◌, List, [], ◌∷◌, ◌++◌, map, ap, ◌∙◌, arith}
 use Rattle.tree_store.specs.FolderKnown.{FolderKnown}
-use Rattle.mix_compile.proofs.GiveLemmas.{Giving, giving_first, giving_last, giving_more, giving_out, giving_rose}
+use Rattle.mix_compile.proofs.GiveLemmas.{Giving, giving_first, giving_last, giving_more, giving_out, giving_rose, no_items}
 use Rattle.mix_compile.proofs.LendLemmas.{map_more, out_last}
 use Rattle.mix_compile.proofs.folders.give_back.Goals as goal
 
@@ -25,7 +25,7 @@ giving-preserved g c =
 pub returns-clause-back : goal.returns-clause-back
 returns-clause-back g c q =
     let known = g.S.F.Folder.known in
-    (giving_last (map known c.args.folders.items) (map known c.giving.folders.items) (g.S.Store.known c.args.store.now) (g.S.Store.known c.giving.store) ? c.giving.invariant).whole q
+    (giving_last (map known c.args.folders.items) (map known c.giving.folders.items) (g.S.Store.known c.args.store.now) (g.S.Store.known c.giving.store) (no_items known c.giving.folders.items (omega (arith, c.in_default.ensures.cases.0, c.giving.folders.ok.0))) c.giving.invariant).whole q
 
 pub returns-clause-rest : goal.returns-clause-rest
 returns-clause-rest g c = c.giving.invariant.rest
@@ -34,7 +34,7 @@ pub returns-clause-rose : goal.returns-clause-rose
 returns-clause-rose g c =
     let known = g.S.F.Folder.known in
     giving_rose (map known c.args.folders.items) (g.S.Store.known c.args.store.now) (g.S.Store.known c.giving.store)
-    (giving_last (map known c.args.folders.items) (map known c.giving.folders.items) (g.S.Store.known c.args.store.now) (g.S.Store.known c.giving.store) ? c.giving.invariant)
+    (giving_last (map known c.args.folders.items) (map known c.giving.folders.items) (g.S.Store.known c.args.store.now) (g.S.Store.known c.giving.store) (no_items known c.giving.folders.items (omega (arith, c.in_default.ensures.cases.0, c.giving.folders.ok.0))) c.giving.invariant)
 
 pub returns-clause-kept : goal.returns-clause-kept
 returns-clause-kept g c none = (c.giving.invariant.kept none).1
