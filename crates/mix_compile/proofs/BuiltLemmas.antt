@@ -127,7 +127,7 @@ module _ {F : Type 0} (known : F → FolderKnown) (nature : Nature) (plan : Plan
 
 -- nothing was read
 pub none_by : (jobs read : List Job) (empty : Bool) → read ≡ jobs → empty ≡ (length read == 0) → empty ≡ true → jobs ≡ []
-none_by jobs read empty same is yes = sym same ∙ nil_from_length read (eqb-true (length read) 0 (sym is ∙ yes))
+none_by jobs read empty same is e = sym same ∙ nil_from_length read (eqb-true (length read) 0 (sym is ∙ e))
   where
     nil_from_length : (xs : List Job) → length xs ≡ 0 → xs ≡ []
     nil_from_length [] e = refl

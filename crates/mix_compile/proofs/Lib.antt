@@ -10,7 +10,6 @@ pub mod MadeLemmas
 pub mod RefuseLemmas
 pub mod SoundLemmas
 pub mod StartLemmas
-pub mod StopLemmas
 pub mod TakeLemmas
 pub mod TreeLemmas
 pub mod WholeLemmas

@@ -177,7 +177,7 @@ module _ (nature : Nature) (asked : Asked) (alone : asked.partitions ≡ 1) (pla
     few = omega (arith, alone);
   }
 
-  recorded : IsRecorded plan asked.partitions whole_way history
+  abbrev recorded : IsRecorded plan asked.partitions whole_way history
   recorded = record {
     opening = o;
     begins = begins;

@@ -41,7 +41,7 @@ returns-in_err-plan-clause-stopped g c =
     (store_ends nature (asked_of build c.args.trace) plan Memory s0 s1 m0 m0 (came_to (stopped Memory) []) c.in_ok-kept.ensures.counts refl refl refl))
 
 pub build-requires-clause-kept : goal.build-requires-clause-kept
-build-requires-clause-kept g c =
+build-requires-clause-kept g c κs within =
     let nature = nature_by (g.M.P.Meaning.honest × g.S.F.Folder.tells) g.M.P.Partition.lasting g.M.P.Meaning.compile_of in
     let plan : Plan = c.args.plan in
     let s0 : Known = g.S.Store.known c.args.store.now in
