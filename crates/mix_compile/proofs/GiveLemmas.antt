@@ -64,15 +64,18 @@ giving_more all whole left folder first mid now is giving back = record {
   later = omega (arith, giving.later, back.cause.later);
   rose = λ some. elim (giving.rose some) [
     | inl failed ↦ elim (failed_more left folder (subst SomeFailed is failed)) [
-        | inl others ↦ inl others
-        | inr own ↦ inr (raised first.returned mid.returned now.returned giving.later (back.cause.rose (some_faults folder.faults own)))
-      ]
+      | inl others ↦ inl others
+      | inr own ↦ inr (raised first.returned mid.returned now.returned giving.later (back.cause.rose (some_faults folder.faults own)))
+    ]
     | inr rose ↦ inr (stays first.returned mid.returned now.returned rose back.cause.later)
   ];
   kept = λ none.
       let calm = giving.kept none in
-      let own : folder.faults ≡ 0 = elim (cases_eq folder.faults 0) [ inl zero_faults ↦ zero_faults | inr some ↦ absurd
-          (calm.0 (subst SomeFailed (sym is) (failed_last left folder some))) ] in
+      let own : folder.faults ≡ 0 = elim (cases_eq folder.faults 0) [
+        | inl zero_faults ↦ zero_faults
+        | inr some ↦ absurd
+            (calm.0 (subst SomeFailed (sym is) (failed_last left folder some)))
+      ] in
       (λ failed. calm.0 (subst SomeFailed (sym is) (failed_before left folder failed)), back.cause.kept (no_faults folder.faults own) ∙ calm.1);
 }
   where

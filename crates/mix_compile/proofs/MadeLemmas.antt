@@ -132,8 +132,7 @@ module _ (plan : Plan) (planned : ArePlanned plan.jobs) (first now : List Folder
       × (old (key_of plan.env job) ≡ Here was.held) × (new (key_of plan.env job) ≡ Here is.held)
   made_at place job here =
       let was = folder_at plan.env plan.jobs first taken.keys place job here in
-      let is = folder_at plan.env plan.jobs now (keys ∙ taken.keys) place job here in
-      (
+      let is = folder_at plan.env plan.jobs now (keys ∙ taken.keys) place job here in (
         was.0,
         is.0,
         was.1,

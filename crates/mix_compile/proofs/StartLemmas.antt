@@ -115,8 +115,7 @@ has_built nature o first last before after old new one alone planned is ran hist
     whole = λ other some. other (ending.tree.1 some);
     died = λ n e.
         let single : n ≡ 1 = ending.just_one n e in
-        let some : last.deaths ≢ 0 = ending.died.0 (e ∙ ap (λ (m : ℕ). Some (NoPartitionLeft m)) single) in
-        (
+        let some : last.deaths ≢ 0 = ending.died.0 (e ∙ ap (λ (m : ℕ). Some (NoPartitionLeft m)) single) in (
           died_rose nature.lasting one.history.items first last old new is counts ran some,
           died_mortal nature.lasting one.history.items first last old new is counts ran some,
           died_once nature.lasting one.history.items first last old new is counts ran some (lone_death o one.history.items alone history.legal),

@@ -314,8 +314,7 @@ module _ (nature : Nature) (asked : Asked) (alone : asked.partitions ≡ 1) (pla
           asked_for = made.asked ∙ ap (λ (n : ℕ). raised_by (wanted plan.jobs n) m0.asked) (sym alone);
           reads = calm.0 ∙ calm_store.0;
           trees = calm.1 ∙ calm_store.1;
-        })) keeps (λ known trusts d.
-        (
+        })) keeps (λ known trusts d. (
           done_tree known trusts settles,
           text_is ∙ ap (λ (fs : List Fate). told_of asked.trace plan fs history) (all_seq known trusts),
           status_is ∙ ap status_by (all_seq known trusts),

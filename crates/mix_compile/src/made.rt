@@ -78,10 +78,7 @@ fn fates_by(
 }
 
 // The fates that there are.
-fn all_fates(
-    alloc: Global,
-    fates: Vec<Option<Fate>>,
-) -> Result<Vec<Fate>, Result<Answer, Stop>>
+fn all_fates(alloc: Global, fates: Vec<Option<Fate>>) -> Result<Vec<Fate>, Result<Answer, Stop>>
     ensures { ComesBy None fates.items [] result }
 {
     let mut all = Vec::new(alloc);

@@ -1,10 +1,11 @@
 // What is done once each place has its fate.
-ghost use Rattle.std.specs.Prelude.{◌≡◌, ◌≢◌, IfOk, OnOk, length, map};
+ghost use Rattle.std.specs.Prelude.{◌≡◌, ◌≢◌, ◌++◌, IfOk, OnOk, length, map};
 ghost use Rattle.std.specs.List.{AllPairs, list_any};
 ghost use Rattle.compile_model.specs.Planned.{ArePlanned};
 ghost use Rattle.tree_store.specs.Slot.{AllHere};
 ghost use Rattle.kept_tree.specs.Faults.{KeepsRest};
 ghost use Rattle.mix_report.specs.Report.{is_failed};
+ghost use Rattle.mix_report.specs.Trace.{trace};
 ghost use Rattle.mix_compile.specs.Right.{status_by, told_of};
 ghost use Rattle.mix_compile.specs.Settling.{KeepsTree, Rewrites, Settles, built_apps};
 ghost use Rattle.mix_compile.specs.Stopping.{CountsStop};
@@ -119,11 +120,25 @@ fn tell(
     requires { length fates.now ≡ length plan.now.jobs }
     ensures { IfOk result (λ text. text.items ≡ told_of traced plan.now fates.now history.now) }
 {
-    let mut text = report(alloc, plan, fates)?.into_vec();
+    let text = report(alloc, plan, fates)?.into_vec();
     if traced {
-        let lines = trace(alloc, plan, history)?;
-        text.extend_from_slice(lines.as_slice())?;
+        with_trace(alloc, plan, history, text)
+    } else {
+        Ok(text)
     }
+}
+
+// The text with the trace behind it.
+fn with_trace(
+    alloc: Global,
+    plan: &Plan,
+    history: &[Event],
+    mut text: Vec<u8>,
+) -> Result<Vec<u8>, AllocError>
+    ensures { IfOk result (λ whole. whole.items ≡ text.items ++ trace plan.now.jobs history.now) }
+{
+    let lines = trace(alloc, plan, history)?;
+    text.extend_from_slice(lines.as_slice())?;
     Ok(text)
 }
 

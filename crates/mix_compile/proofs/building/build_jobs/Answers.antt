@@ -137,7 +137,7 @@ returns-in-Err-clause-unbegun g c =
         (
           ap (λ (k : Known). k.faults) c.give_back.ensures.rest ∙ c.in_ok-folders.ensures.counts.0,
           c.give_back.ensures.kept (none_failed known nature plan c.requires.planned kept s0.slot s1.slot first now m0 m1 taken c.in-Err.ensures.folders)
-          ∙ c.in_ok-folders.ensures.counts.1,
+              ∙ c.in_ok-folders.ensures.counts.1,
         ),
         c.in-Err.ensures.stopped,
       );
