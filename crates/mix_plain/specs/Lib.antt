@@ -1,0 +1,5 @@
+pub mod Cleans
+pub mod Compile
+pub mod Site
+pub mod Tells
+pub mod Texts
