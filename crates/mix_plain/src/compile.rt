@@ -78,10 +78,52 @@ fn build<S: Store, C: Compiler>(
         (site_of (S.known store.new) (C.deaths compiler.new))) (reply_in result) }
     ensures keeps { KeepsRest (S.known store.old) (S.known store.new) }
 {
+    // Made before the compiler may die, so that want of memory never stands for a death.
+    let line = Vec::from_slice(alloc, b"mixc: no partition left, 1 died\n")?;
     clear_apart(alloc, store, &plan.env, &[])?;
     match seq_build(alloc, plan, compiler) {
         Ok(fates) => finish(alloc, plan, fates.as_slice(), store),
-        Err(SeqFault::Died { .. }) => died(alloc),
+        Err(SeqFault::Died { .. }) => Ok(Answer {
+            status: Status::Died,
+            text: line,
+        }),
         Err(SeqFault::OutOfMemory) => Err(Stop::Memory),
     }
+}
+
+// Puts what was built into an empty environment, and reports it.
+fn finish<S: Store>(
+    alloc: Global,
+    plan: &Plan,
+    fates: &[Fate],
+    store: &mut S,
+) -> Result<Answer, Stop> {
+    fill_env(alloc, plan, fates, store)?;
+    let text = report(alloc, plan, fates)?;
+    Ok(Answer {
+        status: status_by(fates),
+        text: text.into_vec(),
+    })
+}
+
+fn status_by(fates: &[Fate]) -> Status
+    ensures { result ≡ status_by fates.now }
+{
+    if any_failed(fates) {
+        Status::SomeFailed
+    } else {
+        Status::Done
+    }
+}
+
+fn any_failed(fates: &[Fate]) -> bool
+    ensures { result ≡ list_any is_failed fates.now }
+{
+    fates.iter().any(|fate| is_failed(fate))
+}
+
+fn is_failed(fate: &Fate) -> bool
+    ensures { result ≡ is_failed fate.now }
+{
+    matches!(fate, Fate::Failed(_))
 }

@@ -1,99 +1,41 @@
-// Putting the built files.
-ghost use Rattle.std.specs.Prelude.{◌≡◌, ℕ, length, OnOk, OnErr, false, option_map};
-ghost use Rattle.mx_base.specs.Causes.{Counted};
-ghost use Rattle.mx_base.specs.Blame.{fails};
-ghost use Rattle.tree_store.specs.Blame.{blame_of};
-ghost use Rattle.tree_store.specs.FolderKnown.{IsUnmarked};
-ghost use Rattle.tree_store.specs.Holding.{unmarked, with_all};
-ghost use Rattle.tree_store.specs.declared.key.BuildKey.{BuildKey};
-ghost use Rattle.tree_store.specs.Key.{is_same_build};
-ghost use Rattle.tree_store.specs.Slot.{ChangesSlot, AllHere, filled_slot};
-ghost use Rattle.mix_main.specs.Answer.{Fails};
-ghost use Rattle.mix_main.specs.World.{Keeps};
-ghost use Rattle.mix_main.specs.Tree.{files_of, StaysElsewhere};
-ghost use Rattle.mix_main.specs.Filling.{filled_by, filled_once, BeginsHeld, BeginsSlot, BeginsEnv};
+// Putting what was built, each build with its mark.
+ghost use Rattle.std.specs.Prelude.{◌≡◌, length};
 
-use crate::answer::Stop;
-use compile_model::{Fate, Job};
-use mx_base::{AppName, File};
-use std::alloc::Global;
+use build_manifest::{mark_of, write_mark};
+use compile_model::{Fate, Input, Job, Outcome, Plan};
+use mix_answer::Stop;
+use mx_base::{AppName, Bytes, File, Shared};
+use std::alloc::{AllocError, Global};
 use tree_store::{Folder, Store, StoreFault};
 
-/// Puts the files of each built place into the folder of its app.
-#[tactic(auto, using(crate::proofs::TreeLemmas::elsewhere_more))]
+/// Puts the files of each built place into the folder of its app, and then its mark, into an empty environment.
 pub(crate) fn fill_env<S: Store>(
     alloc: Global,
-    env: &AppName,
-    jobs: &[Job],
+    plan: &Plan,
     fates: &[Fate],
     store: &mut S,
 ) -> Result<(), Stop>
-    requires lengths { length fates.now ≡ length jobs.now }
-    requires here { AllHere (S.known store.old).slot }
-    ensures filled { OnOk result ((q : BuildKey)
-        → (S.known store.new).slot q ≡ filled_by env.now q jobs.now fates.now
-        ((S.known store.old).slot q)) }
-    ensures begun { OnErr result (BeginsEnv env.now jobs.now fates.now (S.known store.old).slot
-        (S.known store.new).slot) }
-    ensures elsewhere { StaysElsewhere env.now (S.known store.old).slot (S.known store.new).slot }
-    ensures keeps { Keeps (S.known store.old) (S.known store.new) }
-    ensures fails { Fails result (S.known store.old) (S.known store.new) }
+    requires { length fates.now ≡ length plan.now.jobs }
 {
-    for (place, job) in jobs.iter().enumerate() {
-        fill_job(alloc, env, job, &fates[place], store)?;
+    for (place, job) in plan.jobs.as_slice().iter().enumerate() {
+        if let Fate::Built(outcome) = &fates[place] {
+            fill_app(alloc, &plan.env, job, fates, outcome.get(), store)?;
+        }
     }
     Ok(())
-}
-
-// Puts the files of a place, where it was built.
-fn fill_job<S: Store>(
-    alloc: Global,
-    env: &AppName,
-    job: &Job,
-    fate: &Fate,
-    store: &mut S,
-) -> Result<(), Stop>
-    requires { AllHere (S.known store.old).slot }
-    ensures filled { OnOk result ((q : BuildKey)
-        → (S.known store.new).slot q ≡ filled_once
-        (is_same_build (record { env = env.now; app = job.now.app }) q) fate.now
-        ((S.known store.old).slot q)) }
-    ensures begun { OnErr result (BeginsSlot (files_of fate.now)
-        ((S.known store.old).slot (record { env = env.now; app = job.now.app }))
-        ((S.known store.new).slot (record { env = env.now; app = job.now.app }))) }
-    ensures others { (q : BuildKey) → is_same_build (record { env = env.now; app = job.now.app }) q
-        ≡ false → (S.known store.new).slot q ≡ (S.known store.old).slot q }
-    ensures keeps { Keeps (S.known store.old) (S.known store.new) }
-    ensures fails { Fails result (S.known store.old) (S.known store.new) }
-{
-    match fate {
-        Fate::Built(outcome) => {
-            fill_app(alloc, env, &job.app, outcome.get().files.as_slice(), store)
-        }
-        Fate::Failed(_) | Fate::Skipped { .. } => Ok(()),
-    }
 }
 
 fn fill_app<S: Store>(
     alloc: Global,
     env: &AppName,
-    app: &AppName,
-    files: &[File],
+    job: &Job,
+    fates: &[Fate],
+    outcome: &Outcome,
     store: &mut S,
-) -> Result<(), Stop>
-    requires { AllHere (S.known store.old).slot }
-    ensures filled { OnOk result (ChangesSlot (record { env = env.now; app = app.now })
-        (filled_slot files.now) (S.known store.old).slot (S.known store.new).slot) }
-    ensures begun { OnErr result (BeginsSlot files.now
-        ((S.known store.old).slot (record { env = env.now; app = app.now }))
-        ((S.known store.new).slot (record { env = env.now; app = app.now }))) }
-    ensures others { (q : BuildKey) → is_same_build (record { env = env.now; app = app.now }) q
-        ≡ false → (S.known store.new).slot q ≡ (S.known store.old).slot q }
-    ensures keeps { Keeps (S.known store.old) (S.known store.new) }
-    ensures fails { Fails result (S.known store.old) (S.known store.new) }
-{
-    let mut folder = store.folder(alloc, env, app)?;
-    let filled = put_anew(alloc, files, &mut folder);
+) -> Result<(), Stop> {
+    let mark = mark_text(alloc, job, fates, outcome)?;
+    let mut folder = store.folder(alloc, env, &job.app)?;
+    let filled = put_marked(alloc, outcome.files.as_slice(), mark.as_slice(), &mut folder);
     store.give_back(folder);
     match filled {
         Ok(()) => Ok(()),
@@ -101,32 +43,44 @@ fn fill_app<S: Store>(
     }
 }
 
-// Puts files into a folder, whose mark is taken away first.
-fn put_anew<F: Folder>(alloc: Global, files: &[File], folder: &mut F) -> Result<(), StoreFault>
-    ensures held { OnOk result ((F.known folder.new).held
-        ≡ option_map (λ held. with_all files.now (unmarked held)) (F.known folder.old).held) }
-    ensures begun { OnErr result (BeginsHeld files.now (F.known folder.old).held
-        (F.known folder.new).held) }
-    ensures key { (F.known folder.new).key ≡ (F.known folder.old).key }
-    ensures cause { Counted (F.known folder.old).faults (F.known folder.new).faults
-        (fails blame_of result) }
-{
-    folder.unmark(alloc)?;
-    put_each(alloc, files, folder)
+// The text of the mark of a job, whose needs came to these fates, and its outcome.
+fn mark_text(
+    alloc: Global,
+    job: &Job,
+    fates: &[Fate],
+    outcome: &Outcome,
+) -> Result<Bytes, AllocError> {
+    let needs = outcomes_of(alloc, fates, job.needs.as_slice())?;
+    let input = Input { job, needs: needs.as_slice() };
+    let mark = mark_of(alloc, &input, outcome)?;
+    write_mark(alloc, &mark)
 }
 
-fn put_each<F: Folder>(alloc: Global, files: &[File], folder: &mut F) -> Result<(), StoreFault>
-    requires { IsUnmarked (F.known folder.old) }
-    ensures held { OnOk result ((F.known folder.new).held
-        ≡ option_map (with_all files.now) (F.known folder.old).held) }
-    ensures begun { OnErr result (BeginsHeld files.now (F.known folder.old).held
-        (F.known folder.new).held) }
-    ensures key { (F.known folder.new).key ≡ (F.known folder.old).key }
-    ensures cause { Counted (F.known folder.old).faults (F.known folder.new).faults
-        (fails blame_of result) }
-{
+// The outcomes of these places, which are built.
+fn outcomes_of(
+    alloc: Global,
+    fates: &[Fate],
+    needs: &[usize],
+) -> Result<Vec<Shared<Outcome>>, AllocError> {
+    let mut outcomes = Vec::with_capacity(alloc, needs.len())?;
+    for need in needs {
+        if let Some(Fate::Built(outcome)) = fates.get(*need) {
+            outcomes.push(outcome.clone()?)?;
+        }
+    }
+    Ok(outcomes)
+}
+
+// Puts files into an empty folder, and then the mark beside them.
+fn put_marked<F: Folder>(
+    alloc: Global,
+    files: &[File],
+    mark: &[u8],
+    folder: &mut F,
+) -> Result<(), StoreFault> {
+    folder.unmark(alloc)?;
     for file in files {
         folder.put(alloc, &file.path, file.bytes.as_slice())?;
     }
-    Ok(())
+    folder.mark(alloc, mark)
 }
