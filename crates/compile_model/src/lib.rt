@@ -13,4 +13,4 @@ pub use echo::EchoCompiler;
 pub use how::{How, Texts};
 pub use job::{Job, Jobs, Origin, Places, Plan};
 pub use outcome::{Fate, Outcome, Twin, Verdict};
-pub use seq::{SeqFault, seq_build};
+pub use seq::{SeqFault, outcomes, seq_build};

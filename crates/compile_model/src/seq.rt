@@ -122,8 +122,8 @@ fn missing(fates: &[Fate], needs: &[u32]) -> Option<u32>
     None
 }
 
-// The outcomes of those needs that are built.
-fn outcomes(
+/// The outcomes of those needs that are built, in their order.
+pub fn outcomes(
     alloc: Global,
     fates: &[Fate],
     needs: &[u32],

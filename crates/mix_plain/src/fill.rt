@@ -2,9 +2,9 @@
 ghost use Rattle.std.specs.Prelude.{◌≡◌, length};
 
 use build_manifest::{mark_of, write_mark};
-use compile_model::{Fate, Input, Job, Outcome, Plan};
+use compile_model::{Fate, Input, Job, Outcome, Plan, outcomes};
 use mix_answer::Stop;
-use mx_base::{AppName, Bytes, File, Shared};
+use mx_base::{AppName, Bytes, File};
 use std::alloc::{AllocError, Global};
 use tree_store::{Folder, Store, StoreFault};
 
@@ -50,25 +50,10 @@ fn mark_text(
     fates: &[Fate],
     outcome: &Outcome,
 ) -> Result<Bytes, AllocError> {
-    let needs = outcomes_of(alloc, fates, job.needs.as_slice())?;
+    let needs = outcomes(alloc, fates, job.needs.as_slice())?;
     let input = Input { job, needs: needs.as_slice() };
     let mark = mark_of(alloc, &input, outcome)?;
     write_mark(alloc, &mark)
-}
-
-// The outcomes of these places, which are built.
-fn outcomes_of(
-    alloc: Global,
-    fates: &[Fate],
-    needs: &[usize],
-) -> Result<Vec<Shared<Outcome>>, AllocError> {
-    let mut outcomes = Vec::with_capacity(alloc, needs.len())?;
-    for need in needs {
-        if let Some(Fate::Built(outcome)) = fates.get(*need) {
-            outcomes.push(outcome.clone()?)?;
-        }
-    }
-    Ok(outcomes)
 }
 
 // Puts files into an empty folder, and then the mark beside them.
