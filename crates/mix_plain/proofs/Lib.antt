@@ -1,1 +1,5 @@
-mod PutLemmas
+pub mod FillLemmas
+pub mod HonestLemmas
+pub mod PlanLemmas
+pub mod PutLemmas
+pub mod WorkLemmas

@@ -1,135 +1,136 @@
--- What stands in a folder while files are put into it.
-use Rattle.std.proofs.Common.{◌≡◌, ℕ, suc, ◌+◌, ◌<◌, not, cond, Option, Some, None, option_map, List, [], ◌∷◌, ◌++◌, length, get_or, take, drop, refl, sym, ◌∙◌, ap, subst, drop-cons}
-use Rattle.std.proofs.lemmas.List.{append-nil, take-append-drop, take_more}
-use Rattle.std.specs.declared.cmp.Ordering.{Ordering}
-use Rattle.std.specs.declared.cmp.Ordering.TheVariants.{Less}
-use Rattle.std.specs.Ordering.{match_ordering, is_eq}
+-- What stands in a build while it is filled.
+use Rattle.std.proofs.Common.{◌≡◌, ◌⊎◌, inl, inr, ℕ, Bool, true, false, cond, List, [], Option, Some, None, IfSome, option_map, Result, Ok, Err, OnOk, IsTrue, refl, sym, ◌∙◌, ap, subst}
 use Rattle.mx_base.specs.declared.file.File.{File}
-use Rattle.mx_base.specs.Order.{text_cmp, IsBefore, AreInOrder, paths_of}
+use Rattle.mx_base.specs.Order.{AreInOrder}
+use Rattle.compile_model.specs.declared.job.Job.{Job}
+use Rattle.compile_model.specs.declared.job.Plan.{Plan}
+use Rattle.compile_model.specs.declared.outcome.Fate.{Fate}
+use Rattle.compile_model.specs.declared.outcome.Outcome.{Outcome}
+use Rattle.compile_model.specs.Seq.{outcomes_of}
+use Rattle.build_manifest.specs.MarkOf.{mark_of}
+use Rattle.build_manifest.specs.Text.{Spells}
 use Rattle.tree_store.specs.declared.holding.Holding.{Holding}
-use Rattle.tree_store.specs.Files.{put_file, without_file, cut_at}
-use Rattle.tree_store.specs.FolderKnown.{FolderKnown, IsStopped}
-use Rattle.tree_store.specs.FolderKnown.IsStopped.{begun as opened, not_begun}
-use Rattle.tree_store.specs.Holding.{nothing, only_files, unmarked, with_all}
+use Rattle.tree_store.specs.declared.key.BuildKey.{BuildKey}
+use Rattle.tree_store.specs.declared.store.StoreFault.{StoreFault}
+use Rattle.tree_store.specs.FolderKnown.{FolderKnown, IsBare, StopsIn, Writes}
+use Rattle.tree_store.specs.Holding.{marked, nothing, only_files, with_all}
+use Rattle.tree_store.specs.Key.{is_same_build}
 use Rattle.tree_store.specs.Moment.{Part, leaves}
-use Rattle.tree_store.specs.Moment.Part.{Whole, Untouched, Gone, Begun, Those}
-use Rattle.tree_store.specs.Moment.Write.{Put, Unmark}
-use Rattle.tree_store.proofs.OrderLemmas.{less_back}
-use Rattle.mix_main.specs.Tree.{cut_file, begun}
-use Rattle.mix_main.specs.Filling.{BeginsHeld}
+use Rattle.tree_store.specs.Moment.Write.{Mark}
+use Rattle.tree_store.specs.Slot.{Slot, SetsSlot, emptied_slot}
+use Rattle.tree_store.specs.Slot.Slot.{Here, Out}
+use Rattle.tree_store.proofs.FilesLemmas.{put_all_in_order}
+use Rattle.tree_store.proofs.MomentLemmas.{if_told, stops_at_write, stops_then}
+use Rattle.tree_store.proofs.OrderLemmas.{ties_itself}
+use Rattle.tree_store.proofs.StoreLemmas.{same_key}
+use Rattle.kept_tree.specs.Clearing.{is_in_env}
+use Rattle.kept_tree.specs.Tree.{IsBuiltAt}
+use Rattle.partition_crew.proofs.Stopping.{stops_wider}
+use Rattle.mix_plain.specs.Filling.{FillsBuild, FillsPartly, IsFilledBy, IsFilling, IsFillingAt}
 
-before_at : (a : List ℕ) (ps : List File) (f : File) (post : List File) → IsBefore a (paths_of (ps ++ f ∷ post)) → text_cmp a f.path ≡ Less
-before_at a [] f post b = b.0
-before_at a (p ∷ ps) f post b = before_at a ps f post b.1
+-- ---- a folder
 
--- a file put behind all that stand before it
-put_behind : (pre : List File) (f c : File) (post : List File) → AreInOrder (pre ++ f ∷ post) → c.path ≡ f.path → put_file c pre ≡ pre ++ c ∷ []
-put_behind [] f c post o e = refl
-put_behind (p ∷ ps) f c post o e =
-    ap (λ (r : Ordering). match_ordering r (c ∷ p ∷ ps) (record { path = p.path; bytes = c.bytes } ∷ ps) (p ∷ put_file c ps))
-    (ap (λ (t : List ℕ). text_cmp t p.path) e ∙ less_back p.path f.path (before_at p.path ps f post o.0))
-    ∙ ap (λ (fs : List File). p ∷ fs) (put_behind ps f c post o.1 e)
+-- files in order, put where nothing was, are all that is held
+put_bare : (files : List File) (told : Option Holding) → AreInOrder files → IfSome told (λ held. (held.files ≡ []) × (held.mark ≡ None))
+    → option_map (with_all files) told ≡ option_map (λ held. only_files files) told
+put_bare files None order bare = refl
+put_bare files (Some held) order bare =
+    ap (λ (fs : List File). Some (with_all files (record { files = fs; mark = held.mark }))) bare.0
+    ∙ ap (λ (fs : List File). Some (record { files = fs; mark = held.mark })) (put_all_in_order files order)
+    ∙ ap (λ (m : Option (List ℕ)). Some (record { files = files; mark = m })) bare.1
 
-without_behind : (pre : List File) (f : File) (post : List File) → AreInOrder (pre ++ f ∷ post) → without_file f.path pre ≡ pre
-without_behind [] f post o = refl
-without_behind (p ∷ ps) f post o =
-    ap (λ (r : Ordering). cond (not (is_eq r)) (p ∷ without_file f.path ps) (without_file f.path ps)) (less_back p.path f.path (before_at p.path ps f post o.0))
-    ∙ ap (λ (fs : List File). p ∷ fs) (without_behind ps f post o.1)
+mark_only : (files : List File) (mark : List ℕ) (told : Option Holding)
+    → option_map (marked mark) (option_map (λ held. only_files files) told) ≡ option_map (λ held. marked mark (only_files files)) told
+mark_only files mark None = refl
+mark_only files mark (Some held) = refl
 
--- just these files are held, where anything was told
-abbrev just : List File → Option Holding → Option Holding
-just xs told = option_map (λ held. only_files xs) told
+-- .. and then the mark
+pub marked_held : {X : Type 0} (files : List File) (mark : List ℕ) (old mid new : FolderKnown) (result : Result X StoreFault) → AreInOrder files → IsBare old
+    → mid.held ≡ option_map (with_all files) old.held → Writes (Mark mark) mid new result
+    → OnOk result (new.held ≡ option_map (λ held. marked mark (only_files files)) old.held)
+marked_held files mark old mid new (Ok x) order bare put writes =
+    ap (λ (f : FolderKnown). f.held) writes.ended
+    ∙ ap (option_map (marked mark)) (put ∙ put_bare files old.held order bare) ∙ mark_only files mark old.held
+marked_held files mark old mid new (Err e) order bare put writes = tt
 
-map_just : (g : Holding → Holding) (xs : List File) (told : Option Holding) → option_map g (just xs told) ≡ option_map (λ held. g (only_files xs)) told
-map_just g xs None = refl
-map_just g xs (Some held) = refl
+only_held : (x : Holding) (told : Option Holding) (held : Holding) → Some held ≡ option_map (λ h. x) told → held ≡ x
+only_held x None held e = cc
+only_held x (Some h) held e = cc
 
-next : (files : List File) (k : ℕ) (file : File) → k < length files → get_or files k file ≡ file → drop k files ≡ file ∷ drop (suc k) files
-next files k file lt is = drop-cons files k file lt ∙ ap (λ (f : File). f ∷ drop (suc k) files) is
+pub unmarked_stops : (files : List File) (mark : List ℕ) (old new : FolderKnown) → StopsIn (λ image. image.mark ≡ None) old new
+    → StopsIn (IsFilling files mark) old new
+unmarked_stops files mark old new stops = stops_wider (λ image. image.mark ≡ None) (IsFilling files mark) old new (λ image none. inl none) stops
 
-split : (files : List File) (k : ℕ) (file : File) → k < length files → get_or files k file ≡ file → AreInOrder files → AreInOrder (take k files ++ file ∷ drop (suc k) files)
-split files k file lt is order =
-    subst AreInOrder (sym (take-append-drop k files) ∙ ap (λ (fs : List File). take k files ++ fs) (next files k file lt is)) order
+pub marked_stops : {X : Type 0} (files : List File) (mark : List ℕ) (old mid new : FolderKnown) (result : Result X StoreFault) → AreInOrder files → IsBare old
+    → StopsIn (λ image. image.mark ≡ None) old mid → mid.held ≡ option_map (with_all files) old.held → Writes (Mark mark) mid new result
+    → StopsIn (IsFilling files mark) old new
+marked_stops files mark old mid new result order bare first put writes =
+    stops_then (IsFilling files mark) old mid new (unmarked_stops files mark old mid first)
+    (stops_at_write (IsFilling files mark) (Mark mark) mid new result writes
+    (if_told mid.held (λ held is part.
+        let own : held ≡ only_files files = only_held (only_files files) old.held held (sym is ∙ put ∙ put_bare files old.held order bare) in
+        inr (part, ap (leaves (Mark mark) part) own))))
 
--- one file more was put
-pub put_next : (files : List File) (k : ℕ) (file : File) (old mid new : Option Holding) → k < length files → get_or files k file ≡ file → AreInOrder files → mid ≡ just (take k files) old → new ≡ option_map (leaves (Put file) Whole) mid → new ≡ just (take (k + 1) files) old
-put_next files k file old mid new lt is order m e =
-    e ∙ ap (option_map (leaves (Put file) Whole)) m ∙ map_just (leaves (Put file) Whole) (take k files) old
-    ∙ ap (λ (fs : List File). just fs old)
-    (put_behind (take k files) file file (drop (suc k) files) (split files k file lt is order) refl
-    ∙ ap (λ (f : File). take k files ++ f ∷ []) (sym is) ∙ sym (take_more files k file lt))
+-- ---- its build
 
--- so many files, and of the next one nothing or a prefix
-abbrev pub HoldsBegun : List File → Option Holding → Option Holding → Type 0
-HoldsBegun files old new = (whole : ℕ) × (part : Option ℕ) × (new ≡ just (begun whole part files) old)
+bare_told : (told : Option Holding) → Here told ≡ emptied_slot (Here told) → IfSome told (λ held. (held.files ≡ []) × (held.mark ≡ None))
+bare_told None e = tt
+bare_told (Some held) e =
+    let one : held ≡ nothing = let same : Here (Some held) ≡ Here (Some nothing) = e in cc in
+    (ap (λ (h : Holding). h.files) one, ap (λ (h : Holding). h.mark) one)
 
-none_more : (files : List File) (k : ℕ) (old new : Option Holding) → new ≡ just (take k files) old → HoldsBegun files old new
-none_more files k old new e = (k, None, e ∙ ap (λ (fs : List File). just fs old) (sym (append-nil (take k files))))
+-- the folder of an empty build is bare
+pub lent_bare : (slot : Slot) (folder : FolderKnown) → Here folder.held ≡ slot → slot ≡ emptied_slot slot → IsBare folder
+lent_bare slot folder is empty = bare_told folder.held (subst (λ (s : Slot). s ≡ emptied_slot s) (sym is) empty)
 
--- the next one was put in part
-put_in_part : (files : List File) (k : ℕ) (file : File) (old mid new : Option Holding) (part : Part) → k < length files → get_or files k file ≡ file → AreInOrder files → mid ≡ just (take k files) old → new ≡ option_map (leaves (Put file) part) mid → HoldsBegun files old new
-put_in_part files k file old mid new Whole lt is order m e = none_more files (k + 1) old new (put_next files k file old mid new lt is order m e)
-put_in_part files k file old mid new Untouched lt is order m e =
-    none_more files k old new (e ∙ ap (option_map (leaves (Put file) Untouched)) m ∙ map_just (leaves (Put file) Untouched) (take k files) old)
-put_in_part files k file old mid new (Those stays) lt is order m e =
-    none_more files k old new (e ∙ ap (option_map (leaves (Put file) (Those stays))) m ∙ map_just (leaves (Put file) (Those stays)) (take k files) old)
-put_in_part files k file old mid new Gone lt is order m e =
-    none_more files k old new
-    (e ∙ ap (option_map (leaves (Put file) Gone)) m ∙ map_just (leaves (Put file) Gone) (take k files) old
-    ∙ ap (λ (fs : List File). just fs old) (without_behind (take k files) file (drop (suc k) files) (split files k file lt is order)))
-put_in_part files k file old mid new (Begun n) lt is order m e = (
-  k,
-  Some n,
-  e ∙ ap (option_map (leaves (Put file) (Begun n))) m ∙ map_just (leaves (Put file) (Begun n)) (take k files) old
-      ∙ ap (λ (fs : List File). just fs old)
-      (put_behind (take k files) file (cut_at n file) (drop (suc k) files) (split files k file lt is order) refl
-      ∙ ap (λ (fs : List File). take k files ++ cut_file (Some n) fs) (sym (next files k file lt is))),
-)
+-- a folder was handed out, was filled in part and came back
+pub lent_filled : (files : List File) (mark : List ℕ) (key back_key : BuildKey) (held : Option Holding) (old mid new : BuildKey → Slot)
+    → SetsSlot key Out old mid → back_key ≡ key → SetsSlot back_key (Here held) mid new → IfSome held (IsFilling files mark)
+    → FillsBuild key (IsFillingAt files mark) old new
+lent_filled files mark key back_key held old mid new out own back filling q =
+    at (is_same_build key q) refl (subst (λ (k : BuildKey). new q ≡ cond (is_same_build k q) (Here held) (mid q)) own (back q)) (out q)
+  where
+    at : (b : Bool) → is_same_build key q ≡ b → new q ≡ cond b (Here held) (mid q) → mid q ≡ cond b Out (old q)
+        → (new q ≡ old q) ⊎ (IsTrue (is_same_build key q) × IsFillingAt files mark (new q))
+    at true same n m = inr (same, subst (IsFillingAt files mark) (sym n) filling)
+    at false other n m = inl (n ∙ m)
 
--- .. or not at all
-pub put_last_partly : (files : List File) (k : ℕ) (file : File) (old : Option Holding) (mid new : FolderKnown) → k < length files → get_or files k file ≡ file → AreInOrder files → mid.held ≡ just (take k files) old → IsStopped (Put file) mid new → HoldsBegun files old new.held
-put_last_partly files k file old mid new lt is order m (opened part e) = put_in_part files k file old mid.held new.held part lt is order m (ap (λ (f : FolderKnown). f.held) e)
-put_last_partly files k file old mid new lt is order m (not_begun e) = none_more files k old new.held (ap (λ (f : FolderKnown). f.held) e ∙ m)
+pub same_filled : (key : BuildKey) (Fills : Slot → Type 0) (old new : BuildKey → Slot) → new ≡ old → FillsBuild key Fills old new
+same_filled key Fills old new e q = inl (ap (λ (slots : BuildKey → Slot). slots q) e)
 
--- ---- where the mark was taken away first
+-- ---- the environment
 
-pub put_unmarked : (files : List File) (told : Option Holding) → option_map (with_all files) (option_map (leaves Unmark Whole) told) ≡ option_map (λ held. with_all files (unmarked held)) told
-put_unmarked files None = refl
-put_unmarked files (Some held) = refl
+pub same_partly : (plan : Plan) (fates : List Fate) (old new : BuildKey → Slot) → new ≡ old → FillsPartly plan fates old new
+same_partly plan fates old new e q = inl (ap (λ (slots : BuildKey → Slot). slots q) e)
 
-unmark_nothing : (part : Part) → leaves Unmark part nothing ≡ nothing
-unmark_nothing Whole = refl
-unmark_nothing Untouched = refl
-unmark_nothing Gone = refl
-unmark_nothing (Begun n) = refl
-unmark_nothing (Those stays) = refl
+pub fills_twice : (plan : Plan) (fates : List Fate) (old mid new : BuildKey → Slot) → FillsPartly plan fates old mid → FillsPartly plan fates mid new
+    → FillsPartly plan fates old new
+fills_twice plan fates old mid new first next q = at (first q) (next q)
+  where
+    at : (mid q ≡ old q) ⊎ (IsTrue (is_in_env plan.env q) × IsFilledBy plan.jobs fates q.app (mid q))
+        → (new q ≡ mid q) ⊎ (IsTrue (is_in_env plan.env q) × IsFilledBy plan.jobs fates q.app (new q))
+        → (new q ≡ old q) ⊎ (IsTrue (is_in_env plan.env q) × IsFilledBy plan.jobs fates q.app (new q))
+    at (inl a) (inl b) = inl (b ∙ a)
+    at (inr (own, a)) (inl b) = inr (own, subst (IsFilledBy plan.jobs fates q.app) (sym b) a)
+    at (inl a) (inr b) = inr b
+    at (inr a) (inr b) = inr b
 
--- where nothing was held, nothing is
-unmarked_empty : (part : Part) (told : Option Holding) → told ≡ option_map (λ held. nothing) told → option_map (leaves Unmark part) told ≡ just [] told
-unmarked_empty part None empty = refl
-unmarked_empty part (Some held) empty =
-    let none : held ≡ nothing = cc in
-    ap (λ (h : Holding). Some (leaves Unmark part h)) none ∙ ap (λ (h : Holding). Some h) (unmark_nothing part)
-
-empty_just : (told : Option Holding) → told ≡ option_map (λ held. nothing) told → told ≡ just [] told
-empty_just None empty = refl
-empty_just (Some held) empty = empty
-
--- an error came before any file
-pub unmark_begins : (files : List File) (old new : FolderKnown) → IsStopped Unmark old new → BeginsHeld files old.held new.held
-unmark_begins files old new (opened part e) order empty = (0, None, ap (λ (f : FolderKnown). f.held) e ∙ unmarked_empty part old.held empty)
-unmark_begins files old new (not_begun e) order empty = (0, None, ap (λ (f : FolderKnown). f.held) e ∙ empty_just old.held empty)
-
-same_just : (xs : List File) (told : Option Holding) → just xs (option_map (leaves Unmark Whole) told) ≡ just xs told
-same_just xs None = refl
-same_just xs (Some held) = refl
-
-still_empty : (told : Option Holding) → told ≡ option_map (λ held. nothing) told → option_map (leaves Unmark Whole) told ≡ option_map (λ held. nothing) (option_map (leaves Unmark Whole) told)
-still_empty None empty = refl
-still_empty (Some held) empty = let none : held ≡ nothing = cc in ap (λ (h : Holding). Some (leaves Unmark Whole h)) none
-
--- .. or behind the mark
-pub anew_begins : (files : List File) (old mid new : Option Holding) → mid ≡ option_map (leaves Unmark Whole) old → BeginsHeld files mid new → BeginsHeld files old new
-anew_begins files old mid new is begins order empty =
-    let gone = subst (λ (t : Option Holding). BeginsHeld files t new) is begins order (still_empty old empty) in
-    (gone.0, gone.1, gone.2 ∙ same_just (begun gone.0 gone.1 files) old)
+-- the build of a job that was built
+pub fills_job : (plan : Plan) (fates : List Fate) (job : Job) (outcome : Outcome) (files : List File) (mark : List ℕ) (old new : BuildKey → Slot)
+    → IsBuiltAt plan.jobs fates job outcome → files ≡ outcome.files → Spells mark (mark_of job (outcomes_of fates job.needs) outcome)
+    → FillsBuild (record { env = plan.env; app = job.app }) (IsFillingAt files mark) old new → FillsPartly plan fates old new
+fills_job plan fates job outcome files mark old new built same reads fills q = elim (fills q) [
+  | inl stays ↦ inl stays
+  | inr (own, filling) ↦ inr (
+      ties_itself plan.env q.env (same_key (record { env = plan.env; app = job.app }) q own).0,
+      record {
+        job = job;
+        outcome = outcome;
+        built = built;
+        own = (same_key (record { env = plan.env; app = job.app }) q own).1;
+        mark = mark;
+        reads = reads;
+        filling = subst (λ (fs : List File). IsFillingAt fs mark (new q)) same filling;
+      },
+    )
+]

@@ -22,6 +22,7 @@ use Rattle.mix_answer.specs.Answer.{stopped}
 use Rattle.mix_answer.specs.Plans.{IsPlanFor, IsRefusalFor}
 use Rattle.mix_answer.specs.Reply.{Reply, reply_of}
 use Rattle.mix_answer.specs.Texts.{died_line}
+use Rattle.mix_plain.specs.Filling.{Remakes}
 use Rattle.mix_plain.specs.Site.{IsCalm, Passage}
 
 -- 1 where a job failed
@@ -49,12 +50,15 @@ pub data Builds (compile : Content → Outcome) (plan : Plan) (passage : Passage
   died : Dies plan passage reply → Builds compile plan passage reply
   no_memory : IsCalm passage → reply ≡ stopped Memory → Builds compile plan passage reply
 
--- what was done with the jobs of a plan, however it ended: other builds are as before, and where the tree was honest for some
--- inputs it is for these and the plan's
+-- what was done with the jobs of a plan, however it ended
 pub record Works (compile : Content → Outcome) (plan : Plan) (passage : Passage) (reply : Reply) : Type 0 where
   pub ends : Builds compile plan passage reply
+  -- what may stand in the environment
+  pub stands : Remakes plan (seq compile plan.jobs) passage.old.store.slot passage.new.store.slot
+  -- other environments are as before
   pub elsewhere : StaysElsewhere plan.env passage.old.store.slot passage.new.store.slot
-  pub stays : (known : List Given) → Honest compile known passage.old.store.slot
+  -- where the tree was honest for some inputs it is for these and the plan's
+  pub honest : (known : List Given) → Honest compile known passage.old.store.slot
       → Honest compile (known ++ inputs_of compile plan.jobs) passage.new.store.slot
 
 -- the ways in which it ends: before anything changed, or from the plan of the files on

@@ -1,6 +1,7 @@
 -- How a command ends that only reads.
 use Rattle.std.specs.Prelude.{◌≡◌, ℕ, List, Option, map, option_map}
 use Rattle.mx_base.specs.Causes.{Rose}
+use Rattle.compile_model.specs.declared.job.Job.{Job}
 use Rattle.compile_model.specs.declared.job.Plan.{Plan}
 use Rattle.tree_store.specs.Known.{Known}
 use Rattle.build_plan.specs.declared.error.PlanError.{PlanError}
@@ -32,10 +33,14 @@ pub data Tells (build : Build) (Says : Plan → List ℕ → Type 0) (old new : 
 abbrev pub SaysDeps : Plan → List ℕ → Type 0
 SaysDeps plan text = text ≡ deps_text plan.jobs
 
+-- each job that would be compiled again with its reason, by the marks that are kept
+pub record ListsStale (jobs : List Job) (kept : List (Option Kept)) (text : List ℕ) : Type 0 where
+  pub report : List (ℕ × Why)
+  pub stale : IsStaleReport jobs (map (option_map (λ entry. entry.mark)) kept) report
+  pub says : text ≡ stale_text jobs report
+
 -- `deps.stale` tells what would be compiled again, by what is kept in the tree
 pub record SaysStale (old : Known) (plan : Plan) (text : List ℕ) : Type 0 where
   pub kept : List (Option Kept)
   pub stands : AreKeptOf old.slot plan kept
-  pub report : List (ℕ × Why)
-  pub stale : IsStaleReport plan.jobs (map (option_map (λ entry. entry.mark)) kept) report
-  pub says : text ≡ stale_text plan.jobs report
+  pub lists : ListsStale plan.jobs kept text

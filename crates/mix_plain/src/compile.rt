@@ -1,15 +1,14 @@
 // Compiling one after another from an empty environment.
-ghost use Rattle.std.specs.Prelude.{◌≡◌, length};
+ghost use Rattle.std.specs.Prelude.{◌≡◌, IfOk, length};
 ghost use Rattle.std.specs.List.{list_any};
 ghost use Rattle.mx_base.specs.BuildName.{HasBuildName};
 ghost use Rattle.compile_model.specs.Planned.{ArePlanned};
-ghost use Rattle.compile_model.specs.Seq.{seq};
 ghost use Rattle.tree_store.specs.Slot.{AllHere};
 ghost use Rattle.build_plan.specs.Plan.{build_of};
 ghost use Rattle.kept_tree.specs.Faults.{KeepsRest};
 ghost use Rattle.mix_answer.specs.Answer.{reply_in};
 ghost use Rattle.mix_answer.specs.Says.{Ends};
-ghost use Rattle.mix_report.specs.Report.{is_failed};
+ghost use Rattle.mix_report.specs.Report.{is_failed, report};
 ghost use Rattle.mix_plain.specs.Compile.{Compiles, Works, status_by};
 ghost use Rattle.mix_plain.specs.Site.{passage_of, site_of};
 
@@ -20,7 +19,7 @@ use kept_tree::clear_apart;
 use mix_answer::{Answer, Status, Stop, refuse, say};
 use mix_report::report;
 use mx_base::{AppName, Sink};
-use std::alloc::Global;
+use std::alloc::{AllocError, Global};
 use tree_store::Store;
 
 /// Compiles the dependencies of a project one after another from an empty environment, and writes the report.
@@ -82,7 +81,10 @@ fn build<S: Store, C: Compiler>(
     let line = Vec::from_slice(alloc, b"mixc: no partition left, 1 died\n")?;
     clear_apart(alloc, store, &plan.env, &[])?;
     match seq_build(alloc, plan, compiler) {
-        Ok(fates) => finish(alloc, plan, fates.as_slice(), store),
+        Ok(fates) => {
+            fill_env(alloc, plan, fates.as_slice(), store)?;
+            Ok(told(alloc, plan, fates.as_slice())?)
+        }
         Err(SeqFault::Died { .. }) => Ok(Answer {
             status: Status::Died,
             text: line,
@@ -91,14 +93,12 @@ fn build<S: Store, C: Compiler>(
     }
 }
 
-// Puts what was built into an empty environment, and reports it.
-fn finish<S: Store>(
-    alloc: Global,
-    plan: &Plan,
-    fates: &[Fate],
-    store: &mut S,
-) -> Result<Answer, Stop> {
-    fill_env(alloc, plan, fates, store)?;
+// The report of what became of each job, and the status that goes with it.
+fn told(alloc: Global, plan: &Plan, fates: &[Fate]) -> Result<Answer, AllocError>
+    requires { length fates.now ≡ length plan.now.jobs }
+    ensures status { IfOk result (λ answer. answer.status ≡ status_by fates.now) }
+    ensures text { IfOk result (λ answer. answer.text.items ≡ report plan.now.jobs fates.now) }
+{
     let text = report(alloc, plan, fates)?;
     Ok(Answer {
         status: status_by(fates),

@@ -1,10 +1,12 @@
 // The command `deps.stale`.
-ghost use Rattle.std.specs.Prelude.{◌≡◌, ◌++◌, IfOk, OnOk, map, option_map};
+ghost use Rattle.std.specs.Prelude.{◌≡◌, ◌++◌, IfOk, OnOk, length, map, option_map};
 ghost use Rattle.mx_base.specs.BuildName.{HasBuildName};
 ghost use Rattle.build_plan.specs.Plan.{build_of};
+ghost use Rattle.compile_model.specs.Planned.{ArePlanned};
+ghost use Rattle.mix_answer.specs.declared.status.Status.TheVariants.{Done};
 ghost use Rattle.mix_answer.specs.Answer.{reply_in};
 ghost use Rattle.tree_store.specs.Slot.{AllHere};
-ghost use Rattle.mix_plain.specs.Tells.{SaysStale, Tells};
+ghost use Rattle.mix_plain.specs.Tells.{ListsStale, SaysStale, Tells};
 ghost use Rattle.mix_plain.specs.Texts.{stale_line, stale_text, why_text};
 
 use build_manifest::Mark;
@@ -31,13 +33,21 @@ pub fn stale<S: Store>(
         (S.known store.old) (S.known store.new) (reply_in result) }
 {
     match plan(alloc, store, env, target) {
-        Ok(plan) => tell_stale(alloc, &plan, store),
+        Ok(plan) => {
+            let kept = read_kept(alloc, store, &plan)?;
+            Ok(told(alloc, &plan, kept)?)
+        }
         Err(error) => refuse(alloc, &error),
     }
 }
 
-fn tell_stale<S: Store>(alloc: Global, plan: &Plan, store: &mut S) -> Result<Answer, Stop> {
-    let kept = read_kept(alloc, store, plan)?;
+// What is stale of a plan, by what is kept of its jobs.
+fn told(alloc: Global, plan: &Plan, kept: Vec<Option<Kept>>) -> Result<Answer, AllocError>
+    requires planned { ArePlanned plan.now.jobs }
+    requires each { length kept.items ≡ length plan.now.jobs }
+    ensures status { IfOk result (λ answer. answer.status ≡ Done) }
+    ensures says { IfOk result (λ answer. ListsStale plan.now.jobs kept.items answer.text.items) }
+{
     let marks = marks_of(alloc, kept)?;
     let report = stale_report(alloc, plan, marks.as_slice())?;
     Ok(Answer {
