@@ -17,7 +17,7 @@ use Rattle.mix_compile.specs.Site.{Passage}
 
 -- what a build begins with: the plan, what is kept of it in the tree, and some of the partitions that were asked for
 pub record Begins (plan : Plan) (slots : BuildKey → Slot) (partitions : ℕ) (opening : Opening) : Type 0 where
-  pub plan : opening.plan ≡ plan
+  pub same : opening.plan ≡ plan
   pub kept : AreKeptOf slots plan opening.kept
   pub some : 1 ≤ opening.partitions
   pub few : opening.partitions ≤ partitions

@@ -4,8 +4,13 @@
 //! last the report. The call knows no words; the layer above hands in a store, a maker of partitions and a sink.
 #![tactic(auto)]
 
+mod building;
 mod compiling;
 mod ended;
+mod folders;
+mod made;
+mod settling;
+mod tidying;
 
 pub use compiling::{build_tree, compile};
 pub use ended::{Compiled, Ended};

@@ -14,7 +14,7 @@ use Rattle.tree_store.specs.FolderKnown.{FolderKnown}
 use Rattle.tree_store.specs.Holding.{marked, nothing, only_files}
 use Rattle.tree_store.specs.Moment.{Write}
 use Rattle.tree_store.proofs.MomentLemmas.{if_told, told_has}
-use Rattle.partition_core.specs.State.{Opening, at, first_open, outcomes_now}
+use Rattle.partition_core.specs.State.{Opening, at, first_open, kept_matches, needs_at, outcomes_now}
 use Rattle.partition_core.proofs.Places.{also_there}
 use Rattle.honest_tree.specs.Given.{Given}
 use Rattle.partition_crew.specs.Build.{HoldsBuilt, HoldsKept, WasKept, WasMade}
@@ -26,12 +26,20 @@ use Rattle.partition_crew.proofs.Growing.{Grows, at_open, at_other, at_set, firs
 -- ---- what holds stays, while fates are added
 
 abbrev Owns : Opening → List (Option Fate) → ℕ → Outcome → MarkView → Type 0
-Owns o fates place outcome mark = WasKept o place outcome mark ⊎ ((job : Job) × (slice_get o.plan.jobs place ≡ Some job) × WasMade job fates outcome mark)
+Owns o fates place outcome mark = WasKept o fates place (record { mark = mark; outcome = outcome }) ⊎ ((job : Job) × (slice_get o.plan.jobs place ≡ Some job) × WasMade job fates outcome mark)
+
+kept_grow : (o : Opening) (fates next : List (Option Fate)) → Grows fates next → (place : ℕ) (kept : Kept) → WasKept o fates place kept
+    → WasKept o next place kept
+kept_grow o fates next grows place kept was = record {
+  entry = was.entry;
+  ready = first_grow fates next grows (needs_at o place) was.ready;
+  fits = ap (kept_matches (Some kept) (slice_get o.plan.jobs place)) (sym (outcomes_grow fates next grows (needs_at o place) was.ready)) ∙ was.fits;
+}
 
 owns_grow : (o : Opening) (fates next : List (Option Fate)) → Grows fates next → (place : ℕ) (outcome : Outcome) (mark : MarkView)
     → Owns o fates place outcome mark
     → Owns o next place outcome mark
-owns_grow o fates next grows place outcome mark (inl kept) = inl kept
+owns_grow o fates next grows place outcome mark (inl kept) = inl (kept_grow o fates next grows place (record { mark = mark; outcome = outcome }) kept)
 owns_grow o fates next grows place outcome mark (inr (job, here, made)) = inr (
   job,
   here,
@@ -41,7 +49,7 @@ owns_grow o fates next grows place outcome mark (inr (job, here, made)) = inr (
   },
 )
 
-holds_grow : (o : Opening) (fates next : List (Option Fate)) → Grows fates next → (place : ℕ) (outcome : Outcome) (held : Holding)
+pub holds_grow : (o : Opening) (fates next : List (Option Fate)) → Grows fates next → (place : ℕ) (outcome : Outcome) (held : Holding)
     → HoldsBuilt o fates place outcome held
     → HoldsBuilt o next place outcome held
 holds_grow o fates next grows place outcome held holds = record {
@@ -103,27 +111,28 @@ homes_settled o fates place fate first last now is homes long others here = reco
 -- ---- the place that got it
 
 -- its outcome was kept
-kept_holds : (o : Opening) (fates : List (Option Fate)) (place : ℕ) (kept : Kept) (held : Holding) → at o.kept place ≡ Some kept → HoldsKept kept held
+kept_holds : (o : Opening) (fates : List (Option Fate)) (place : ℕ) (kept : Kept) (held : Holding) → WasKept o fates place kept → HoldsKept kept held
     → HoldsBuilt o fates place kept.outcome held
-kept_holds o fates place kept held is holds = record {
+kept_holds o fates place kept held was holds = record {
   files = holds.files;
   bytes = holds.bytes;
   mark = kept.mark;
   stands = holds.stands;
   reads = holds.reads;
-  own = inl (record { entry = kept; kept = is; same = refl; own = refl });
+  own = inl was;
 }
 
 pub kept_home : (o : Opening) (fates : List (Option Fate)) (place : ℕ) (kept : Kept) (folder : FolderKnown) → slice_get fates place ≡ Some None
-    → at o.kept place ≡ Some kept
+    → WasKept o fates place kept
     → IfSome folder.held (HoldsKept kept) → IsHome o (slice_set fates place (Some (Built kept.outcome))) place folder folder
-kept_home o fates place kept folder open_place is holds =
+kept_home o fates place kept folder open_place was holds =
     let next = slice_set fates place (Some (Built kept.outcome)) in
+    let still = kept_grow o fates next (grows_set fates place (Some (Built kept.outcome)) open_place) place kept was in
     record {
       key = refl;
       faults = refl;
       left = subst (λ (fate : Option Fate). IsLeftNow o next place fate folder folder) (sym (at_set fates place (Some (Built kept.outcome)) open_place))
-          (if_told folder.held (λ held told. kept_holds o next place kept held is (told_has (HoldsKept kept) folder.held held told holds)));
+          (if_told folder.held (λ held told. kept_holds o next place kept held still (told_has (HoldsKept kept) folder.held held told holds)));
     }
 
 pub skipped_home : (o : Opening) (fates : List (Option Fate)) (place need : ℕ) (folder : FolderKnown) → slice_get fates place ≡ Some None
