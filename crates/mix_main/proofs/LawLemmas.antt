@@ -13,20 +13,22 @@ use Rattle.build_plan.specs.Plan.{IsPlan, build_of}
 use Rattle.mix_main.specs.declared.command.Command.{Command}
 use Rattle.mix_main.specs.declared.command.Command.TheVariants as command
 use Rattle.mix_main.specs.declared.command.WordsError.{WordsError}
-use Rattle.mix_main.specs.declared.status.Status.{Status}
-use Rattle.mix_main.specs.Compile.{Built, Builds, Compiles, IsPlanFor}
-use Rattle.mix_main.specs.Compile.Builds.{built, read_fault, tree_fault, died, no_memory}
-use Rattle.mix_main.specs.Compile.Compiles.{refused, unread, unplanned, planned}
-use Rattle.mix_main.specs.Ends.{Comes, Says}
+use Rattle.mix_answer.specs.declared.status.Status.{Status}
+use Rattle.mix_answer.specs.Plans.{IsPlanFor}
+use Rattle.mix_answer.specs.Reply.{Reply, reply_of}
+use Rattle.mix_answer.specs.Says.{Says}
+use Rattle.mix_answer.specs.Says.Says.{said, cut}
+use Rattle.mix_plain.specs.Compile.{Built, Builds, Compiles}
+use Rattle.mix_plain.specs.Site.{IsCalm, Passage, Site, passage_of}
+use Rattle.mix_plain.specs.Compile.Builds.{built, read_fault, tree_fault, died, no_memory}
+use Rattle.mix_plain.specs.Compile.Compiles.{refused, unread, unplanned, planned}
+use Rattle.mix_main.specs.Ends.{Comes}
 use Rattle.mix_main.specs.Ends.Comes.{refused as misread, asked, unread as unheard}
-use Rattle.mix_main.specs.Ends.Says.{said, cut}
 use Rattle.mix_main.specs.Laws.{BadWordsChangeNothing, EndsBuilt, EndsRefused, NoneRose, PlansAreBuilt, RefusedFilesAreRefused, RefusedFilesLeaveTheTree}
 use Rattle.mix_main.specs.Laws.EndsBuilt.{built as ends_built, no_memory as built_unsaid}
 use Rattle.mix_main.specs.Laws.EndsRefused.{refused as ends_refused, no_memory as refused_unsaid}
-use Rattle.mix_main.specs.Reply.{Reply, reply_of}
 use Rattle.mix_main.specs.Words.{command_of, dev}
-use Rattle.mix_main.specs.World.{Calm, Passage, Site, World, passage_of}
-use Rattle.mix_main.proofs.CallLemmas.{misread_same}
+use Rattle.mix_main.specs.World.{World}
 
 -- the files have one plan, or one refusal
 abbrev pub OnePlan : Type 0
@@ -35,7 +37,7 @@ OnePlan = (files : List File) (env target : List ℕ) (one other : Result (List 
 told_at : (known : Known) (files : List File) (answer : Result (List Job) PlanError) → known.sources ≡ Some files → Told known (λ fs. IsPlan fs dev host) answer → IsPlan files dev host answer
 told_at known files answer is told = subst (λ (o : Option (List File)). IfSome o (λ fs. IsPlan fs dev host answer)) is told
 
-calm_same : (old new : Site) → new ≡ old → Calm old new
+calm_same : (old new : Site) → new ≡ old → IsCalm (passage_of old new)
 calm_same old new same = record {
   reads = ap (λ (s : Site). s.store.faults) same;
   trees = ap (λ (s : Site). s.store.returned) same;
@@ -56,11 +58,11 @@ same_env env other is = cc
 
 -- the words `deps.compile` come to a compile
 comes_compile : (compile : Content → Outcome) (words : List (List ℕ)) (passage : Passage) (reply : Reply) → command_of words ≡ Ok (command.Compile dev) → Comes compile words passage reply → Compiles compile (build_of dev host) passage reply
-comes_compile compile words passage reply is (misread at also m) = absurd (no_command _ _ (command_of words) is also)
+comes_compile compile words passage reply is (misread at also same m) = absurd (no_command _ _ (command_of words) is also)
 comes_compile compile words passage reply is (asked (command.Help) also h) = absurd (no_help dev (one_command command.Help (command.Compile dev) (command_of words) also is))
 comes_compile compile words passage reply is (asked (command.Compile env) also d) =
     subst (λ (e : List ℕ). Compiles compile (build_of e host) passage reply) (same_env env dev (one_command (command.Compile env) (command.Compile dev) (command_of words) also is)) d
-comes_compile compile words passage reply is (unheard same e line) = unplanned same e line
+comes_compile compile words passage reply is (unheard same says) = unplanned same says
 
 no_both : OnePlan → (files : List File) (jobs : List Job) (error : PlanError) → IsPlan files dev host (Ok jobs) → IsPlan files dev host (Err error) → ⊥
 no_both one files jobs error is also = let same = one files dev host (Ok jobs) (Err error) is also in cc
@@ -79,11 +81,11 @@ dev_plan old plan jobs is same =
 works_built : (compile : Content → Outcome) (jobs : List Job) (old new : World) (result : Status) (reply : Reply) → NoneRose old new → new.sink.taken ≡ with_bytes old.sink.taken reply.text → result ≡ reply.status → Builds compile (record { env = dev; jobs = jobs }) (passage_of old.site new.site) reply → EndsBuilt compile jobs old new result
 works_built compile jobs old new result reply none taken ended (built b) =
     ends_built reply.text (subst (λ (s : Status). Built compile (record { env = dev; jobs = jobs }) (passage_of old.site new.site) (reply_of s reply.text)) (sym ended) b) taken
-works_built compile jobs old new result reply none taken ended (read_fault rose e line) = absurd (none.reads rose)
-works_built compile jobs old new result reply none taken ended (tree_fault rose e line) = absurd (none.trees rose)
+works_built compile jobs old new result reply none taken ended (read_fault rose says) = absurd (none.reads rose)
+works_built compile jobs old new result reply none taken ended (tree_fault rose says) = absurd (none.trees rose)
 works_built compile jobs old new result reply none taken ended (died d) = absurd (none.deaths d.rose)
-works_built compile jobs old new result reply none taken ended (no_memory calm e line) =
-    built_unsaid calm (ended ∙ e) (taken ∙ ap (with_bytes old.sink.taken) line)
+works_built compile jobs old new result reply none taken ended (no_memory calm says) =
+    built_unsaid calm (ended ∙ ap (λ (r : Reply). r.status) says) (taken ∙ ap (λ (r : Reply). with_bytes old.sink.taken r.text) says)
 
 module _ (one : OnePlan) (compile : Content → Outcome) (files : List File) (old new : World) (told : old.site.store.sources ≡ Some files) where
   first_is : {answer : Result (List Job) PlanError} → Told old.site.store (λ fs. IsPlan fs dev host) answer → IsPlan files dev host answer
@@ -91,26 +93,26 @@ module _ (one : OnePlan) (compile : Content → Outcome) (files : List File) (ol
 
   -- what was said in full, of what a compile came to
   said_built : (jobs : List Job) (result : Status) (reply : Reply) → IsPlan files dev host (Ok jobs) → NoneRose old new → new.sink.taken ≡ with_bytes old.sink.taken reply.text → result ≡ reply.status → Compiles compile (build_of dev host) (passage_of old.site new.site) reply → EndsBuilt compile jobs old new result
-  said_built jobs result reply is none taken ended (refused error r) = absurd (no_both one files jobs error is (first_is r.first))
-  said_built jobs result reply is none taken ended (unread rose slot e line) = absurd (none.reads rose)
-  said_built jobs result reply is none taken ended (unplanned same e line) =
-      built_unsaid (calm_same old.site new.site same) (ended ∙ e) (taken ∙ ap (with_bytes old.sink.taken) line)
+  said_built jobs result reply is none taken ended (refused error r same) = absurd (no_both one files jobs error is (first_is r.first))
+  said_built jobs result reply is none taken ended (unread rose slot says) = absurd (none.reads rose)
+  said_built jobs result reply is none taken ended (unplanned same says) =
+      built_unsaid (calm_same old.site new.site same) (ended ∙ ap (λ (r : Reply). r.status) says) (taken ∙ ap (λ (r : Reply). with_bytes old.sink.taken r.text) says)
   said_built jobs result reply is none taken ended (planned plan own w) =
       works_built compile jobs old new result reply none taken ended
       (subst (λ (p : Plan). Builds compile p (passage_of old.site new.site) reply) (dev_plan old.site.store plan jobs own (one_jobs one files plan.jobs jobs (first_is own.first) is)) w.ends)
 
   said_refused : (error : PlanError) (result : Status) (reply : Reply) → IsPlan files dev host (Err error) → NoneRose old new → new.sink.taken ≡ with_bytes old.sink.taken reply.text → result ≡ reply.status → Compiles compile (build_of dev host) (passage_of old.site new.site) reply → EndsRefused error old new result
-  said_refused error result reply is none taken ended (refused other r) =
-      subst (λ (x : PlanError). EndsRefused x old new result) (one_error one files other error (first_is r.first) is) (ends_refused r.same (ended ∙ r.ended) (taken ∙ ap (with_bytes old.sink.taken) r.line))
-  said_refused error result reply is none taken ended (unread rose slot e line) = absurd (none.reads rose)
-  said_refused error result reply is none taken ended (unplanned same e line) =
-      refused_unsaid same (ended ∙ e) (taken ∙ ap (with_bytes old.sink.taken) line)
+  said_refused error result reply is none taken ended (refused other r same) =
+      subst (λ (x : PlanError). EndsRefused x old new result) (one_error one files other error (first_is r.first) is) (ends_refused same (ended ∙ r.ended) (taken ∙ ap (with_bytes old.sink.taken) r.line))
+  said_refused error result reply is none taken ended (unread rose slot says) = absurd (none.reads rose)
+  said_refused error result reply is none taken ended (unplanned same says) =
+      refused_unsaid same (ended ∙ ap (λ (r : Reply). r.status) says) (taken ∙ ap (λ (r : Reply). with_bytes old.sink.taken r.text) says)
   said_refused error result reply is none taken ended (planned plan own w) = absurd (no_both one files plan.jobs error (first_is own.first) is)
 
   refused_same : (error : PlanError) (reply : Reply) → IsPlan files dev host (Err error) → Compiles compile (build_of dev host) (passage_of old.site new.site) reply → new.site.store.slot ≡ old.site.store.slot
-  refused_same error reply is (refused other r) = ap (λ (s : Site). s.store.slot) r.same
-  refused_same error reply is (unread rose slot e line) = slot
-  refused_same error reply is (unplanned same e line) = ap (λ (s : Site). s.store.slot) same
+  refused_same error reply is (refused other r same) = ap (λ (s : Site). s.store.slot) same
+  refused_same error reply is (unread rose slot says) = slot
+  refused_same error reply is (unplanned same says) = ap (λ (s : Site). s.store.slot) same
   refused_same error reply is (planned plan own w) = absurd (no_both one files plan.jobs error (first_is own.first) is)
 
 pub plans_are_built : OnePlan → PlansAreBuilt
@@ -134,9 +136,9 @@ refused_files_leave_the_tree one compile words files error old new result ends c
     refused_same one compile files old new c.told error ends.reply is (comes_compile compile words (passage_of old.site new.site) ends.reply c.asked ends.comes)
 
 comes_same : (compile : Content → Outcome) (words : List (List ℕ)) (error : WordsError) (passage : Passage) (reply : Reply) → command_of words ≡ Err error → Comes compile words passage reply → passage.new ≡ passage.old
-comes_same compile words error passage reply is (misread at also m) = misread_same at passage reply m
+comes_same compile words error passage reply is (misread at also same m) = same
 comes_same compile words error passage reply is (asked named also d) = absurd (no_command error named (command_of words) also is)
-comes_same compile words error passage reply is (unheard same e line) = same
+comes_same compile words error passage reply is (unheard same says) = same
 
 pub bad_words_change_nothing : BadWordsChangeNothing
 bad_words_change_nothing compile words error old new result ends is =

@@ -1,14 +1,7 @@
-pub mod Answer
 pub mod Blame
-pub mod Compile
 pub mod Ends
-pub mod Filling
 pub mod Help
 pub mod Laws
-pub mod Refusal
-pub mod Reply
-pub mod Status
 pub mod Texts
-pub mod Tree
 pub mod Words
 pub mod World

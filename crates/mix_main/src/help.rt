@@ -1,15 +1,13 @@
 // The command `help`.
-ghost use Rattle.mix_main.specs.Answer.{reply_in};
+ghost use Rattle.mix_answer.specs.Answer.{reply_in};
 ghost use Rattle.mix_main.specs.Help.{Helps};
-ghost use Rattle.mix_main.specs.World.{Site, passage_of};
 
-use crate::answer::{Answer, Stop};
-use crate::status::Status;
+use mix_answer::{Answer, Status, Stop};
 use std::alloc::Global;
 
 /// The names of the commands, one a line.
 pub(crate) fn help(alloc: Global) -> Result<Answer, Stop>
-    ensures { (site : Site) → Helps (passage_of site site) (reply_in result) }
+    ensures { Helps (reply_in result) }
 {
     Ok(Answer {
         status: Status::Done,

@@ -5,21 +5,16 @@
 //! a program, hands in a store, a compiler and a sink, and may rely on the contract of `run` alone.
 #![tactic(auto)]
 
-mod answer;
 mod call;
-mod clear;
 mod command;
-mod compile;
-mod fill;
 mod help;
 mod laws;
-mod refusal;
-mod status;
 
-pub use call::{plain_compile, run};
+pub use call::run;
 pub use command::{Command, WordsError, read_words};
 pub use laws::{
     bad_words_change_nothing, plans_are_built, refused_files_are_refused,
     refused_files_leave_the_tree,
 };
-pub use status::Status;
+pub use mix_answer::Status;
+pub use mix_plain::plain_compile;

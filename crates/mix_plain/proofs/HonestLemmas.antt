@@ -1,11 +1,10 @@
 -- What stays honest while an environment is filled.
-use Rattle.std.proofs.Common.{◌≡◌, ◌⊎◌, inl, inr, ℕ, suc, zero, Bool, true, false, cond, eqb, List, [], ◌∷◌, ◌++◌, filter_map, Option, Some, None, is_none, IsTrue, slice_get, Contains, refl, sym, ◌∙◌, ap, subst, arith}
-use Rattle.std.specs.List.{cons_option}
+use Rattle.std.proofs.Common.{◌≡◌, ◌⊎◌, inl, inr, ℕ, suc, zero, Bool, true, false, cond, eqb, List, [], ◌++◌, Option, Some, None, is_none, IsTrue, Contains, refl, sym, ◌∙◌, ap, subst}
 use Rattle.std.proofs.lemmas.List.Elements.{Contains-append_left, Contains-append_right}
 use Rattle.compile_model.specs.declared.job.Job.{Job}
 use Rattle.compile_model.specs.declared.job.Plan.{Plan}
 use Rattle.compile_model.specs.declared.outcome.Fate.{Fate}
-use Rattle.compile_model.specs.declared.outcome.Fate.TheVariants.{Built, Failed, Skipped}
+use Rattle.compile_model.specs.declared.outcome.Fate.TheVariants.{Built, Failed}
 use Rattle.compile_model.specs.declared.outcome.Outcome.{Outcome}
 use Rattle.compile_model.specs.Content.{Content, content_of}
 use Rattle.compile_model.specs.Planned.{ArePlanned}
@@ -28,6 +27,7 @@ use Rattle.kept_tree.specs.Tree.{IsBuiltAt, StaysElsewhere}
 use Rattle.kept_tree.proofs.LeftLemmas.{left_tree_honest}
 use Rattle.partition_crew.specs.Build.{input_by, inputs_of}
 use Rattle.partition_crew.specs.Work.{given_by}
+use Rattle.partition_crew.proofs.Inputs.{among_filtered}
 use Rattle.mix_plain.specs.Filling.{FillsPartly, IsFilledBy, IsFilling, Remakes}
 
 -- ---- what a built job came to
@@ -60,20 +60,6 @@ came_to compile jobs planned job outcome at =
     record { ready = is.0; means = is.1; status = is.2 }
 
 -- ---- its input is one of the plan's
-
-among_filtered : (find : Job → Option Given) (jobs : List Job) (place : ℕ) (job : Job) (given : Given) → slice_get jobs place ≡ Some job
-    → find job ≡ Some given → Contains (filter_map find jobs) given
-among_filtered find [] place job given is found = cc
-among_filtered find (one ∷ jobs) zero job given is found =
-    let same : one ≡ job = cc in
-    let head : filter_map find (one ∷ jobs) ≡ given ∷ filter_map find jobs = ap (λ (o : Option Given). cons_option o (filter_map find jobs))
-    (ap find same ∙ found) in
-    subst (λ (all : List Given). Contains all given) (sym head) (0, omega arith, refl)
-among_filtered find (one ∷ jobs) (suc place) job given is found = at (find one) (among_filtered find jobs place job given is found)
-  where
-    at : (o : Option Given) → Contains (filter_map find jobs) given → Contains (cons_option o (filter_map find jobs)) given
-    at None c = c
-    at (Some other) c = Contains-append_right (other ∷ []) (filter_map find jobs) given c
 
 module _ (compile : Content → Outcome) (plan : Plan) (planned : ArePlanned plan.jobs) (known : List Given) where
   abbrev fates : List Fate

@@ -1,4 +1,4 @@
-use Rattle.std.proofs.Common.{Err, sym, ◌∙◌, ap}
+use Rattle.std.proofs.Common.{Err, refl, sym, ◌∙◌, ap}
 use Rattle.mix_main.specs.declared.command.WordsError.{WordsError}
 use Rattle.mix_main.specs.Blame.{blame_of}
 use Rattle.mix_main.specs.Ends.Comes.{refused, asked}
@@ -11,4 +11,4 @@ pub returns-in-Err-Refused-clause-comes : goal.returns-in-Err-Refused-clause-com
 returns-in-Err-Refused-clause-comes g c =
     let arm = c.in-Err-Refused in
     let says = arm.ensures (ap blame_of arm.field-0-is) in
-    refused arm.at (sym says ∙ ap (λ (e : WordsError). Err e) arm.field-0-is) (c.misread.ensures _)
+    refused arm.at (sym says ∙ ap (λ (e : WordsError). Err e) arm.field-0-is) refl c.misread.ensures

@@ -1,5 +1,5 @@
-use Rattle.mix_main.specs.Answer.{reply_in}
-use Rattle.mix_main.proofs.CallLemmas.{comes_stand, comes_elsewhere}
+use Rattle.mix_answer.specs.Answer.{reply_in}
+use Rattle.mix_main.proofs.CallLemmas.{comes_elsewhere}
 use Rattle.mix_main.proofs.call.run.Goals as goal
 
 pub returns : goal.returns
@@ -9,7 +9,6 @@ returns g c = record {
     comes = c.answer-answer.ensures.comes;
     says = c.say.ensures;
   };
-  stands = comes_stand _ _ _ _ c.answer-answer.ensures.comes;
   elsewhere = comes_elsewhere _ _ _ _ c.answer-answer.ensures.comes;
   keeps = c.answer-answer.ensures.keeps;
 }
