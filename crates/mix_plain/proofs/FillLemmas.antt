@@ -1,6 +1,6 @@
 -- The tree of the first jobs, one job more.
-use Rattle.std.proofs.Common.{◌≡◌, ◌≢◌, ◌⊎◌, inl, inr, ℕ, zero, suc, ◌+◌, ◌<◌, Bool, true, false, cond, List, [], ◌∷◌, length, take, get_or, Option, Some, None, option_map, slice_get, refl, sym, ◌∙◌, ap, subst, arith}
-use Rattle.std.proofs.lemmas.Bool.{cases_eq}
+use Rattle.std.proofs.Common.{◌≡◌, ◌≢◌, ◌⊎◌, inl, inr, ℕ, zero, suc, ◌+◌, ◌<◌, ◌≤◌, Bool, true, false, cond, List, [], ◌∷◌, length, take, get_or, Option, Some, None, option_map, slice_get, refl, sym, ◌∙◌, ap, subst, arith}
+use Rattle.std.proofs.lemmas.Bool.{cases_eq, cases_lt}
 use Rattle.std.proofs.lemmas.Option.{get_or_from_slice_get, slice_get_within}
 use Rattle.compile_model.specs.declared.job.Job.{Job}
 use Rattle.compile_model.specs.declared.job.Plan.{Plan}
@@ -48,10 +48,12 @@ apart_before jobs planned i j one other a b same before =
 -- no app has two jobs
 one_place : (jobs : List Job) → ArePlanned jobs → (i j : ℕ) (one other : Job) → slice_get jobs i ≡ Some one → slice_get jobs j ≡ Some other
     → one.app ≡ other.app → i ≡ j
-one_place jobs planned i j one other a b same =
-    let first : i < j → ⊥ = apart_before jobs planned i j one other a b same in
-    let next : j < i → ⊥ = apart_before jobs planned j i other one b a (sym same) in
-    omega (arith, first, next)
+one_place jobs planned i j one other a b same = at (cases_lt i j) (cases_lt j i)
+  where
+    at : (i < j) ⊎ (j ≤ i) → (j < i) ⊎ (i ≤ j) → i ≡ j
+    at (inl before) next = absurd (apart_before jobs planned i j one other a b same before)
+    at (inr least) (inl after) = absurd (apart_before jobs planned j i other one b a (sym same) after)
+    at (inr least) (inr most) = omega (arith, least, most)
 
 module _ (jobs : List Job) (fates : List Fate) (n : ℕ) (job : Job) (outcome : Outcome) where
   grow : IsBuiltAt (take n jobs) fates job outcome → IsBuiltAt (take (n + 1) jobs) fates job outcome

@@ -1,5 +1,6 @@
 -- What stays honest while an environment is filled.
-use Rattle.std.proofs.Common.{◌≡◌, ◌⊎◌, inl, inr, ℕ, suc, zero, Bool, true, false, cond, eqb, List, [], ◌++◌, Option, Some, None, is_none, IsTrue, Contains, refl, sym, ◌∙◌, ap, subst}
+use Rattle.std.proofs.Common.{◌≡◌, ◌⊎◌, inl, inr, ℕ, Bool, true, false, cond, ◌==◌, List, [], ◌++◌, Option, Some, None, is_none, IsTrue, Contains, refl, sym, ◌∙◌, ap, subst}
+use Rattle.std.proofs.lemmas.Bool.{eqb-true}
 use Rattle.std.proofs.lemmas.List.Elements.{Contains-append_left, Contains-append_right}
 use Rattle.compile_model.specs.declared.job.Job.{Job}
 use Rattle.compile_model.specs.declared.job.Plan.{Plan}
@@ -32,12 +33,15 @@ use Rattle.mix_plain.specs.Filling.{FillsPartly, IsFilledBy, IsFilling, Remakes}
 
 -- ---- what a built job came to
 
+same_outcome : (one other : Outcome) → Built one ≡ Built other → one ≡ other
+same_outcome one other e = cc
+
 settled_built : (outcome other : Outcome) → settled outcome ≡ Built other → (outcome ≡ other) × (outcome.status ≡ 0)
-settled_built outcome other e = at outcome.status refl e
+settled_built outcome other e = at (outcome.status == 0) refl e
   where
-    at : (status : ℕ) → outcome.status ≡ status → cond (eqb status 0) (Built outcome) (Failed outcome) ≡ Built other → (outcome ≡ other) × (outcome.status ≡ 0)
-    at zero is e = (let same : Built outcome ≡ Built other = e in cc, is)
-    at (suc status) is e = let clash : Failed outcome ≡ Built other = e in cc
+    at : (b : Bool) → (outcome.status == 0) ≡ b → cond b (Built outcome) (Failed outcome) ≡ Built other → (outcome ≡ other) × (outcome.status ≡ 0)
+    at true is e = (same_outcome outcome other e, eqb-true outcome.status 0 is)
+    at false is e = cc
 
 unless_built : (first : Option ℕ) (outcome other : Outcome) → fate_unless first outcome ≡ Built other
     → (first ≡ None) × (outcome ≡ other) × (outcome.status ≡ 0)

@@ -1,3 +1,4 @@
+pub mod CleanLemmas
 pub mod FillLemmas
 pub mod HonestLemmas
 pub mod PlanLemmas

@@ -1,27 +1,31 @@
 -- Where there is no plan.
-use Rattle.std.proofs.Common.{◌≡◌, ℕ, List, Bool, true, false, Err, refl, ◌∙◌, ap, subst}
+use Rattle.std.proofs.Common.{◌≡◌, inl, inr, ℕ, List, Bool, true, false, Err, refl, sym, ◌∙◌, ap, subst}
 use Rattle.mx_base.specs.Blame.{Blame, is_outside}
 use Rattle.mx_base.specs.Blame.Blame.{Input, Outside, Memory}
 use Rattle.compile_model.specs.declared.job.Plan.{Plan}
 use Rattle.compile_model.specs.declared.outcome.Outcome.{Outcome}
 use Rattle.compile_model.specs.Content.{Content}
 use Rattle.tree_store.specs.Known.{Known, OnlyReads, Told}
+use Rattle.tree_store.specs.Slot.{AllHere}
+use Rattle.kept_tree.specs.declared.fault.KeptFault.{KeptFault}
+use Rattle.kept_tree.specs.declared.fault.KeptFault.TheVariants as kept
+use Rattle.kept_tree.specs.Faults.{KeepsRest, ReadsBuilds}
 use Rattle.build_plan.specs.Blame.{blame_of}
 use Rattle.build_plan.specs.declared.error.PlanError.{PlanError}
 use Rattle.build_plan.specs.Plan.{Build, IsPlan}
 use Rattle.mix_answer.specs.declared.status.Status.{Status}
 use Rattle.mix_answer.specs.declared.stop.Stop.TheVariants.{Read, Memory as NoMemory}
-use Rattle.mix_answer.specs.Answer.{line_of, status_of, stopped}
+use Rattle.mix_answer.specs.Answer.{line_of, status_of, stop_of_kept, stopped}
 use Rattle.mix_answer.specs.Plans.{IsRefusalFor}
 use Rattle.mix_answer.specs.Refusal.{TellsError, status_of as status_for}
 use Rattle.mix_answer.specs.Refusal.TellsError.{told, read, no_memory}
-use Rattle.mix_answer.specs.Reply.{reply_of}
+use Rattle.mix_answer.specs.Reply.{Reply, reply_of}
 use Rattle.mix_answer.specs.Texts.{refusal_line}
 use Rattle.mix_plain.specs.Compile.{Compiles}
 use Rattle.mix_plain.specs.Compile.Compiles.{refused, unread, unplanned}
 use Rattle.mix_plain.specs.Site.{passage_of, site_of}
 use Rattle.mix_plain.specs.Tells.{IsUnread, Tells}
-use Rattle.mix_plain.specs.Tells.IsUnread.{store}
+use Rattle.mix_plain.specs.Tells.IsUnread.{store, folder}
 use Rattle.mix_plain.specs.Tells.Tells.{refused as untold, unread as unseen, no_memory as forgotten}
 
 -- a call that didn't fail left the store as it was
@@ -65,3 +69,21 @@ module _ (build : Build) (error : PlanError) (old new : Known)
   refuse_tells Says status text (no_memory quiet ended line) =
       forgotten (only_read old new _ reads (not_outside (blame_of error) quiet))
       (reply_same status (status_of NoMemory) text (line_of NoMemory) ended line)
+
+-- a call that only reads keeps what each call keeps
+pub reads_here : (old new : Known) (failed : Bool) → OnlyReads old new failed → AllHere old.slot → AllHere new.slot
+reads_here old new failed reads here = subst AllHere (sym (ap (λ (k : Known). k.slot) reads.same)) here
+
+pub reads_keep : (old new : Known) (failed : Bool) → OnlyReads old new failed → AllHere old.slot → KeepsRest old new
+reads_keep old new failed reads here = record {
+  sources = ap (λ (k : Known). k.sources) reads.same;
+  here = reads_here old new failed reads here;
+}
+
+-- what is kept couldn't be read
+pub kept_tells : (X : Type 0) (build : Build) (Says : Plan → List ℕ → Type 0) (old new : Known) (reply : Reply) (fault : KeptFault)
+    → ReadsBuilds {X = X} (Err fault) old new → reply ≡ stopped (stop_of_kept fault) → Tells build Says old new reply
+kept_tells X build Says old new reply kept.Read (inl reads) says = unseen (store reads.0 reads.1) says
+kept_tells X build Says old new reply kept.Read (inr reads) says = unseen (folder reads.0 reads.1) says
+kept_tells X build Says old new reply kept.Tree reads says = absurd reads
+kept_tells X build Says old new reply kept.OutOfMemory reads says = forgotten reads says

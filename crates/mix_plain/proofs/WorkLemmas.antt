@@ -51,12 +51,12 @@ memory_builds compile plan old new before after reply stood says =
     no_memory (record { reads = stood.reads; trees = stood.trees; deaths = stood.deaths }) says
 
 -- a fault of a call that writes builds
-pub fault_builds : (compile : Content → Outcome) (plan : Plan) (old mid new : Known) (before after : ℕ) (reply : Reply) (fault : KeptFault)
-    → Stood old mid before after → CountsWrites {X = Unit {0}} (Err fault) mid new → reply ≡ stopped (stop_of_kept fault)
+pub fault_builds : (X : Type 0) (compile : Content → Outcome) (plan : Plan) (old mid new : Known) (before after : ℕ) (reply : Reply) (fault : KeptFault)
+    → Stood old mid before after → CountsWrites {X = X} (Err fault) mid new → reply ≡ stopped (stop_of_kept fault)
     → Builds compile plan (passage_of (site_of old before) (site_of new after)) reply
-fault_builds compile plan old mid new before after reply Read stood counts says = read_fault (subst (λ (n : ℕ). Rose n new.faults) stood.reads counts.0) says
-fault_builds compile plan old mid new before after reply Tree stood counts says = tree_fault (subst (λ (n : ℕ). Rose n new.returned) stood.trees counts.1) says
-fault_builds compile plan old mid new before after reply OutOfMemory stood counts says =
+fault_builds X compile plan old mid new before after reply Read stood counts says = read_fault (subst (λ (n : ℕ). Rose n new.faults) stood.reads counts.0) says
+fault_builds X compile plan old mid new before after reply Tree stood counts says = tree_fault (subst (λ (n : ℕ). Rose n new.returned) stood.trees counts.1) says
+fault_builds X compile plan old mid new before after reply OutOfMemory stood counts says =
     no_memory (record { reads = counts.0 ∙ stood.reads; trees = counts.1 ∙ stood.trees; deaths = stood.deaths }) says
 
 emptied_again : (slot : Slot) → emptied_slot slot ≡ emptied_slot (emptied_slot slot)
