@@ -5,13 +5,13 @@
 //! of compiling is measured by.
 #![tactic(auto)]
 
-mod clean;
+mod cleaning;
 mod compile;
-mod deps;
 mod fill;
-mod stale;
+mod listing;
+mod telling;
 
-pub use clean::clean;
+pub use cleaning::clean;
 pub use compile::{compile_in_turn, plain_compile};
-pub use deps::deps;
-pub use stale::stale;
+pub use listing::deps;
+pub use telling::stale;

@@ -99,7 +99,7 @@ fn push_why(text: &mut Vec<u8>, why: &Why) -> Result<(), AllocError>
         Why::Options => text.extend_from_slice(b"options"),
         Why::Sources(path) => {
             text.extend_from_slice(b"source ")?;
-            text.extend_from_slice(path.as_bytes())
+            text.extend_from_slice(path.as_str().as_bytes())
         }
         Why::Need(app) => {
             text.extend_from_slice(b"need ")?;

@@ -1,7 +1,7 @@
 use Rattle.std.proofs.Common.{ap}
 use Rattle.mx_base.specs.NameFaults.{blame_of}
 use Rattle.build_plan.proofs.NameLemmas.{not_refused}
-use Rattle.mix_plain.proofs.clean.name_of.Goals as goal
+use Rattle.mix_plain.proofs.cleaning.name_of.Goals as goal
 
 pub unreachable-requires : goal.unreachable-requires
 unreachable-requires c =

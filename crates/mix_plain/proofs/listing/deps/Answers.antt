@@ -3,7 +3,7 @@ use Rattle.build_plan.specs.Plan.{build_of}
 use Rattle.mix_plain.specs.Tells.{SaysDeps}
 use Rattle.mix_plain.specs.Tells.Tells.{told, no_memory}
 use Rattle.mix_plain.proofs.PlanLemmas.{only_read, refuse_tells}
-use Rattle.mix_plain.proofs.deps.deps.Goals as goal
+use Rattle.mix_plain.proofs.listing.deps.Goals as goal
 
 pub returns-in-Ok : goal.returns-in-Ok
 returns-in-Ok g c =

@@ -3,7 +3,7 @@ use Rattle.build_plan.specs.Plan.{build_of}
 use Rattle.mix_plain.specs.Tells.{SaysStale}
 use Rattle.mix_plain.specs.Tells.Tells.{told, no_memory}
 use Rattle.mix_plain.proofs.PlanLemmas.{kept_tells, only_read, reads_here, refuse_tells}
-use Rattle.mix_plain.proofs.stale.stale.Goals as goal
+use Rattle.mix_plain.proofs.telling.stale.Goals as goal
 
 pub read_kept-requires : goal.read_kept-requires
 read_kept-requires g c = reads_here (g.S.Store.known c.args.store.now) (g.S.Store.known c.plan.new.store) _ c.in-Ok.ensures.reads c.requires.here

@@ -62,7 +62,7 @@ fn push_origin(text: &mut Vec<u8>, job: &Job) -> Result<(), AllocError>
     match &job.origin {
         Origin::Path => {
             text.extend_from_slice(b"path ")?;
-            text.extend_from_slice(job.dir.as_bytes())
+            text.extend_from_slice(job.dir.as_str().as_bytes())
         }
         Origin::Hex { package } => {
             text.extend_from_slice(b"hex ")?;
