@@ -1,0 +1,6 @@
+pub mod FolderLemmas
+pub mod KeptLemmas
+pub mod ReadLemmas
+pub mod VersionLemmas
+pub mod WinnerLemmas
+pub mod ZipLemmas
