@@ -1,8 +1,9 @@
 -- What was found for winners that all come from folders.
-use Rattle.std.proofs.Common.{◌≡◌, ℕ, zero, suc, ◌<◌, ◌++◌, List, [], ◌∷◌, length, map, slice_get, Option, Some, None, Result, Ok, Err, IfSome, refl, sym, ◌∙◌, ap, subst}
+use Rattle.std.proofs.Common.{◌≡◌, ℕ, List, [], ◌∷◌, map, Option, Some, None, Result, Ok, Err, IfSome, refl, sym, ◌∙◌, ap, subst}
 use Rattle.std.specs.List.{All, AllZip, Contains}
-use Rattle.std.proofs.lemmas.List.Elements.{All-nil, All-cons, All-head, All-tail}
-use Rattle.std.proofs.lemmas.Option.{none-some, same_Some}
+use Rattle.std.proofs.lemmas.List.Elements.{All-nil, All-cons, All-head, All-tail, Contains-get_or}
+use Rattle.std.proofs.lemmas.Option.{get_or_from_slice_get, same_Some, slice_get_within}
+use Rattle.std.proofs.lemmas.Slice.Zip.{AllZip-long}
 use Rattle.mx_base.specs.Blame.Blame.{Input}
 use Rattle.mx_base.specs.declared.file.File.{File}
 use Rattle.dep_options.specs.declared.decl.Decl.{Decl}
@@ -24,10 +25,11 @@ use Rattle.path_children.proofs.WinnerLemmas.{none_unknown}
 use Rattle.build_plan.specs.declared.error.PlanError.{PlanError}
 use Rattle.build_plan.specs.Blame.{blame_of}
 use Rattle.build_plan.specs.Children.{ChildrenBy, IsUnlocked, evidence_by, unlocked_once}
-use Rattle.build_plan.specs.Found.{AreFoundFor, IsFoundAt, LacksFolder}
+use Rattle.build_plan.specs.Found.{AreFoundFor, IsFolderOf, IsFoundAt, LacksFolder, StandsAs}
 use Rattle.build_plan.specs.Refusals.{of_rows}
 use Rattle.build_plan.specs.Stages.{ListsRows}
 use Rattle.build_plan.specs.Stages.ListsRows.{meets, passes, lists}
+use Rattle.build_plan.proofs.SearchLemmas.{zip_get}
 
 -- ---- the rows
 
@@ -61,13 +63,6 @@ none_lacks one (Some files) root listed error are lacks =
 
 -- ---- folders
 
-pub zip_at : {A B : Type 0} (R : A → B → Type 0) (xs : List A) (ys : List B) (k : ℕ) (x : A) (y : B) → AllZip R xs ys → slice_get xs k ≡ Some x → slice_get ys k ≡ Some y → R x y
-zip_at R [] ys k x y all at here = absurd (none-some x at)
-zip_at R (a ∷ xs) [] k x y all at here = absurd all
-zip_at R (a ∷ xs) (b ∷ ys) zero x y all at here =
-    subst (λ z. R z y) (same_Some a x at) (subst (λ z. R a z) (same_Some b y here) all.0)
-zip_at R (a ∷ xs) (b ∷ ys) (suc k) x y all at here = zip_at R xs ys k x y all.1 at here
-
 pub folders_at : (rows : List Row) (winners : List ℕ) (folders : List Found) → AllZip (IsAnyFoundAt rows) winners (map (λ f. Some f) folders) → AllZip (IsFoundAt rows) winners folders
 folders_at rows [] [] all = tt
 folders_at rows [] (one ∷ folders) all = absurd all
@@ -90,3 +85,50 @@ folders_for listed folders found is are = record {
   within = are.within;
   at = folders_at listed.rows listed.winners folders (subst (λ (fs : List (Option Found)). AllZip (IsAnyFoundAt listed.rows) listed.winners fs) is are.at);
 }
+
+-- ---- one winner after another
+
+get_next : (folders : List Found) (one : Option Found) (rest : List (Option Found)) → slice_get (map (λ f. Some f) folders ++ one ∷ rest) (length folders) ≡ Some one
+get_next [] one rest = refl
+get_next (f ∷ folders) one rest = get_next folders one rest
+
+module _ (listed : Listed) (found : List (Option Found)) (folders : List Found) (one : Option Found) (items rest : List (Option Found)) where
+  next_at : found ≡ map (λ f. Some f) folders ++ items → items ≡ one ∷ rest → slice_get found (length folders) ≡ Some one
+  next_at split steps =
+      ap (λ (fs : List (Option Found)). slice_get fs (length folders)) (split ∙ ap (λ (is : List (Option Found)). map (λ f. Some f) folders ++ is) steps)
+      ∙ get_next folders one rest
+
+  pub within_winners : AreAllFoundFor listed found → found ≡ map (λ f. Some f) folders ++ items → items ≡ one ∷ rest → length folders < length listed.winners
+  within_winners are split steps =
+      let below = slice_get_within found (length folders) one (next_at split steps) in
+      let long : length found ≡ length listed.winners = AllZip-long (IsAnyFoundAt listed.rows) listed.winners found are.at in
+      omega (arith, below, long)
+
+  -- a winner without a folder is refused
+  pub lacks_one : AreAllFoundFor listed found → found ≡ map (λ f. Some f) folders ++ items → items ≡ one ∷ rest → (row : Row) (error : PlanError)
+      → StandsAs listed (length folders) row → IsFolderOf row one (Err error) → LacksFolder listed error
+  lacks_one are split steps row error stands (none, is) =
+      let k = length folders in
+      let here : IsAnyFoundAt listed.rows stands.place one = zip_get (IsAnyFoundAt listed.rows) listed.winners found k stands.place one are.at stands.wins (next_at split steps) in
+      let gone = subst (λ (o : Option Found). IsAnyFoundAt listed.rows stands.place o) none here in
+      let same : gone.row ≡ row = same_Some gone.row row (sym gone.stands ∙ stands.stands) in
+      record {
+        place = stands.place;
+        row = row;
+        name = gone.source.0;
+        wins = subst (λ (n : ℕ). Contains listed.winners n) (get_or_from_slice_get listed.winners k 0 stands.place stands.wins)
+            (Contains-get_or listed.winners k 0 (slice_get_within listed.winners k stands.place stands.wins));
+        stands = stands.stands;
+        source = ap (λ (r : Row). r.decl.source) (sym same) ∙ gone.source.1;
+        is = is;
+      }
+
+  pub splits_more : (new : List Found) (folder : Found) → found ≡ map (λ f. Some f) folders ++ items → items ≡ one ∷ rest → one ≡ Some folder → new ≡ folders ++ folder ∷ []
+      → found ≡ map (λ f. Some f) new ++ rest
+  splits_more new folder split steps is pushed =
+      split ∙ ap (λ (is : List (Option Found)). map (λ f. Some f) folders ++ is) (steps ∙ ap (λ (o : Option Found). o ∷ rest) is)
+      ∙ moved folders ∙ ap (λ (fs : List Found). map (λ f. Some f) fs ++ rest) (sym pushed)
+    where
+      moved : (front : List Found) → map (λ f. Some f) front ++ (Some folder ∷ rest) ≡ map (λ f. Some f) (front ++ folder ∷ []) ++ rest
+      moved [] = refl
+      moved (f ∷ front) = ap (λ (fs : List (Option Found)). Some f ∷ fs) (moved front)
