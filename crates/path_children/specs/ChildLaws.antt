@@ -20,7 +20,7 @@ use Rattle.path_children.specs.declared.error.ChildError.{ChildError}
 use Rattle.path_children.specs.declared.error.ChildError.TheVariants.{Folder, Registry}
 use Rattle.path_children.specs.declared.error.FolderError.{FolderError}
 use Rattle.path_children.specs.declared.error.FolderError.TheVariants.{PathMissing, Project as Refused}
-use Rattle.path_children.specs.Blame.{child_blame}
+use Rattle.path_children.specs.Blame.{child_blame, folder_blame}
 use Rattle.path_children.specs.Dependencies.{AreChildren, Declared, DeclaresOnce, Evidence, IsAmong, SaysFolder, declared_by, evidence_of, has_files}
 use Rattle.path_children.specs.Dependencies.AreChildren.{of_registry, of_refused, of_folder}
 use Rattle.path_children.specs.Dependencies.SaysFolder.{missing, refused, holds}
@@ -127,7 +127,7 @@ among_inside : {R : Type 0} (Says : Result (List Decl) R → Type 0) (error : Ch
 among_inside Says (Registry refusal) is = refl
 among_inside Says (Folder error) is = absurd is
 
-folder_inside : {files : List File} {app dir : List ℕ} {R : Type 0} {error : FolderError} → SaysFolder files app dir (Err error) → child_blame {R = R} (Folder error) ≡ Input
+folder_inside : {files : List File} {app dir : List ℕ} {error : FolderError} → SaysFolder files app dir (Err error) → folder_blame error ≡ Input
 folder_inside (missing gone) = refl
 folder_inside (refused has reads) = refl
 

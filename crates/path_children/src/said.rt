@@ -1,6 +1,6 @@
 // How it is said why the folder of a dependency is refused.
-ghost use Rattle.std.specs.Prelude.{◌≡◌, ◌++◌, OnOk};
-ghost use Rattle.path_children.specs.Said.{folder_said, manifest_at_said, missing_said};
+ghost use Rattle.std.specs.Prelude.{◌≡◌, ◌++◌, OnOk, codes};
+ghost use Rattle.path_children.specs.Said.{folder_said, manifest_at_said};
 
 use crate::error::FolderError;
 use mx_base::{AppName, RelPath};
@@ -23,7 +23,8 @@ impl FolderError {
 
 /// Adds that no file lies below the folder of an app, for people.
 pub fn say_missing(text: &mut Vec<u8>, app: &AppName, dir: &RelPath) -> Result<(), AllocError>
-    ensures { OnOk result (text.new.items ≡ text.old.items ++ missing_said app.now dir.now) }
+    ensures { OnOk result (text.new.items ≡ text.old.items
+        ++ codes "path missing: " ++ app.now ++ codes " " ++ dir.now) }
 {
     text.extend_from_slice(b"path missing: ")?;
     text.extend_from_slice(app.as_str().as_bytes())?;

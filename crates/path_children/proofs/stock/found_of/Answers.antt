@@ -7,8 +7,8 @@ use Rattle.path_children.specs.Kept.{IsFoundIn}
 use Rattle.path_children.proofs.WinnerLemmas.{finds_refused}
 use Rattle.path_children.proofs.stock.found_of.Goals as goal
 
-pub take-requires-placed : goal.take-requires-placed
-take-requires-placed g c = subst (λ (s : DepSource). IsTrue (is_dep_source s)) c.in-Path.is c.args.row.now.decl.placed
+pub take-requires-clause-placed : goal.take-requires-clause-placed
+take-requires-clause-placed g c = subst (λ (s : DepSource). IsTrue (is_dep_source s)) c.in-Path.is c.args.row.now.decl.placed
 
 pub returns-in-Hex-clause-answer : goal.returns-in-Hex-clause-answer
 returns-in-Hex-clause-answer g c = (c.in-Hex.«package», c.in-Hex.is)

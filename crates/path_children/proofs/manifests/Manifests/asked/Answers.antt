@@ -5,5 +5,5 @@ use Rattle.dep_options.specs.declared.decl.DepSource.{DepSource}
 use Rattle.path_children.proofs.FolderLemmas.{by_folder, by_refusal, by_registry}
 use Rattle.path_children.proofs.manifests.Manifests.asked.Goals as goal
 
-pub declared-requires-placed : goal.declared-requires-placed
-declared-requires-placed g c = subst (λ (s : DepSource). IsTrue (is_dep_source s)) c.in-Path.is c.args.winner.now.placed
+pub declared-requires-clause-placed : goal.declared-requires-clause-placed
+declared-requires-clause-placed g c = subst (λ (s : DepSource). IsTrue (is_dep_source s)) c.in-Path.is c.args.winner.now.placed
