@@ -105,7 +105,7 @@ module _ (dir : List ℕ) where
   pub declared_here : (told : Option (List File)) (app env : List ℕ) (found : Found) (decls : List Decl) → IsFoundIn told dir found → decls ≡ filter (λ decl. admits decl.only env) (declared_by found.project) → IfSome told (λ files. Declares files app dir env (Ok decls))
   declared_here None app env found decls here are = tt
   declared_here (Some files) app env found decls here are =
-      (found.project, subst (λ (d : List ℕ). SaysFolder files app d (Ok found.project)) here.at (holds here.says.0 here.says.1.loaded), are)
+      (found.project, holds here.says.0 (subst (λ (d : List ℕ). IsLoaded files d (Ok found.project)) here.at here.says.1.loaded), are)
 
 -- what a winner declares whose folder says this
 pub by_folder : {K R : Type 0} (declared : K → Declared R) (known : K) (told : Option (List File)) (app dir : List ℕ) (winner : Decl) (decls : List Decl) → winner.source ≡ Path dir → IfSome told (λ files. Declares files app dir winner.env (Ok decls)) → IfSome told (λ files. AreChildren declared (record { files = files; registry = known }) app winner (Ok decls))
