@@ -37,7 +37,7 @@ returns-in-Err-clause-answer g c =
     let rows = c.in_ok-rows.rows in
     let error = c.in-Err.error in
     λ input.
-    refused_later c.one_project.ensures g.R.Registry.declared g.R.Registry.one registry old.sources c.args.root.now rows error
+    refused_later c.one_project.ensures g.R.Registry.declared g.met.R.Registry.one registry old.sources c.args.root.now rows error
     (if_lists g.R.Registry.declared registry old.sources c.args.root.now rows c.in_ok-rows.ensures.answer)
     (subst (λ (o : Option (List File)). IfSome o (λ files. RefusesWinner files rows error)) (made_sources _ _ old new c.in_ok-rows.ensures.made_over) (c.in-Err.ensures.answer input))
 
