@@ -1,3 +1,4 @@
+pub mod Bases
 pub mod Blame
 pub mod Children
 pub mod Found
@@ -10,6 +11,7 @@ pub mod Recipes
 pub mod Refusals
 pub mod Said
 pub mod Scenes
+pub mod Sites
 pub mod Sources
 pub mod Stages
 pub mod Versions

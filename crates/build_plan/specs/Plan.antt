@@ -22,24 +22,26 @@ use Rattle.build_plan.specs.declared.error.DivergedLine.{DivergedLine}
 use Rattle.build_plan.specs.declared.error.PlanError.{PlanError}
 use Rattle.build_plan.specs.declared.error.PlanError.TheVariants as refused
 use Rattle.path_children.specs.declared.error.ChildError.{ChildError}
-use Rattle.build_plan.specs.Children.{ChildrenBy}
+use Rattle.mix_lock.specs.declared.error.LockError.{LockError}
+use Rattle.mix_lock.specs.Lock.{AppEntry}
+use Rattle.build_plan.specs.Children.{AreLocked, ChildrenBy, Known, known_by}
 use Rattle.build_plan.specs.Refusals.{of_child}
 use Rattle.build_plan.specs.Versions.{AreVersions}
-use Rattle.build_plan.specs.Jobs.{Schedule, AreFirstJobs, AllFit, is_too_large}
+use Rattle.build_plan.specs.Jobs.{Schedule, AreFirstJobs, AllStand, refusal_of}
 use Rattle.build_plan.specs.Lines.{AreLines}
 use Rattle.build_plan.specs.Needs.{graph_of, apps_of}
 
 -- the rows of these root declarations, within the limit, with the versions of their winners
-pub record AreListed (files : List File) (root : List Decl) (listed : Listed) (versions : List (Option Parts)) : Type 0 where
-  pub rows : AreRows (ChildrenBy files) root listed.rows listed.winners
+pub record AreListed (known : Known) (root : List Decl) (listed : Listed) (versions : List (Option Parts)) : Type 0 where
+  pub rows : AreRows (ChildrenBy known) root listed.rows listed.winners
   pub few : length listed.rows ≤ most_rows
-  pub known : AreVersions files listed.rows listed.winners versions
+  pub told : AreVersions known listed.rows listed.winners versions
 
 -- rows that live together
-pub record Converge (files : List File) (root : List Decl) (rows : List Row) : Type 0 where
+pub record Converge (known : Known) (root : List Decl) (rows : List Row) : Type 0 where
   pub winners : List ℕ
   pub versions : List (Option Parts)
-  pub listed : AreListed files root (record { rows = rows; winners = winners }) versions
+  pub listed : AreListed known root (record { rows = rows; winners = winners }) versions
   pub together : NoneDiverges rows winners versions
 
 -- what is built: an environment for a target
@@ -51,32 +53,43 @@ abbrev pub build_of : List ℕ → List ℕ → Build
 build_of env target = record { env = env; target = target }
 
 -- what the jobs of a build are made of over root declarations
-pub record IsSchedule (files : List File) (root : List Decl) (build : Build) (schedule : Schedule) : Type 0 where
-  pub set : AreSettings files (Ok schedule.settings)
+pub record IsSchedule (known : Known) (root : List Decl) (build : Build) (schedule : Schedule) : Type 0 where
+  pub set : AreSettings known.files (Ok schedule.settings)
   pub aimed : schedule.target ≡ build.target
-  pub converge : Converge files root schedule.rows
+  pub converge : Converge known root schedule.rows
   pub reached : AreReached schedule.rows build.env build.target schedule.places
   pub ordered : IsOrderOf (graph_of schedule.rows build.target schedule.places) schedule.order
 
--- what is met first over these root declarations: a refusal of the settings, of a dependency or of the number of rows, then
--- all divergences, a cycle, and the first app past a limit; else the jobs in converged order
+-- the settings and the lock of a project
+pub record IsSetUp (files : List File) (settings : Settings) (lock : List AppEntry) : Type 0 where
+  pub set : AreSettings files (Ok settings)
+  pub locked : AreLocked files (Ok lock)
+
+-- what is met first over these root declarations: a refusal of the settings, of the lock, of a dependency or of the number of
+-- rows, then all divergences, a cycle, and the first job that is refused; else the jobs in converged order
 pub data IsPlanOf (files : List File) (root : List Decl) (build : Build) : Result (List Job) PlanError → Type 0 where
   settings : {error : SettingsError} → AreSettings files (Err error) → IsPlanOf files root build (Err (refused.Settings error))
-  dependency : (settings : Settings) {error : ChildError (List ℕ)} → AreSettings files (Ok settings) → Meets (ChildrenBy files) root error
-      → IsPlanOf files root build (Err (of_child error))
-  too_many : (settings : Settings) → AreSettings files (Ok settings) → PassesLimit (ChildrenBy files) root
-      → IsPlanOf files root build (Err refused.TooManyRows)
-  diverged : (settings : Settings) (listed : Listed) (versions : List (Option Parts)) (divergences : List Divergence) {lines : List DivergedLine}
-      → AreSettings files (Ok settings) → AreListed files root listed versions → AreDivergences listed.rows listed.winners versions divergences
+  lock : (settings : Settings) {error : LockError} → AreSettings files (Ok settings) → AreLocked files (Err error)
+      → IsPlanOf files root build (Err (refused.Lock error))
+  dependency : (settings : Settings) (lock : List AppEntry) {error : ChildError (List ℕ)} → IsSetUp files settings lock
+      → Meets (ChildrenBy (known_by files lock)) root error → IsPlanOf files root build (Err (of_child error))
+  too_many : (settings : Settings) (lock : List AppEntry) → IsSetUp files settings lock
+      → PassesLimit (ChildrenBy (known_by files lock)) root → IsPlanOf files root build (Err refused.TooManyRows)
+  diverged : (settings : Settings) (lock : List AppEntry) (listed : Listed) (versions : List (Option Parts)) (divergences : List Divergence) {lines : List DivergedLine}
+      → IsSetUp files settings lock → AreListed (known_by files lock) root listed versions
+      → AreDivergences listed.rows listed.winners versions divergences
       → 0 < length divergences → AreLines listed.rows divergences lines → IsPlanOf files root build (Err (refused.Diverged lines))
-  cycle : (settings : Settings) (rows : List Row) (places nodes : List ℕ) → AreSettings files (Ok settings) → Converge files root rows
+  cycle : (settings : Settings) (lock : List AppEntry) (rows : List Row) (places nodes : List ℕ) → IsSetUp files settings lock
+      → Converge (known_by files lock) root rows
       → AreReached rows build.env build.target places → IsCycleOf (graph_of rows build.target places) nodes
       → IsPlanOf files root build (Err (refused.Cycle (apps_of rows places nodes)))
-  too_large : (schedule : Schedule) (jobs : List Job) (job : Job) → IsSchedule files root build schedule
-      → AreFirstJobs files schedule (jobs ++ job ∷ []) → AllFit jobs → IsTrue (is_too_large jobs job)
-      → IsPlanOf files root build (Err (refused.TooLarge job.app))
-  planned : (schedule : Schedule) {jobs : List Job} → IsSchedule files root build schedule → AreFirstJobs files schedule jobs
-      → length jobs ≡ length schedule.order → AllFit jobs → IsPlanOf files root build (Ok jobs)
+  stopped : (lock : List AppEntry) (schedule : Schedule) (jobs : List Job) (job : Job) {error : PlanError} → AreLocked files (Ok lock)
+      → IsSchedule (known_by files lock) root build schedule
+      → AreFirstJobs (known_by files lock) schedule (jobs ++ job ∷ []) → AllStand files jobs → refusal_of files jobs job ≡ Some error
+      → IsPlanOf files root build (Err error)
+  planned : (lock : List AppEntry) (schedule : Schedule) {jobs : List Job} → AreLocked files (Ok lock)
+      → IsSchedule (known_by files lock) root build schedule → AreFirstJobs (known_by files lock) schedule jobs
+      → length jobs ≡ length schedule.order → AllStand files jobs → IsPlanOf files root build (Ok jobs)
 
 -- what is met first: a refusal of the settings, of the root, and then what is met over the root's declarations
 pub data IsPlan (files : List File) (env target : List ℕ) : Result (List Job) PlanError → Type 0 where

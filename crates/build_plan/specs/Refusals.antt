@@ -2,6 +2,8 @@
 use Rattle.std.specs.Prelude.{ℕ, List}
 use Rattle.dep_rows.specs.declared.error.RowsError.{RowsError}
 use Rattle.dep_rows.specs.declared.error.RowsError.TheVariants as rows
+use Rattle.mix_lock.specs.declared.error.LockError.{LockError}
+use Rattle.mix_lock.specs.declared.error.LockError.TheVariants as lock
 use Rattle.project_file.specs.declared.error.ProjectError.{ProjectError}
 use Rattle.project_file.specs.declared.error.ProjectError.TheVariants as project
 use Rattle.project_file.specs.declared.error.SettingsError.{SettingsError}
@@ -13,7 +15,7 @@ use Rattle.path_children.specs.declared.error.ChildError.TheVariants as child
 use Rattle.path_children.specs.declared.error.FolderError.{FolderError}
 use Rattle.path_children.specs.declared.error.FolderError.TheVariants as folder
 use Rattle.build_plan.specs.declared.error.PlanError.{PlanError}
-use Rattle.build_plan.specs.declared.error.PlanError.TheVariants.{Read, Settings, Project, PathMissing, NotLocked, TooManyRows, OutOfMemory}
+use Rattle.build_plan.specs.declared.error.PlanError.TheVariants.{Read, Settings, Lock, Project, PathMissing, NotLocked, TooManyRows, OutOfMemory}
 
 -- what a store doesn't give
 abbrev pub of_store : StoreFault → PlanError
@@ -25,6 +27,11 @@ abbrev pub of_settings : SettingsError → PlanError
 of_settings settings.Read = Read
 of_settings settings.OutOfMemory = OutOfMemory
 of_settings error = Settings error
+
+-- the lock is refused
+abbrev pub of_lock : LockError → PlanError
+of_lock lock.OutOfMemory = OutOfMemory
+of_lock error = Lock error
 
 -- the manifest at a path is refused
 abbrev pub of_project : List ℕ → ProjectError → PlanError

@@ -1,6 +1,7 @@
 -- How it is said why a project has no plan.
 use Rattle.std.specs.Prelude.{ℕ, List, [], ◌∷◌, ◌++◌, map, flat_map, Option, Some, None, codes, decimal}
-use Rattle.mx_base.specs.Layout.{settings_name}
+use Rattle.mx_base.specs.Layout.{lock_name, settings_name}
+use Rattle.mix_lock.specs.Said.{lock_said}
 use Rattle.project_file.specs.Said.{settings_said}
 use Rattle.path_children.specs.Said.{manifest_at_said, missing_said}
 use Rattle.converger.specs.declared.divergence.Rule.{Rule}
@@ -35,11 +36,13 @@ texts_said plan.Read = codes "read fault" ∷ []
 texts_said (plan.Settings fault) = (settings_name ++ codes ": " ++ settings_said fault) ∷ []
 texts_said plan.NoProject = codes "no project" ∷ []
 texts_said (plan.Project path fault) = manifest_at_said path fault ∷ []
+texts_said (plan.Lock fault) = (lock_name ++ codes ": " ++ lock_said fault) ∷ []
 texts_said (plan.PathMissing app dir) = missing_said app dir ∷ []
 texts_said (plan.NotLocked app) = (codes "not locked: " ++ app) ∷ []
 texts_said plan.TooManyRows = codes "too many rows" ∷ []
 texts_said (plan.Diverged lines) = map diverged_said lines
 texts_said (plan.Cycle apps) = (codes "cycle:" ++ flat_map after_space apps) ∷ []
+texts_said (plan.NotFetched app) = (codes "not fetched: " ++ app) ∷ []
 texts_said (plan.TooLarge app) = (codes "too large: " ++ app) ∷ []
 texts_said plan.OutOfMemory = codes "out of memory" ∷ []
 

@@ -20,10 +20,11 @@ use Rattle.build_plan.specs.declared.error.DivergedLine.{DivergedLine}
 use Rattle.build_plan.specs.declared.error.PlanError.{PlanError}
 use Rattle.build_plan.specs.declared.error.PlanError.TheVariants as refused
 use Rattle.path_children.specs.declared.error.ChildError.{ChildError}
-use Rattle.build_plan.specs.Children.{ChildrenBy}
+use Rattle.mix_lock.specs.Lock.{AppEntry}
+use Rattle.build_plan.specs.Children.{AreLocked, ChildrenBy, Known}
 use Rattle.build_plan.specs.Refusals.{of_child}
 use Rattle.build_plan.specs.Versions.{AreVersions}
-use Rattle.build_plan.specs.Jobs.{Schedule, AreFirstJobs, AllFit, is_too_large}
+use Rattle.build_plan.specs.Jobs.{Schedule, AreFirstJobs, AllStand, refusal_of}
 use Rattle.build_plan.specs.Lines.{AreLines}
 use Rattle.build_plan.specs.Needs.{graph_of, apps_of}
 
@@ -33,6 +34,12 @@ SetsUp files (Ok settings) = AreSettings files (Ok settings)
 SetsUp files (Err (refused.Settings error)) = AreSettings files (Err error)
 SetsUp files (Err error) = ⊥
 
+-- the lock
+abbrev pub HasLock : List File → Result (List AppEntry) PlanError → Type 0
+HasLock files (Ok lock) = AreLocked files (Ok lock)
+HasLock files (Err (refused.Lock error)) = AreLocked files (Err error)
+HasLock files (Err error) = ⊥
+
 -- the manifest of the root
 abbrev pub HasRoot : List File → Result Project PlanError → Type 0
 HasRoot files (Ok root) = IsLoaded files [] (Ok (Some root))
@@ -41,20 +48,20 @@ HasRoot files (Err (refused.Project path fault)) = (path ≡ manifest_at []) × 
 HasRoot files (Err error) = ⊥
 
 -- the rows of a root and their winners
-pub data ListsRows (files : List File) (root : List Decl) : Result Listed PlanError → Type 0 where
-  meets : {error : ChildError (List ℕ)} → Meets (ChildrenBy files) root error → ListsRows files root (Err (of_child error))
-  passes : PassesLimit (ChildrenBy files) root → ListsRows files root (Err refused.TooManyRows)
-  lists : (listed : Listed) → AreRows (ChildrenBy files) root listed.rows listed.winners → length listed.rows ≤ most_rows → ListsRows files root (Ok listed)
+pub data ListsRows (known : Known) (root : List Decl) : Result Listed PlanError → Type 0 where
+  meets : {error : ChildError (List ℕ)} → Meets (ChildrenBy known) root error → ListsRows known root (Err (of_child error))
+  passes : PassesLimit (ChildrenBy known) root → ListsRows known root (Err refused.TooManyRows)
+  lists : (listed : Listed) → AreRows (ChildrenBy known) root listed.rows listed.winners → length listed.rows ≤ most_rows → ListsRows known root (Ok listed)
 
 -- rows with these versions live together, or there is a line of each divergence
 pub data LiveWith (listed : Listed) (versions : List (Option Parts)) : Result Listed PlanError → Type 0 where
   diverges : (divergences : List Divergence) {lines : List DivergedLine} → AreDivergences listed.rows listed.winners versions divergences → 0 < length divergences → AreLines listed.rows divergences lines → LiveWith listed versions (Err (refused.Diverged lines))
   lives : NoneDiverges listed.rows listed.winners versions → LiveWith listed versions (Ok listed)
 
--- the same with the versions that the files say
-pub record LivesTogether (files : List File) (listed : Listed) (answer : Result Listed PlanError) : Type 0 where
+-- the same with the versions that files and lock say
+pub record LivesTogether (known : Known) (listed : Listed) (answer : Result Listed PlanError) : Type 0 where
   pub versions : List (Option Parts)
-  pub known : AreVersions files listed.rows listed.winners versions
+  pub told : AreVersions known listed.rows listed.winners versions
   pub together : LiveWith listed versions answer
 
 -- the order of the graph of these winners
@@ -70,10 +77,11 @@ pub data Schedules (settings : Settings) (rows : List Row) (env target : List �
       → Schedules settings rows env target
       (Ok (record { settings = settings; target = target; rows = rows; places = places; order = order }))
 
--- the jobs in an order, or the first one past a limit
-pub data MakesJobs (files : List File) (schedule : Schedule) : Result (List Job) PlanError → Type 0 where
-  passes_size : (jobs : List Job) (job : Job) → AreFirstJobs files schedule (jobs ++ job ∷ []) → AllFit jobs → IsTrue (is_too_large jobs job) → MakesJobs files schedule (Err (refused.TooLarge job.app))
-  makes : {jobs : List Job} → AreFirstJobs files schedule jobs → length jobs ≡ length schedule.order → AllFit jobs → MakesJobs files schedule (Ok jobs)
+-- the jobs in an order, or the first one that is refused
+pub data MakesJobs (known : Known) (schedule : Schedule) : Result (List Job) PlanError → Type 0 where
+  stops_at : (jobs : List Job) (job : Job) {error : PlanError} → AreFirstJobs known schedule (jobs ++ job ∷ []) → AllStand known.files jobs
+      → refusal_of known.files jobs job ≡ Some error → MakesJobs known schedule (Err error)
+  makes : {jobs : List Job} → AreFirstJobs known schedule jobs → length jobs ≡ length schedule.order → AllStand known.files jobs → MakesJobs known schedule (Ok jobs)
 
 -- the first step's error, or what the next step answers of its value
 pub data Then {X Y E : Type 0} (First : Result X E → Type 0) (Next : X → Result Y E → Type 0) : Result Y E → Type 0 where

@@ -1,9 +1,10 @@
 // Why a project has no plan.
 ghost use Rattle.std.specs.Prelude.{◌≡◌};
-ghost use Rattle.build_plan.specs.Refusals.{of_project, of_settings};
+ghost use Rattle.build_plan.specs.Refusals.{of_lock, of_project, of_settings};
 
 use converger::Rule;
 use dep_rows::RowsError;
+use mix_lock::LockError;
 use mx_base::{AppName, ListOf, Names, RelPath};
 use path_children::{ChildError, FolderError};
 use project_file::{ProjectError, SettingsError};
@@ -39,6 +40,8 @@ pub enum PlanError {
     NoProject,
     /// The manifest at this path is refused.
     Project { path: RelPath, fault: ProjectError },
+    /// The lock is refused.
+    Lock(LockError),
     /// No file lies below the folder of a dependency.
     PathMissing { app: AppName, dir: RelPath },
     /// The app comes from the registry, and no version of it is locked.
@@ -49,6 +52,8 @@ pub enum PlanError {
     Diverged(DivergedLines),
     /// The apps of a cycle, each of which needs the next one, and the last one the first.
     Cycle(Names),
+    /// The app comes from the registry, and no file lies in the folder into which it is fetched.
+    NotFetched(AppName),
     /// The first app that passes a limit: the jobs of the environment, its sources, the sources of all, or what is
     /// sent of its job.
     TooLarge(AppName),
@@ -132,6 +137,16 @@ pub(crate) fn of_settings(fault: SettingsError) -> PlanError
         SettingsError::Read => PlanError::Read,
         SettingsError::OutOfMemory => PlanError::OutOfMemory,
         fault => PlanError::Settings(fault),
+    }
+}
+
+/// What a lock that is refused is for a plan.
+pub(crate) fn of_lock(fault: LockError) -> PlanError
+    ensures { result ≡ of_lock fault }
+{
+    match fault {
+        LockError::OutOfMemory => PlanError::OutOfMemory,
+        fault => PlanError::Lock(fault),
     }
 }
 

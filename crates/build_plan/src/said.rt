@@ -1,13 +1,15 @@
 // How it is said why a project has no plan.
 ghost use Rattle.std.specs.Prelude.{◌≡◌, ◌++◌, map, flat_map, OnOk, codes};
-ghost use Rattle.mx_base.specs.Layout.{settings_name};
+ghost use Rattle.mx_base.specs.Layout.{lock_name, settings_name};
+ghost use Rattle.mix_lock.specs.Said.{lock_said};
 ghost use Rattle.project_file.specs.Said.{settings_said};
 ghost use Rattle.path_children.specs.Said.{manifest_at_said, missing_said};
 ghost use Rattle.build_plan.specs.Said.{after_space, broken_said, by_said, diverged_said, line_of, lines_said, place_said};
 
 use crate::error::{DivergedLine, PlanError};
 use converger::Rule;
-use mx_base::{AppName, RelPath, SETTINGS, push_decimal};
+use mix_lock::LockError;
+use mx_base::{AppName, LOCK, RelPath, SETTINGS, push_decimal};
 use path_children::{say_manifest, say_missing};
 use project_file::{ProjectError, SettingsError};
 use std::alloc::{AllocError, Global};
@@ -23,11 +25,13 @@ impl PlanError {
             PlanError::Settings(fault) => say_settings(alloc, before, text, fault),
             PlanError::NoProject => say_line(before, text, b"no project"),
             PlanError::Project { path, fault } => say_refused(alloc, before, text, path, fault),
+            PlanError::Lock(fault) => say_lock(alloc, before, text, fault),
             PlanError::PathMissing { app, dir } => say_absent(before, text, app, dir),
             PlanError::NotLocked(app) => say_app(before, text, b"not locked: ", app),
             PlanError::TooManyRows => say_line(before, text, b"too many rows"),
             PlanError::Diverged(lines) => say_diverged(alloc, before, text, lines.as_slice()),
             PlanError::Cycle(apps) => say_cycle(before, text, apps.as_slice()),
+            PlanError::NotFetched(app) => say_app(before, text, b"not fetched: ", app),
             PlanError::TooLarge(app) => say_app(before, text, b"too large: ", app),
             PlanError::OutOfMemory => say_line(before, text, b"out of memory"),
         }
@@ -65,6 +69,29 @@ fn say_of_settings(
         ++ settings_name ++ codes ": " ++ settings_said fault.now) }
 {
     text.extend_from_slice(SETTINGS.as_bytes())?;
+    text.extend_from_slice(b": ")?;
+    fault.say(alloc, text)
+}
+
+fn say_lock(
+    alloc: Global,
+    before: &[u8],
+    text: &mut Vec<u8>,
+    fault: &LockError,
+) -> Result<(), AllocError>
+    ensures { OnOk result (text.new.items ≡ text.old.items
+        ++ line_of before.now (lock_name ++ codes ": " ++ lock_said fault.now)) }
+{
+    text.extend_from_slice(before)?;
+    say_of_lock(alloc, text, fault)?;
+    text.extend_from_slice(b"\n")
+}
+
+fn say_of_lock(alloc: Global, text: &mut Vec<u8>, fault: &LockError) -> Result<(), AllocError>
+    ensures { OnOk result (text.new.items ≡ text.old.items
+        ++ lock_name ++ codes ": " ++ lock_said fault.now) }
+{
+    text.extend_from_slice(LOCK.as_bytes())?;
     text.extend_from_slice(b": ")?;
     fault.say(alloc, text)
 }

@@ -1,6 +1,6 @@
 -- What always holds of a lock.
-use Rattle.std.specs.Prelude.{◌≡◌, ℕ, List, map, IsTrue, IsFalse, codes}
-use Rattle.std.specs.List.{AllByRecursion}
+use Rattle.std.specs.Prelude.{◌≡◌, ℕ, List, map, Option, Some, None, option_and_then, IsTrue, IsFalse, bytes_eq, codes}
+use Rattle.std.specs.List.{AllByRecursion, find}
 use Rattle.hex.specs.Hex.{IsBytes}
 use Rattle.mx_base.specs.AppName.{is_app_name}
 use Rattle.mx_base.specs.Order.{ArePathsInOrder}
@@ -51,3 +51,12 @@ AreInOrder entries = ArePathsInOrder (apps_of entries)
 pub record IsLock (entries : List AppEntry) : Type 0 where
   pub in_order : AreInOrder entries
   pub each : AllByRecursion IsAppEntry entries
+
+-- the release that an entry is, where it is one
+abbrev pub release_in : Entry → Option HexEntry
+release_in (Hex release) = Some release
+release_in (Other value) = None
+
+-- the release that is locked for an app, where one is
+abbrev pub release_of : List AppEntry → List ℕ → Option HexEntry
+release_of lock app = option_and_then (λ entry. release_in entry.1) (find (λ entry. bytes_eq app entry.0) lock)

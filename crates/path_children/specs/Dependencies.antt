@@ -1,7 +1,9 @@
 -- What a dependency declares in turn: by the manifest in its folder, or by what is known of the registry.
-use Rattle.std.specs.Prelude.{◌≡◌, ℕ, Bool, true, false, not, List, [], ◌∷◌, filter, Option, Some, None, option_map, Result, Ok, Err, IsTrue, IsFalse, codes}
+use Rattle.std.specs.Prelude.{◌≡◌, ℕ, Bool, true, false, not, List, [], ◌∷◌, filter, Option, Some, None, option_map, Result, Ok, Err, IsTrue, IsFalse, codes, refl}
 use Rattle.mx_base.specs.declared.file.File.{File}
 use Rattle.tree_store.specs.Files.{paths_below}
+use Rattle.version_req.specs.Condition.{Alternatives}
+use Rattle.dep_options.specs.declared.decl.CompileBy.TheVariants as by
 use Rattle.dep_options.specs.declared.decl.Decl.{Decl}
 use Rattle.dep_options.specs.declared.decl.DepSource.TheVariants.{Hex, Path}
 use Rattle.project_file.specs.declared.error.ProjectError.{ProjectError}
@@ -39,6 +41,25 @@ pub data SaysFolder (files : List File) (app dir : List ℕ) : Result (Option Pr
 -- what an app of the registry that comes from a package declares in turn, or why that isn't known
 abbrev pub Declared : Type 0 → Type 1
 Declared R = List ℕ → List ℕ → Result (List Decl) R → Type 0
+
+-- what a release declares of an app: a package of the registry, with the defaults for all else that a manifest can say
+abbrev pub registry_decl : List ℕ → List ℕ → Alternatives → Bool → Decl
+registry_decl app name requirement optional = record {
+  app = app;
+  requirement = Some requirement;
+  source = Hex name;
+  only = None;
+  targets = None;
+  env = codes "prod";
+  optional = optional;
+  override_ = false;
+  compile = by.Manager;
+  manager = None;
+  runtime = true;
+  app_file = true;
+  system_env = [];
+  placed = refl;
+}
 
 -- each app of the registry has one answer at most, by what is known
 abbrev pub DeclaresOnce : {K R : Type 0} → (K → Declared R) → Type 0

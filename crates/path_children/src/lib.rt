@@ -6,6 +6,7 @@
 //! is read once, and nothing is written.
 #![tactic(auto)]
 
+mod declaration;
 mod error;
 mod found;
 mod manifests;
@@ -14,6 +15,7 @@ mod said;
 mod stock;
 mod versions;
 
+pub use declaration::registry_decl;
 pub use error::{ChildError, FolderError};
 pub use found::{Found, find};
 pub use registry::Registry;

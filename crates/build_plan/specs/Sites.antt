@@ -1,0 +1,49 @@
+-- What a dependency is compiled from.
+use Rattle.std.specs.Prelude.{◌≡◌, ◌≢◌, ◌⊎◌, ℕ, ◌<◌, List, [], length, Option, Some, IsFalse, slice_get, MatchOption}
+use Rattle.std.specs.List.{All, AllZip}
+use Rattle.mx_base.specs.declared.file.File.{File}
+use Rattle.mx_base.specs.Layout.{is_in_build}
+use Rattle.mx_base.specs.Order.{ArePathsInOrder, bytes_at}
+use Rattle.tree_store.specs.Files.{paths_below}
+use Rattle.dep_rows.specs.declared.row.Row.{Row}
+use Rattle.dep_rows.specs.Listed.{Listed, IsWithinLimit}
+use Rattle.project_file.specs.Files.{manifest_at}
+use Rattle.build_plan.specs.declared.site.Site.{Site}
+use Rattle.build_plan.specs.Bases.{IsBase}
+use Rattle.build_plan.specs.Children.{Known}
+use Rattle.build_plan.specs.Sources.{sources_of, bytes_in}
+use Rattle.build_plan.specs.Jobs.{most_files}
+
+-- what holds of a site, whether the store tells its files or not
+pub record IsSound (site : Site) : Type 0 where
+  pub not_root : site.base.dir ≢ []
+  pub placed : IsFalse (is_in_build site.base.dir)
+  pub in_order : ArePathsInOrder site.paths.items
+  pub outside : All (λ path. IsFalse (is_in_build path)) site.paths.items
+
+-- its paths and the text of its manifest are what the files say
+pub record Shows (files : List File) (site : Site) : Type 0 where
+  pub paths : site.paths.items ≡ paths_below site.base.dir files
+  pub text : site.text ≡ bytes_at (manifest_at site.base.dir) files
+
+-- it is the site of the winner at a place
+pub record IsSiteAt (known : Known) (rows : List Row) (place : ℕ) (site : Site) : Type 0 where
+  pub row : Row
+  pub stands : slice_get rows place ≡ Some row
+  pub base : IsBase known row.app row.decl site.base
+  pub shows : Shows known.files site
+
+-- these are the sites of the winners
+abbrev pub AreSites : Known → Listed → List Site → Type 0
+AreSites known listed sites = AllZip (IsSiteAt known listed.rows) listed.winners sites
+
+-- there is a sound site for each winner, and the rows are well formed and within the limit
+pub record AreSitesFor (listed : Listed) (sites : List Site) : Type 0 where
+  pub within : IsWithinLimit listed
+  pub long : length sites ≡ length listed.winners
+  pub sound : All IsSound sites
+
+-- the sources of a dependency: all of them, or they are more than a dependency may have or than there is room for
+abbrev pub AreSources : List File → List ℕ → ℕ → Option (List File) → Type 0
+AreSources files dir room sources =
+    MatchOption sources ((most_files < length (sources_of dir files)) ⊎ (room < bytes_in (sources_of dir files))) (λ all. all ≡ sources_of dir files)
