@@ -9,7 +9,6 @@ use Rattle.project_file.specs.declared.settings.Settings.{Settings}
 use Rattle.project_file.specs.Files.{manager_by_files}
 use Rattle.build_plan.specs.declared.post.Post.{Post}
 use Rattle.build_plan.specs.declared.recipe.Recipe.{Recipe}
-use Rattle.path_children.specs.Dependencies.{version_by}
 use Rattle.build_plan.specs.Jobs.{Schedule, manager_or}
 use Rattle.build_plan.specs.Options.{options_text}
 
@@ -22,8 +21,8 @@ how_among settings decl sources = command settings (manager_among decl sources) 
 
 -- it says how a winner with these sources is compiled
 pub record IsRecipe (schedule : Schedule) (post : Post) (sources : List File) (recipe : Recipe) : Type 0 where
-  pub version : recipe.version ≡ version_by post.found.now.project
+  pub version : recipe.version ≡ post.site.now.base.version
   pub how : recipe.how ≡ how_among schedule.settings post.row.now.decl sources
-  pub options : recipe.options ≡ options_text (version_by post.found.now.project) post.row.now.decl (manager_among post.row.now.decl sources)
+  pub options : recipe.options ≡ options_text (post.site.now.base.version) post.row.now.decl (manager_among post.row.now.decl sources)
       (how_among schedule.settings post.row.now.decl sources) schedule.target
   pub system_env : recipe.system_env ≡ post.row.now.decl.system_env

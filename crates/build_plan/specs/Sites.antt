@@ -47,3 +47,13 @@ pub record AreSitesFor (listed : Listed) (sites : List Site) : Type 0 where
 abbrev pub AreSources : List File → List ℕ → ℕ → Option (List File) → Type 0
 AreSources files dir room sources =
     MatchOption sources ((most_files < length (sources_of dir files)) ⊎ (room < bytes_in (sources_of dir files))) (λ all. all ≡ sources_of dir files)
+
+-- a site with the folder, paths, text and version that were found
+abbrev pub IsSiteOf : Found → Site → Type 0
+IsSiteOf found site =
+    (site.base.version ≡ version_by found.project) × (site.base.origin ≡ FromPath) × (site.base.dir ≡ found.dir)
+    × (site.paths ≡ found.paths) × (site.text ≡ found.text)
+
+-- the base of a release that is locked for an app
+abbrev pub IsBaseOf : List ℕ → HexEntry → Base → Type 0
+IsBaseOf app release base = (base.version ≡ release.version) × (base.origin ≡ FromHex release.name) × (base.dir ≡ fetched_folder app)

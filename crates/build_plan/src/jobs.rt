@@ -7,9 +7,9 @@ ghost use Rattle.compile_model.specs.Planned.{ArePlanned, most_jobs, most_sent, 
 ghost use Rattle.tree_store.specs.Blame.{blame_of as store_blame};
 ghost use Rattle.tree_store.specs.Known.{Told, OnlyReads};
 ghost use Rattle.build_plan.specs.Blame.{blame_of};
-ghost use Rattle.path_children.specs.Found.{IsFound};
+ghost use Rattle.build_plan.specs.Children.{known_by};
 ghost use Rattle.build_plan.specs.Jobs.{AllFit, IsJobAt};
-ghost use Rattle.build_plan.specs.Scenes.{Fits, IsKnownAt, IsPost, Misses, MakesJob, job_from, job_of_parts};
+ghost use Rattle.build_plan.specs.Scenes.{AreMeant, Fits, IsKnownAt, IsPost, Misses, MakesJob, job_from, job_of_parts};
 ghost use Rattle.build_plan.specs.Stages.{MakesJobs};
 
 use crate::error::PlanError;
@@ -31,9 +31,9 @@ pub(crate) fn jobs<S: Store>(
     store: &mut S,
     scene: &Scene<'_>,
 ) -> Result<Vec<Job>, PlanError>
-    requires { Told (S.known store.old) (λ files. All (IsFound files)) scene.now.found }
+    requires { Told (S.known store.old) (λ files. AreMeant (known_by files scene.now.lock)) scene.now }
     ensures answer { AnswersBy (λ jobs. jobs.items) blame_of result
-        (Told (S.known store.old) (λ files. MakesJobs files scene.now.schedule)) }
+        (Told (S.known store.old) (λ files. MakesJobs (known_by files scene.now.lock) scene.now.schedule)) }
     ensures fit { IfOk result (λ jobs. AllFit jobs.items) }
     ensures planned { IfOk result (λ jobs. ArePlanned jobs.items) }
     ensures reads { OnlyReads (S.known store.old) (S.known store.new) (fails blame_of result) }
@@ -55,18 +55,41 @@ fn job<S: Store>(
     scene: &Scene<'_>,
     opening: Opening,
 ) -> Result<Job, PlanError>
-    requires meant { Told (S.known store.old) (λ files. All (IsFound files)) scene.now.found }
+    requires meant { Told (S.known store.old) (λ files. AreMeant (known_by files scene.now.lock)) scene.now }
     requires at { opening.at < length scene.now.schedule.order }
     ensures answer { Answers blame_of result
-        (Told (S.known store.old) (λ files. MakesJob files scene.now.schedule opening)) }
+        (Told (S.known store.old) (λ files. MakesJob (known_by files scene.now.lock) scene.now.schedule opening)) }
     ensures known { IfOk result (IsKnownAt scene.now.schedule opening.at) }
     ensures fits { IfOk result (Fits opening) }
     ensures reads { OnlyReads (S.known store.old) (S.known store.new) (fails blame_of result) }
 {
     let post = scene.post_at(alloc, opening.at)?;
+    if is_unfetched(post.site) {
+        return Err(not_fetched(post.row));
+    }
     match job_of(alloc, store, scene, &post, opening)? {
         Some(job) => Ok(job),
         None => Err(too_large(post.row)),
+    }
+}
+
+/// Whether nothing lies in the folder into which a dependency is fetched.
+fn is_unfetched(site: &Site) -> bool
+    ensures { result ≡ is_bare site.now }
+{
+    match &site.base.origin {
+        Origin::Path => false,
+        Origin::Hex { .. } => site.paths.is_empty(),
+    }
+}
+
+fn not_fetched(row: &Row) -> PlanError
+    ensures app { blame_of result ≡ Input → result ≡ PlanError.NotFetched row.now.app }
+    ensures alone { IsFalse (is_outside (blame_of result)) }
+{
+    match row.app.clone() {
+        Ok(app) => PlanError::NotFetched(app),
+        Err(_) => PlanError::OutOfMemory,
     }
 }
 
@@ -88,11 +111,11 @@ fn job_of<S: Store>(
     post: &Post<'_>,
     opening: Opening,
 ) -> Result<Option<Job>, StoreFault>
-    requires meant { Told (S.known store.old) (λ files. All (IsFound files)) scene.now.found }
+    requires meant { Told (S.known store.old) (λ files. AreMeant (known_by files scene.now.lock)) scene.now }
     requires post { IsPost scene.now opening.at post.now }
     ensures job { IfOk result (Told (S.known store.old) (λ files job. MatchOption job
-        (Misses files scene.now.schedule opening post.now.row.now)
-        (IsJobAt files scene.now.schedule opening.at))) }
+        (Misses (known_by files scene.now.lock) scene.now.schedule opening post.now.row.now)
+        (IsJobAt (known_by files scene.now.lock) scene.now.schedule opening.at))) }
     ensures known { IfOk result (λ job. IfSome job (IsKnownAt scene.now.schedule opening.at)) }
     ensures fits { IfOk result (λ job. IfSome job (Fits opening)) }
     ensures reads { OnlyReads (S.known store.old) (S.known store.new) (fails store_blame result) }
@@ -100,7 +123,7 @@ fn job_of<S: Store>(
     if opening.at >= MOST_JOBS {
         return Ok(None);
     }
-    match sources(alloc, store, post.found, opening.room.min(MOST_BYTES))? {
+    match sources(alloc, store, post.site, opening.room.min(MOST_BYTES))? {
         Some(sources) => Ok(if_sent(described(alloc, scene, post, opening.at, sources)?)),
         None => Ok(None),
     }
@@ -144,7 +167,8 @@ fn of_parts(
 {
     let rows = listing_of(alloc, sources.as_slice())?;
     let app = post.row.app.clone()?;
-    let dir = post.found.dir.clone()?;
+    let dir = post.site.base.dir.clone()?;
+    let origin = post.site.base.origin.clone()?;
     let Recipe {
         version,
         how,
@@ -155,7 +179,7 @@ fn of_parts(
     Ok(Job {
         app,
         version,
-        origin: Origin::Path,
+        origin,
         options,
         how,
         system_env,

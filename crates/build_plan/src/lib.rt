@@ -11,6 +11,7 @@ mod jobs;
 mod laws;
 mod limits;
 mod lines;
+mod lock;
 mod needs;
 mod opening;
 mod options;
@@ -20,8 +21,8 @@ mod recipe;
 mod root;
 mod said;
 mod scene;
+mod site;
 mod sources;
-mod unlocked;
 mod versions;
 
 pub use error::{DivergedLine, DivergedLines, PlanError};

@@ -3,30 +3,31 @@ ghost use Rattle.std.specs.Prelude.{◌≡◌, List, length, IfOk, IsFalse, Ok};
 ghost use Rattle.std.specs.List.{All};
 ghost use Rattle.mx_base.specs.Blame.{AnswersBy, fails};
 ghost use Rattle.mx_base.specs.BuildName.{HasBuildName, build_name};
-ghost use Rattle.mx_base.specs.declared.file.File.{File};
 ghost use Rattle.compile_model.specs.Planned.{ArePlanned};
 ghost use Rattle.tree_store.specs.Known.{Told, OnlyReads};
 ghost use Rattle.converger.specs.Divergence.{parts_in};
 ghost use Rattle.project_file.specs.Files.{AreSettings};
 ghost use Rattle.build_plan.specs.Blame.{blame_of};
-ghost use Rattle.build_plan.specs.Found.{AreFoundFor};
-ghost use Rattle.path_children.specs.Found.{IsFound};
+ghost use Rattle.build_plan.specs.Children.{Known, known_by};
+ghost use Rattle.build_plan.specs.Sites.{AreSites, AreSitesFor};
 ghost use Rattle.build_plan.specs.Jobs.{AllFit};
 ghost use Rattle.build_plan.specs.Plan.{IsPlan, IsPlanOf, build_of};
 ghost use Rattle.build_plan.specs.Stages.{LiveWith, LivesTogether, MakesJobs, Schedules, Then};
 
 use crate::dependencies::dependencies;
 use crate::error::PlanError;
-use path_children::Found;
 use crate::jobs::jobs;
 use crate::lines::lines;
+use crate::lock::lock;
 use crate::root::{root, settings};
 use crate::scene::Scene;
+use crate::site::Site;
 use crate::versions::versions;
 use compile_model::{Job, Jobs, Plan};
 use converger::{ConvergeError, Converged, converge, divergences};
 use dep_options::Decl;
 use dep_rows::Rows;
+use mix_lock::Lock;
 use mx_base::{AppName, NameError, build_name};
 use project_file::Settings;
 use semver::Version;
@@ -38,9 +39,9 @@ use tree_store::Store;
 ///
 /// # Errors
 ///
-/// What is met first: `Settings`, `NoProject` or `Project` of the root, then row by row `PathMissing`, `Project` of a
-/// dependency's manifest, `NotLocked` or `TooManyRows`, then `Diverged`, `Cycle`, and in the order of the plan
-/// `TooLarge`. `Read` comes where the store failed, `OutOfMemory` where there was not enough memory.
+/// What is met first: `Settings`, `NoProject` or `Project` of the root, `Lock`, then row by row `PathMissing`, `Project`
+/// of a dependency's manifest, `NotLocked` or `TooManyRows`, then `Diverged`, `Cycle`, and in the order of the plan
+/// `NotFetched` or `TooLarge`. `Read` comes where the store failed, `OutOfMemory` where there was not enough memory.
 pub fn plan<S: Store>(
     alloc: Global,
     store: &mut S,
@@ -143,20 +144,21 @@ fn jobs_of<S: Store>(
     ensures fit { IfOk result (λ jobs. AllFit jobs.items) }
     ensures reads { OnlyReads (S.known store.old) (S.known store.new) (fails blame_of result) }
 {
-    let all = dependencies(alloc, store, root)?;
-    let converged = converged(alloc, all.rows, &all.found)?;
-    jobs_for(alloc, store, settings, &converged, &all.found, env, target)
+    let lock = lock(alloc, store)?;
+    let all = dependencies(alloc, store, &lock, root)?;
+    let converged = converged(alloc, all.rows, &all.sites)?;
+    jobs_for(alloc, store, settings, &lock, &converged, &all.sites, env, target)
 }
 
 /// The rows, where they live together.
-fn converged(alloc: Global, rows: Rows, found: &[Found]) -> Result<Converged, PlanError>
-    requires { AreFoundFor rows found.now }
+fn converged(alloc: Global, rows: Rows, sites: &[Site]) -> Result<Converged, PlanError>
+    requires { AreSitesFor rows sites.now }
     ensures rows { IfOk result (λ converged. converged.rows ≡ rows) }
-    ensures answer { (files : List File) → All (IsFound files) found.now →
-        AnswersBy (λ converged. converged.rows) blame_of result (LivesTogether files rows) }
+    ensures answer { (known : Known) → AreSites known rows sites.now →
+        AnswersBy (λ converged. converged.rows) blame_of result (LivesTogether known rows) }
     ensures alone { IsFalse (fails blame_of result) }
 {
-    let versions = versions(alloc, found)?;
+    let versions = versions(alloc, sites)?;
     judge(alloc, &rows, versions.as_slice())?;
     match converge(alloc, rows, versions) {
         Ok(converged) => Ok(converged),
@@ -186,20 +188,22 @@ fn jobs_for<S: Store>(
     alloc: Global,
     store: &mut S,
     settings: &Settings,
+    lock: &Lock,
     converged: &Converged,
-    found: &[Found],
+    sites: &[Site],
     env: &AppName,
     target: &AppName,
 ) -> Result<Vec<Job>, PlanError>
-    requires found { AreFoundFor converged.now.rows found.now }
-    requires meant { Told (S.known store.old) (λ files. All (IsFound files)) found.now }
+    requires sites { AreSitesFor converged.now.rows sites.now }
+    requires meant { Told (S.known store.old)
+        (λ files. AreSites (known_by files lock.now) converged.now.rows) sites.now }
     ensures answer { AnswersBy (λ jobs. jobs.items) blame_of result (Told (S.known store.old)
         (λ files. Then (Schedules settings.now converged.now.rows.rows env.now target.now)
-        (MakesJobs files))) }
+        (MakesJobs (known_by files lock.now)))) }
     ensures planned { IfOk result (λ jobs. ArePlanned jobs.items) }
     ensures fit { IfOk result (λ jobs. AllFit jobs.items) }
     ensures reads { OnlyReads (S.known store.old) (S.known store.new) (fails blame_of result) }
 {
-    let scene = Scene::of(alloc, settings, converged, found, env, target)?;
+    let scene = Scene::of(alloc, settings, lock, converged, sites, env, target)?;
     jobs(alloc, store, &scene)
 }

@@ -33,7 +33,7 @@ pub(crate) fn recipe_of(
     let decl = &post.row.decl;
     let manager = manager_of(decl, sources);
     let how = command(alloc, scene.settings(), manager, &decl.compile)?;
-    let version = Text::from_slice(alloc, post.found.version())?;
+    let version = post.site.base.version.clone()?;
     let options = options_text(alloc, &version, decl, manager, &how, scene.target())?;
     Ok(Recipe {
         version,

@@ -5,20 +5,22 @@ ghost use Rattle.mx_base.specs.Blame.{AnswersBy, fails};
 ghost use Rattle.compile_model.specs.Planned.{most_jobs};
 ghost use Rattle.dep_rows.specs.declared.row.Row.{Row};
 ghost use Rattle.build_plan.specs.Blame.{blame_of};
-ghost use Rattle.build_plan.specs.Found.{AreFoundFor, IsFoundAt};
+ghost use Rattle.build_plan.specs.Children.{Known};
+ghost use Rattle.build_plan.specs.Sites.{AreSitesFor, IsSiteAt};
 ghost use Rattle.build_plan.specs.Jobs.{places_in};
 ghost use Rattle.build_plan.specs.Needs.{apps_of};
 ghost use Rattle.build_plan.specs.Scenes.{IsOrdered, IsPost, StandsBefore};
 ghost use Rattle.build_plan.specs.Stages.{Schedules};
 
 use crate::error::PlanError;
-use path_children::Found;
 use crate::needs::{apps_of, ordered_of};
 use crate::post::Post;
+use crate::site::Site;
 use compile_model::Places;
 use converger::{Converged, for_env};
 use dep_order::Ordered;
 use dep_rows::Rows;
+use mix_lock::Lock;
 use mx_base::{AppName, Names};
 use project_file::Settings;
 use std::alloc::{AllocError, Global};
@@ -28,10 +30,11 @@ use std::marker::Model;
 #[derive(Drop)]
 pub(crate) struct Scene<'a> {
     settings: &'a Settings,
+    lock: &'a Lock,
     target: &'a AppName,
     rows: &'a Rows,
-    /// What was found in the folders of the winners.
-    found: &'a [Found],
+    /// What the winners are compiled from.
+    sites: &'a [Site],
     /// The winners that are reached, which are the nodes of the graph.
     places: Vec<u32>,
     ordered: Ordered,
@@ -51,10 +54,12 @@ impl<'a> Model for Scene<'a> {
 
     ghost view = { λ scene. record {
       schedule = record { settings = scene.settings.now; target = scene.target.now; rows = scene.rows.now.rows; places = scene.places.items; order = scene.ordered.order };
-      found = scene.found.now;
+      lock = scene.lock.now;
+      winners = scene.rows.now.winners;
+      sites = scene.sites.now;
     } };
 
-    ghost invariant = { λ scene. IsScene scene.rows.now scene.found.now scene.target.now scene.places.items scene.ordered };
+    ghost invariant = { λ scene. IsScene scene.rows.now scene.sites.now scene.target.now scene.places.items scene.ordered };
 }
 
 impl<'a> Scene<'a> {
@@ -62,15 +67,17 @@ impl<'a> Scene<'a> {
     pub(crate) fn of(
         alloc: Global,
         settings: &'a Settings,
+        lock: &'a Lock,
         converged: &'a Converged,
-        found: &'a [Found],
+        sites: &'a [Site],
         env: &AppName,
         target: &'a AppName,
     ) -> Result<Scene<'a>, PlanError>
-        requires { AreFoundFor converged.now.rows found.now }
+        requires { AreSitesFor converged.now.rows sites.now }
         ensures answer { AnswersBy (λ scene. scene.schedule) blame_of result
             (Schedules settings.now converged.now.rows.rows env.now target.now) }
-        ensures found { IfOk result (λ scene. scene.found ≡ found.now) }
+        ensures parts { IfOk result (λ scene. (scene.lock ≡ lock.now) × (scene.sites ≡ sites.now)
+            × (scene.winners ≡ converged.now.rows.winners)) }
         ensures alone { IsFalse (fails blame_of result) }
     {
         let rows = converged.rows();
@@ -78,9 +85,10 @@ impl<'a> Scene<'a> {
         let ordered = ordered_of(alloc, rows, target, &places)?;
         Ok(Scene {
             settings,
+            lock,
             target,
             rows,
-            found,
+            sites,
             places,
             ordered,
         })
@@ -116,7 +124,7 @@ impl<'a> Scene<'a> {
         let reached = self.ordered.closure(alloc, node)?;
         Ok(Post {
             row: &self.rows.rows()[place as usize],
-            found: found_at(self.rows.winners(), self.found, place),
+            site: site_at(self.rows.winners(), self.sites, place),
             reached,
         })
     }
@@ -146,17 +154,17 @@ impl<'a> Scene<'a> {
     }
 }
 
-/// What was found in the folder of the winner at a place.
-fn found_at<'a>(winners: &[u32], found: &'a [Found], place: u32) -> &'a Found
+/// What the winner at a place is compiled from.
+fn site_at<'a>(winners: &[u32], sites: &'a [Site], place: u32) -> &'a Site
     requires in_order { AllPairs (λ earlier later. earlier < later) winners.now }
-    requires long { length found.now ≡ length winners.now }
+    requires long { length sites.now ≡ length winners.now }
     requires has { Contains winners.now place }
-    ensures at { (rows : List Row) → AllZip (IsFoundAt rows) winners.now found.now →
-        IsFoundAt rows place result.now }
-    ensures among { Contains found.now result.now }
+    ensures at { (known : Known) (rows : List Row) → AllZip (IsSiteAt known rows) winners.now sites.now →
+        IsSiteAt known rows place result.now }
+    ensures among { Contains sites.now result.now }
 {
     match winners.binary_search(&place) {
-        Ok(at) => &found[at],
+        Ok(at) => &sites[at],
         Err(_) => unreachable!(),
     }
 }

@@ -6,12 +6,11 @@ ghost use Rattle.mx_base.specs.Path.{child_of};
 ghost use Rattle.tree_store.specs.Blame.{blame_of};
 ghost use Rattle.mx_base.specs.Layout.{is_in_build};
 ghost use Rattle.tree_store.specs.Known.{OnlyReads};
-ghost use Rattle.build_plan.specs.Found.{AreSources};
-ghost use Rattle.path_children.specs.Found.{IsFound, IsSound};
+ghost use Rattle.build_plan.specs.Sites.{AreSources, IsSound, Shows};
 ghost use Rattle.build_plan.specs.Jobs.{most_files};
 ghost use Rattle.build_plan.specs.Sources.{bytes_in, is_source, source_at};
 
-use path_children::Found;
+use crate::site::Site;
 use mx_base::{Bytes, File, Files, LOCK, MANIFEST, RelPath};
 use std::alloc::Global;
 use tree_store::{Store, StoreFault};
@@ -24,20 +23,20 @@ const MOST_FILES: usize = 20_000;
 pub(crate) fn sources<S: Store>(
     alloc: Global,
     store: &mut S,
-    found: &Found,
+    site: &Site,
     room: usize,
 ) -> Result<Option<Files>, StoreFault>
-    requires { IsSound found.now }
+    requires { IsSound site.now }
     ensures read { IfOk result (λ sources. IfSome (S.known store.old).sources
-        (λ files. IsFound files found.now → AreSources files found.now.dir room sources)) }
+        (λ files. Shows files site.now → AreSources files site.now.base.dir room sources)) }
     ensures fits { IfOk result (λ sources. IfSome sources
         (λ all. (length all ≤ most_files) × (bytes_in all ≤ room))) }
     ensures reads { OnlyReads (S.known store.old) (S.known store.new) (fails blame_of result) }
 {
     let mut sources = Vec::new(alloc);
     let mut left = room;
-    for path in &found.paths {
-        if let Some(source) = source(alloc, store, found, path)? {
+    for path in &site.paths {
+        if let Some(source) = source(alloc, store, site, path)? {
             let size = source.bytes.as_slice().len();
             if sources.len() == MOST_FILES || size > left {
                 return Ok(None);
@@ -54,23 +53,23 @@ pub(crate) fn sources<S: Store>(
 fn source<S: Store>(
     alloc: Global,
     store: &mut S,
-    found: &Found,
+    site: &Site,
     path: &RelPath,
 ) -> Result<Option<File>, StoreFault>
     requires { IsFalse (is_in_build path.now) }
     ensures source { IfOk result (λ source. IfSome (S.known store.old).sources
-        (λ files. IsFound files found.now → source ≡ source_at found.now.dir files path.now)) }
+        (λ files. Shows files site.now → source ≡ source_at site.now.base.dir files path.now)) }
     ensures place { IfOk result (λ source. IfSome source
-        (λ file. path.now ≡ child_of found.now.dir file.path)) }
+        (λ file. path.now ≡ child_of site.now.base.dir file.path)) }
     ensures reads { OnlyReads (S.known store.old) (S.known store.new) (fails blame_of result) }
 {
-    let Some(rest) = path.from_folder(alloc, &found.dir)? else {
+    let Some(rest) = path.from_folder(alloc, &site.base.dir)? else {
         return Ok(None);
     };
     if !is_source(&rest) {
         return Ok(None);
     }
-    match bytes(alloc, store, found, path, &rest)? {
+    match bytes(alloc, store, site, path, &rest)? {
         Some(bytes) => Ok(Some(File { path: rest, bytes })),
         None => Ok(None),
     }
@@ -80,18 +79,18 @@ fn source<S: Store>(
 fn bytes<S: Store>(
     alloc: Global,
     store: &mut S,
-    found: &Found,
+    site: &Site,
     path: &RelPath,
     rest: &RelPath,
 ) -> Result<Option<Bytes>, StoreFault>
     requires outside { IsFalse (is_in_build path.now) }
-    requires place { path.now ≡ child_of found.now.dir rest.now }
+    requires place { path.now ≡ child_of site.now.base.dir rest.now }
     ensures bytes { IfOk result (λ bytes. IfSome (S.known store.old).sources
-        (λ files. IsFound files found.now → bytes ≡ bytes_at path.now files)) }
+        (λ files. Shows files site.now → bytes ≡ bytes_at path.now files)) }
     ensures reads { OnlyReads (S.known store.old) (S.known store.new) (fails blame_of result) }
 {
     if rest.as_str() == MANIFEST {
-        Ok(found.text.clone()?)
+        Ok(site.text.clone()?)
     } else {
         store.get(alloc, path)
     }

@@ -1,29 +1,28 @@
 // The versions of the winners.
-ghost use Rattle.std.specs.Prelude.{◌≡◌, ℕ, List, IfOk, IsSome, length};
-ghost use Rattle.std.specs.List.{All, AllZip};
-ghost use Rattle.mx_base.specs.declared.file.File.{File};
+ghost use Rattle.std.specs.Prelude.{◌≡◌, IfOk, IsSome, length};
+ghost use Rattle.std.specs.List.{All};
 ghost use Rattle.converger.specs.Divergence.{parts_in};
-ghost use Rattle.dep_rows.specs.declared.row.Row.{Row};
-ghost use Rattle.path_children.specs.Found.{IsFound};
-ghost use Rattle.build_plan.specs.Found.{IsFoundAt};
+ghost use Rattle.dep_rows.specs.Listed.{Listed};
+ghost use Rattle.build_plan.specs.Children.{Known};
+ghost use Rattle.build_plan.specs.Sites.{AreSites};
 ghost use Rattle.build_plan.specs.Versions.{AreVersions};
 
+use crate::site::Site;
 use converger::Versions;
-use path_children::{Found, version_of};
+use path_children::version_of;
 use std::alloc::{AllocError, Global};
 
-/// The versions of the winners in whose folders this was found.
-pub(crate) fn versions(alloc: Global, found: &[Found]) -> Result<Versions, AllocError>
-    ensures long { IfOk result (λ versions. length versions ≡ length found.now) }
+/// The versions of the winners of which these are the sites.
+pub(crate) fn versions(alloc: Global, sites: &[Site]) -> Result<Versions, AllocError>
+    ensures long { IfOk result (λ versions. length versions ≡ length sites.now) }
     ensures known { IfOk result (λ versions. All (λ version. IsSome version) versions) }
-    ensures told { IfOk result (λ versions. (files : List File) (rows : List Row)
-        (winners : List ℕ) → All (IsFound files) found.now
-        → AllZip (IsFoundAt rows) winners found.now
-        → AreVersions files rows winners (parts_in versions)) }
+    ensures told { IfOk result (λ versions. (known : Known) (listed : Listed)
+        → AreSites known listed sites.now
+        → AreVersions known listed.rows listed.winners (parts_in versions)) }
 {
     let mut versions = Versions::new(alloc);
-    for folder in found {
-        versions.push(Some(version_of(alloc, folder.version())?))?;
+    for site in sites {
+        versions.push(Some(version_of(alloc, site.base.version.as_slice())?))?;
     }
     Ok(versions)
 }
