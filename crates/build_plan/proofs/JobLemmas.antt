@@ -81,6 +81,12 @@ all_fit_more jobs job fit last =
     (λ k j at. subst (λ (before : List Job). IsFalse (is_too_large before j)) (sym (take-append-le k jobs (job ∷ []) (let within = slice_get_within jobs k j at in omega arith))) (fit k j at))
     (subst (λ (before : List Job). IsFalse (is_too_large before job)) (sym (take-append-le (length jobs) jobs (job ∷ []) (omega arith) ∙ take_all (length jobs) jobs (omega arith))) last)
 
+pub all_stand_more : (files : List File) (jobs : List Job) (job : Job) → AllStand files jobs → refusal_of files jobs job ≡ None → AllStand files (jobs ++ job ∷ [])
+all_stand_more files jobs job stand last =
+    each_more (λ k j. refusal_of files (take k (jobs ++ job ∷ [])) j ≡ None) jobs job
+    (λ k j at. subst (λ (before : List Job). refusal_of files before j ≡ None) (sym (take-append-le k jobs (job ∷ []) (let within = slice_get_within jobs k j at in omega arith))) (stand k j at))
+    (subst (λ (before : List Job). refusal_of files before job ≡ None) (sym (take-append-le (length jobs) jobs (job ∷ []) (omega arith) ∙ take_all (length jobs) jobs (omega arith))) last)
+
 -- ---- the job of a post
 
 pub post_job : (files : List File) (scene : Scenery) (at : ℕ) (post : Post) → IsPost scene at post → All (IsFound files) scene.found → IsJobAt files scene.schedule at (job_with files scene.schedule post.row.now post.found.now.dir (version_by post.found.now.project) (places_in scene.schedule.order post.reached.items) (apps_of scene.schedule.rows scene.schedule.places post.reached.items))

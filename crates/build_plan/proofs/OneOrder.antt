@@ -1,5 +1,5 @@
 -- The order of the winners that are reached, and the jobs in it.
-use Rattle.std.proofs.Common.{◌≡◌, ℕ, ◌<◌, inl, inr, List, [], ◌∷◌, ◌++◌, length, Option, Result, Ok, Err, IsTrue, refl, sym, ◌∙◌, ap, ap₂, subst, arith}
+use Rattle.std.proofs.Common.{◌≡◌, ℕ, ◌<◌, inl, inr, List, [], ◌∷◌, ◌++◌, length, Option, Some, None, Result, Ok, Err, IsTrue, refl, sym, ◌∙◌, ap, ap₂, subst, arith}
 use Rattle.std.specs.List.{slice_get}
 use Rattle.std.proofs.lemmas.Bool.{both_ways, cases_order}
 use Rattle.std.proofs.lemmas.List.{length_push}
@@ -18,14 +18,17 @@ use Rattle.project_file.specs.declared.project.Project.{Project}
 use Rattle.project_file.specs.declared.settings.Settings.{Settings}
 use Rattle.build_plan.specs.declared.error.PlanError.{PlanError}
 use Rattle.build_plan.specs.declared.error.PlanError.TheVariants as refused
-use Rattle.path_children.specs.Dependencies.{version_by}
-use Rattle.build_plan.specs.Jobs.{Schedule, IsJobAt, AreFirstJobs, AllFit, is_too_large, job_with, places_in}
+use Rattle.build_plan.specs.Jobs.{Schedule, IsJobAt, AreFirstJobs, AllStand, job_with, places_in, refusal_of}
 use Rattle.build_plan.specs.Needs.{graph_of, apps_of}
 use Rattle.path_children.specs.ChildLaws.{OneProject}
 use Rattle.build_plan.proofs.ListLemmas.{Agree, begins, one_at, same_filter, same_list}
-use Rattle.build_plan.proofs.OneRoot.{one_found}
+use Rattle.std.proofs.lemmas.Option.{same_Some}
+use Rattle.build_plan.specs.declared.site.Base.{Base}
+use Rattle.build_plan.specs.Bases.{IsBase}
+use Rattle.build_plan.specs.Children.{Known}
+use Rattle.build_plan.proofs.OneRoot.{one_base}
 use Rattle.build_plan.specs.Stages.{MakesJobs, Schedules}
-use Rattle.build_plan.specs.Stages.MakesJobs.{passes_size, makes}
+use Rattle.build_plan.specs.Stages.MakesJobs.{stops_at, makes}
 use Rattle.build_plan.specs.Stages.Schedules.{circles, orders}
 use Rattle.build_plan.proofs.Steps.{HasOne}
 
@@ -59,58 +62,67 @@ one_closure graph order node other reached more same is also =
     at : IsClosureOf graph order node more
     at = subst (λ (n : ℕ). IsClosureOf graph order n more) (sym same) also
 
-module _ (one : OneProject) (files : List File) (schedule : Schedule) where
-  one_job : (k : ℕ) (job other : Job) → IsJobAt files schedule k job → IsJobAt files schedule k other → job ≡ other
+module _ (one : OneProject) (known : Known) (schedule : Schedule) where
+  one_job : (k : ℕ) (job other : Job) → IsJobAt known schedule k job → IsJobAt known schedule k other → job ≡ other
   one_job k job other is also =
       let a = is.at in
       let b = also.at in
       let node = one_at schedule.order k k a.node b.node refl a.at b.at in
       let place = one_at schedule.places a.node b.node a.place b.place node a.wins b.wins in
       let row = one_at schedule.rows a.place b.place is.row also.row place a.stands b.stands in
-      let found = one_found one files is.row.decl.source is.dir also.dir is.found also.found is.source (ap (λ (r : Row). r.decl.source) row ∙ also.source) is.loaded also.loaded in
+      let base = one_base one is.comes (subst (λ (r : Row). IsBase known r.app r.decl also.base) (sym row) also.comes) in
       let reached = one_closure (graph_of schedule.rows schedule.target schedule.places) schedule.order a.node b.node is.reached also.reached node a.closure b.closure in
       is.is
-      ∙ ap₂ (λ (r : Row) (d : List ℕ). job_with files schedule r d (version_by is.found) (places_in schedule.order is.reached) (apps_of schedule.rows schedule.places is.reached)) row found.0
-      ∙ ap₂ (λ (f : Option Project) (ns : List ℕ). job_with files schedule also.row also.dir (version_by f) (places_in schedule.order ns) (apps_of schedule.rows schedule.places ns)) found.1 reached
+      ∙ ap₂ (λ (r : Row) (b : Base). job_with known.files schedule r b (places_in schedule.order is.reached) (apps_of schedule.rows schedule.places is.reached)) row base
+      ∙ ap (λ (ns : List ℕ). job_with known.files schedule also.row also.base (places_in schedule.order ns) (apps_of schedule.rows schedule.places ns)) reached
       ∙ sym also.is
 
-  agree : (jobs others : List Job) → AreFirstJobs files schedule jobs → AreFirstJobs files schedule others → Agree jobs others
+  agree : (jobs others : List Job) → AreFirstJobs known schedule jobs → AreFirstJobs known schedule others → Agree jobs others
   agree jobs others are also k job other stands there = one_job k job other (are.each k job stands) (also.each k other there)
 
-  -- no job before the last one passes a limit
-  none_earlier : (jobs : List Job) (job : Job) (others : List Job) → length jobs < length others → Agree (jobs ++ job ∷ []) others → AllFit others → IsTrue (is_too_large jobs job) → ⊥
-  none_earlier jobs job others less same fit large =
+  some_not_none : (found : Option PlanError) (error : PlanError) → found ≡ Some error → found ≡ None → ⊥
+  some_not_none found error is none = let clash : ◌≡◌ {A = Option PlanError} (Some error) None = sym is ∙ none in cc
+
+  -- no job before the last one is refused
+  none_earlier : (jobs : List Job) (job : Job) (others : List Job) (error : PlanError) → length jobs < length others → Agree (jobs ++ job ∷ []) others → AllStand known.files others → refusal_of known.files jobs job ≡ Some error → ⊥
+  none_earlier jobs job others error less same stand stops =
       let b = begins jobs job others less same in
-      both_ways (is_too_large jobs job) (ap (λ (js : List Job). is_too_large js job) (sym b.front) ∙ fit (length jobs) job b.next) large
+      some_not_none (refusal_of known.files jobs job) error stops (ap (λ (js : List Job). refusal_of known.files js job) (sym b.front) ∙ stand (length jobs) job b.next)
 
   front_agrees : (jobs others : List Job) (other : Job) → Agree jobs (others ++ other ∷ []) → Agree jobs others
   front_agrees jobs others other same k x y stands there = same k x y stands (get_longer others (other ∷ []) k y there)
 
-  one_too_large : (jobs others : List Job) (job other : Job) → AreFirstJobs files schedule (jobs ++ job ∷ []) → AreFirstJobs files schedule (others ++ other ∷ []) → AllFit jobs → AllFit others → IsTrue (is_too_large jobs job) → IsTrue (is_too_large others other) → job ≡ other
-  one_too_large jobs others job other are also fit also_fit large too =
+  fronts_agree : (jobs others : List Job) (job other : Job) → Agree (jobs ++ job ∷ []) (others ++ other ∷ []) → Agree jobs others
+  fronts_agree jobs others job other same k x y stands there = same k x y (get_longer jobs (job ∷ []) k x stands) (get_longer others (other ∷ []) k y there)
+
+  one_refusal : (jobs others : List Job) (job other : Job) (error more : PlanError) → AreFirstJobs known schedule (jobs ++ job ∷ []) → AreFirstJobs known schedule (others ++ other ∷ []) → AllStand known.files jobs → AllStand known.files others → refusal_of known.files jobs job ≡ Some error → refusal_of known.files others other ≡ Some more → error ≡ more
+  one_refusal jobs others job other error more are also stand also_stand stops too =
+      let same = agree (jobs ++ job ∷ []) (others ++ other ∷ []) are also in
+      let back = agree (others ++ other ∷ []) (jobs ++ job ∷ []) also are in
       elim (cases_order (length jobs) (length others)) [
-        | inl same ↦
-            agree (jobs ++ job ∷ []) (others ++ other ∷ []) are also (length jobs) job other (get_end jobs job)
-            (ap (slice_get (others ++ other ∷ [])) same ∙ get_end others other)
+        | inl long ↦
+            let last : job ≡ other = same (length jobs) job other (get_end jobs job) (ap (slice_get (others ++ other ∷ [])) long ∙ get_end others other) in
+            let front : jobs ≡ others = same_list jobs others long (fronts_agree jobs others job other same) in
+            same_Some error more (sym stops ∙ ap₂ (λ (js : List Job) (j : Job). refusal_of known.files js j) front last ∙ too)
         | inr differ ↦ elim differ [
-          | inl less ↦ absurd (none_earlier jobs job others less (front_agrees (jobs ++ job ∷ []) others other (agree (jobs ++ job ∷ []) (others ++ other ∷ []) are also)) also_fit large)
-          | inr more ↦ absurd (none_earlier others other jobs more (front_agrees (others ++ other ∷ []) jobs job (agree (others ++ other ∷ []) (jobs ++ job ∷ []) also are)) fit too)
+          | inl less ↦ absurd (none_earlier jobs job others error less (front_agrees (jobs ++ job ∷ []) others other same) also_stand stops)
+          | inr greater ↦ absurd (none_earlier others other jobs more greater (front_agrees (others ++ other ∷ []) jobs job back) stand too)
         ]
       ]
 
-  not_both : (jobs others : List Job) (job : Job) → AreFirstJobs files schedule (jobs ++ job ∷ []) → AreFirstJobs files schedule others → length others ≡ length schedule.order → AllFit others → IsTrue (is_too_large jobs job) → ⊥
-  not_both jobs others job are also whole fit large =
+  not_both : (jobs others : List Job) (job : Job) (error : PlanError) → AreFirstJobs known schedule (jobs ++ job ∷ []) → AreFirstJobs known schedule others → length others ≡ length schedule.order → AllStand known.files others → refusal_of known.files jobs job ≡ Some error → ⊥
+  not_both jobs others job error are also whole stand stops =
       let few = are.few in
       let long = length_push jobs job in
-      none_earlier jobs job others (omega (arith, few, long, whole)) (agree (jobs ++ job ∷ []) others are also) fit large
+      none_earlier jobs job others error (omega (arith, few, long, whole)) (agree (jobs ++ job ∷ []) others are also) stand stops
 
-  jobs_same : {a b : Result (List Job) PlanError} → MakesJobs files schedule a → MakesJobs files schedule b → a ≡ b
-  jobs_same (passes_size jobs job are fit large) (passes_size others other also also_fit too) =
-      ap (λ (j : Job). Err (refused.TooLarge j.app)) (one_too_large jobs others job other are also fit also_fit large too)
-  jobs_same (passes_size jobs job are fit large) (makes {jobs = others} also whole also_fit) = absurd (not_both jobs others job are also whole also_fit large)
-  jobs_same (makes {jobs = others} also whole also_fit) (passes_size jobs job are fit large) = absurd (not_both jobs others job are also whole also_fit large)
-  jobs_same (makes {jobs = jobs} are whole fit) (makes {jobs = others} also also_whole also_fit) =
+  jobs_same : {a b : Result (List Job) PlanError} → MakesJobs known schedule a → MakesJobs known schedule b → a ≡ b
+  jobs_same (stops_at jobs job {error = error} are stand stops) (stops_at others other {error = more} also also_stand too) =
+      ap (λ (e : PlanError). Err e) (one_refusal jobs others job other error more are also stand also_stand stops too)
+  jobs_same (stops_at jobs job {error = error} are stand stops) (makes {jobs = others} also whole also_stand) = absurd (not_both jobs others job error are also whole also_stand stops)
+  jobs_same (makes {jobs = others} also whole also_stand) (stops_at jobs job {error = error} are stand stops) = absurd (not_both jobs others job error are also whole also_stand stops)
+  jobs_same (makes {jobs = jobs} are whole stand) (makes {jobs = others} also also_whole also_stand) =
       ap (λ (js : List Job). Ok js) (same_list jobs others (whole ∙ sym also_whole) (agree jobs others are also))
 
-  pub jobs_one : HasOne (MakesJobs files schedule)
+  pub jobs_one : HasOne (MakesJobs known schedule)
   jobs_one a b p q = jobs_same p q

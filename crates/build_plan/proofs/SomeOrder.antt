@@ -1,5 +1,5 @@
 -- The winners that are reached have an order or a cycle, and each place of the order has its job.
-use Rattle.std.proofs.Common.{◌≡◌, ℕ, zero, suc, ◌+◌, ◌<◌, inl, inr, Bool, true, false, List, [], ◌∷◌, ◌++◌, get_or, length, Ok, Err, refl, subst, arith}
+use Rattle.std.proofs.Common.{◌≡◌, ℕ, zero, suc, ◌+◌, ◌<◌, inl, inr, Bool, true, false, List, [], ◌∷◌, ◌++◌, get_or, length, Option, Some, None, Ok, Err, refl, subst, arith}
 use Rattle.std.proofs.lemmas.List.{append-nil, length-append, length-map}
 use Rattle.std.proofs.lemmas.List.Elements.{All-contains, Contains-get_or}
 use Rattle.std.proofs.lemmas.Option.{none-some, slice_get-get_or}
@@ -20,17 +20,18 @@ use Rattle.dep_rows.specs.Listed.{Listed}
 use Rattle.dep_rows.specs.Rows.{AreRows, AreWinners}
 use Rattle.project_file.specs.declared.settings.Settings.{Settings}
 use Rattle.build_plan.specs.declared.error.PlanError.TheVariants as refused
-use Rattle.path_children.specs.Dependencies.{version_by}
 use Rattle.path_children.proofs.WinnerLemmas.{IsAnswered, all_answered}
-use Rattle.build_plan.specs.Children.{ChildrenBy}
-use Rattle.build_plan.specs.Jobs.{Schedule, StandsAt, IsJobAt, AreFirstJobs, AllFit, is_too_large, job_with, places_in}
+use Rattle.mix_lock.specs.Lock.{IsLock}
+use Rattle.build_plan.specs.declared.error.PlanError.{PlanError}
+use Rattle.build_plan.specs.Children.{ChildrenBy, Known}
+use Rattle.build_plan.specs.Jobs.{Schedule, StandsAt, IsJobAt, AreFirstJobs, AllStand, job_with, places_in, refusal_of}
 use Rattle.build_plan.specs.Needs.{graph_of, apps_of, direct_needs}
 use Rattle.build_plan.specs.Stages.{MakesJobs, Schedules}
-use Rattle.build_plan.specs.Stages.MakesJobs.{passes_size, makes}
+use Rattle.build_plan.specs.Stages.MakesJobs.{stops_at, makes}
 use Rattle.build_plan.specs.Stages.Schedules.{circles, orders}
-use Rattle.build_plan.proofs.JobLemmas.{all_fit_more, each_more}
+use Rattle.build_plan.proofs.JobLemmas.{all_stand_more, each_more}
 use Rattle.build_plan.proofs.NeedLemmas.{graph_within}
-use Rattle.build_plan.proofs.SomeRoot.{read_of}
+use Rattle.build_plan.proofs.SomeRoot.{based_of}
 use Rattle.build_plan.proofs.Steps.{HasSome}
 
 pub some_schedule : (settings : Settings) (rows : List Row) (env target : List ℕ) → HasSome (Schedules settings rows env target)
@@ -59,7 +60,7 @@ some_closure graph order node within inside =
 
 -- ---- the job at a place of the order
 
-module _ (files : List File) (root : List Decl) (listed : Listed) (are : AreRows (ChildrenBy files) root listed.rows listed.winners) where
+module _ (known : Known) (lock : IsLock known.registry) (root : List Decl) (listed : Listed) (are : AreRows (ChildrenBy known) root listed.rows listed.winners) where
   module _ (settings : Settings) (env target places order : List ℕ)
       (reached : AreReached listed.rows env target places) (ordered : IsOrderOf (graph_of listed.rows target places) order) where
     abbrev graph : List (List ℕ)
@@ -78,76 +79,67 @@ module _ (files : List File) (root : List Decl) (listed : Listed) (are : AreRows
         omega (arith, inside, long)
 
     -- the children of each winner that is reached are known
-    answered : (node : ℕ) → node < length places → IsAnswered (ChildrenBy files) listed.rows (get_or places node 0)
+    answered : (node : ℕ) → node < length places → IsAnswered (ChildrenBy known) listed.rows (get_or places node 0)
     answered node less =
         let wins = reached.only node 0 less in
         let winning : AreWinners listed.rows listed.winners = subst (AreWinners listed.rows) (append-nil listed.winners) are.winners in
-        All-contains (IsAnswered (ChildrenBy files) listed.rows) listed.winners (get_or places node 0)
-        (all_answered (ChildrenBy files) listed.rows are.blocks) (winning.all (get_or places node 0) wins.0 wins.1)
+        All-contains (IsAnswered (ChildrenBy known) listed.rows) listed.winners (get_or places node 0)
+        (all_answered (ChildrenBy known) listed.rows are.blocks) (winning.all (get_or places node 0) wins.0 wins.1)
 
-    some_job : (k : ℕ) → k < length order → HasSome (IsJobAt files schedule k)
+    some_job : (k : ℕ) → k < length order → HasSome (IsJobAt known schedule k)
     some_job k less =
         let node = get_or order k 0 in
-        let known = answered node (in_places k less) in
-        let read = read_of known.answer in
+        let asked = answered node (in_places k less) in
+        let based = based_of lock asked.answer in
         let closure = some_closure graph order node (graph_within listed.rows target places) (in_graph k less) in
-        let at : StandsAt schedule k known.row closure.0 = record {
+        let at : StandsAt schedule k asked.row closure.0 = record {
           node = node;
           place = get_or places node 0;
           at = slice_get-get_or order k 0 less;
           wins = slice_get-get_or places node 0 (in_places k less);
-          stands = known.stands;
+          stands = asked.stands;
           closure = closure.1;
         } in (
-          job_with files schedule known.row read.dir (version_by read.found) (places_in order closure.0) (apps_of listed.rows places closure.0),
-          record {
-            row = known.row;
-            reached = closure.0;
-            dir = read.dir;
-            found = read.found;
-            at = at;
-            source = read.source;
-            loaded = read.loaded;
-            is = refl;
-          },
+          job_with known.files schedule asked.row based.base (places_in order closure.0) (apps_of listed.rows places closure.0),
+          record { row = asked.row; reached = closure.0; base = based.base; at = at; comes = based.comes; is = refl },
         )
 
 -- ---- all jobs, or those up to the first one past a limit
 
-module _ (files : List File) (schedule : Schedule) (each : (k : ℕ) → k < length schedule.order → HasSome (IsJobAt files schedule k)) where
-  first_more : (jobs : List Job) (job : Job) → length jobs < length schedule.order → AreFirstJobs files schedule jobs
-      → IsJobAt files schedule (length jobs) job → AreFirstJobs files schedule (jobs ++ job ∷ [])
+module _ (known : Known) (schedule : Schedule) (each : (k : ℕ) → k < length schedule.order → HasSome (IsJobAt known schedule k)) where
+  first_more : (jobs : List Job) (job : Job) → length jobs < length schedule.order → AreFirstJobs known schedule jobs
+      → IsJobAt known schedule (length jobs) job → AreFirstJobs known schedule (jobs ++ job ∷ [])
   first_more jobs job less first is = record {
     few = omega (arith, less, length-append jobs (job ∷ []));
-    each = each_more (IsJobAt files schedule) jobs job first.each is;
+    each = each_more (IsJobAt known schedule) jobs job first.each is;
   }
 
   abbrev GoesOn : ℕ → Type 0
-  GoesOn left = (jobs : List Job) → length jobs + left ≡ length schedule.order → AreFirstJobs files schedule jobs → AllFit jobs
-      → HasSome (MakesJobs files schedule)
+  GoesOn left = (jobs : List Job) → length jobs + left ≡ length schedule.order → AreFirstJobs known schedule jobs → AllStand known.files jobs
+      → HasSome (MakesJobs known schedule)
 
-  by_size : (left : ℕ) → GoesOn left → (jobs : List Job) → length jobs + suc left ≡ length schedule.order → AllFit jobs
-      → (job : Job) → AreFirstJobs files schedule (jobs ++ job ∷ []) → (large : Bool) → is_too_large jobs job ≡ large → HasSome (MakesJobs files schedule)
-  by_size left on jobs long fit job more true large = (Err (refused.TooLarge job.app), passes_size jobs job more fit large)
-  by_size left on jobs long fit job more false small =
-      on (jobs ++ job ∷ []) (omega (arith, long, length-append jobs (job ∷ []))) more (all_fit_more jobs job fit small)
+  by_refusal : (left : ℕ) → GoesOn left → (jobs : List Job) → length jobs + suc left ≡ length schedule.order → AllStand known.files jobs
+      → (job : Job) → AreFirstJobs known schedule (jobs ++ job ∷ []) → (refusal : Option PlanError) → refusal_of known.files jobs job ≡ refusal → HasSome (MakesJobs known schedule)
+  by_refusal left on jobs long stand job more (Some error) stops = (Err error, stops_at jobs job more stand stops)
+  by_refusal left on jobs long stand job more None none =
+      on (jobs ++ job ∷ []) (omega (arith, long, length-append jobs (job ∷ []))) more (all_stand_more known.files jobs job stand none)
 
   goes_on : (left : ℕ) → GoesOn left
-  goes_on zero jobs long first fit = (Ok jobs, makes first (omega (arith, long)) fit)
-  goes_on (suc left) jobs long first fit =
+  goes_on zero jobs long first stand = (Ok jobs, makes first (omega (arith, long)) stand)
+  goes_on (suc left) jobs long first stand =
       let less : length jobs < length schedule.order = omega (arith, long) in
       let next = each (length jobs) less in
-      by_size left (goes_on left) jobs long fit next.0 (first_more jobs next.0 less first next.1) (is_too_large jobs next.0) refl
+      by_refusal left (goes_on left) jobs long stand next.0 (first_more jobs next.0 less first next.1) (refusal_of known.files jobs next.0) refl
 
-  pub make_jobs : HasSome (MakesJobs files schedule)
+  pub make_jobs : HasSome (MakesJobs known schedule)
   make_jobs =
       goes_on (length schedule.order) [] (omega arith)
       (record { few = omega arith; each = λ k job at. absurd (none-some job at) })
       (λ k job at. absurd (none-some job at))
 
-pub some_jobs : (files : List File) (root : List Decl) (listed : Listed) → AreRows (ChildrenBy files) root listed.rows listed.winners
+pub some_jobs : (known : Known) → IsLock known.registry → (root : List Decl) (listed : Listed) → AreRows (ChildrenBy known) root listed.rows listed.winners
     → (settings : Settings) (env target : List ℕ) (schedule : Schedule) → Schedules settings listed.rows env target (Ok schedule)
-    → HasSome (MakesJobs files schedule)
-some_jobs files root listed are settings env target _ (orders places order reached ordered) =
-    make_jobs files (record { settings = settings; target = target; rows = listed.rows; places = places; order = order })
-    (some_job files root listed are settings env target places order reached ordered)
+    → HasSome (MakesJobs known schedule)
+some_jobs known lock root listed are settings env target _ (orders places order reached ordered) =
+    make_jobs known (record { settings = settings; target = target; rows = listed.rows; places = places; order = order })
+    (some_job known lock root listed are settings env target places order reached ordered)

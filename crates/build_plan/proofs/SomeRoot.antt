@@ -59,19 +59,23 @@ parts_known text (Err error) is ok = cc
 pub version_known : (text : List ℕ) → IsTrue (is_version text) → (parts : Parts) × (version_parts text ≡ Ok parts)
 version_known text is = parts_known text (version_parts text) refl (and_right (is_utf8 text) (is_ok (version_parts text)) is)
 
--- a manifest was read in the folder of a declaration
-pub record IsRead (files : List File) (decl : Decl) : Type 0 where
-  pub dir : List ℕ
-  pub found : Option Project
-  pub source : decl.source ≡ Path dir
-  pub loaded : IsLoaded files dir (Ok found)
+-- it is known what an app with this winner is compiled from
+pub record IsBased (known : Known) (app : List ℕ) (winner : Decl) : Type 0 where
+  pub base : Base
+  pub comes : IsBase known app winner base
+  pub versioned : IsTrue (is_version base.version)
 
-pub read_of : {files : List File} {app : List ℕ} {winner : Decl} {decls : List Decl} → ChildrenBy files app winner (Ok decls) → IsRead files winner
-read_of (of_registry name is says) = absurd (never says)
-  where
-    never : {decls : List Decl} {app : List ℕ} → ◌≡◌ {A = Result (List Decl) (List ℕ)} (Ok decls) (Err app) → ⊥
-    never same = cc
-read_of (of_folder dir is (holds {found = found} has reads)) = record { dir = dir; found = found; source = is; loaded = reads }
+pub based_of : {known : Known} {app : List ℕ} {winner : Decl} {decls : List Decl} → IsLock known.registry → ChildrenBy known app winner (Ok decls) → IsBased known app winner
+based_of {known = known} {app = app} lock (of_registry name is (locked release has are)) = record {
+  base = record { version = release.version; origin = FromHex release.name; dir = fetched_folder app };
+  comes = of_lock name release is has;
+  versioned = (release_is known.registry app release lock has).version;
+}
+based_of lock (of_folder dir is (holds {found = found} has reads)) = record {
+  base = record { version = version_by found; origin = FromPath; dir = dir };
+  comes = base_of_folder dir is reads;
+  versioned = version_is found;
+}
 
 -- ---- divergences
 
@@ -99,45 +103,35 @@ module _ (listed : Listed) (versions : List (Option Parts)) where
 
 -- ---- rows
 
-module _ (some : SomeProject) (files : List File) where
-  by_outcome : (root : List Decl) (outcome : Result Listed (RowsError (ChildError (List ℕ)))) → IsListing (ChildrenBy files) root outcome → IfOk outcome IsWithinLimit
-      → HasSome (ListsRows files root)
+module _ (some : SomeProject) (known : Known) (lock : IsLock known.registry) where
+  by_outcome : (root : List Decl) (outcome : Result Listed (RowsError (ChildError (List ℕ)))) → IsListing (ChildrenBy known) root outcome → IfOk outcome IsWithinLimit
+      → HasSome (ListsRows known root)
   by_outcome root (Ok listed) are within = (Ok listed, lists listed are within.few)
   by_outcome root (Err (listing.Children error)) met within = (Err (of_child error), meets met)
   by_outcome root (Err listing.TooManyRows) many within = (Err plan.TooManyRows, passes many)
   by_outcome root (Err listing.OutOfMemory) none within = absurd none
 
-  pub some_rows : (root : List Decl) → HasSome (ListsRows files root)
-  some_rows root = let found = some_outcome ChildrenBy files each_answers root in by_outcome root found.outcome found.is found.within
+  pub some_rows : (root : List Decl) → HasSome (ListsRows known root)
+  some_rows root = let found = some_outcome ChildrenBy known each_answers root in by_outcome root found.outcome found.is found.within
 
-module _ (files : List File) where
-  some_version : (rows : List Row) (place : ℕ) → IsAnswered (ChildrenBy files) rows place → HasSome (HasVersion files rows place)
-  some_version rows place known =
-      let read = read_of known.answer in
-      let number = version_known (version_by read.found) (version_is read.found) in (
+module _ (known : Known) (lock : IsLock known.registry) where
+  some_version : (rows : List Row) (place : ℕ) → IsAnswered (ChildrenBy known) rows place → HasSome (HasVersion known rows place)
+  some_version rows place answered =
+      let based = based_of lock answered.answer in
+      let number = version_known based.base.version based.versioned in (
         Some number.0,
-        record {
-          row = known.row;
-          dir = read.dir;
-          found = read.found;
-          number = number.0;
-          stands = known.stands;
-          source = read.source;
-          loaded = read.loaded;
-          parts = number.1;
-          known = refl;
-        },
+        record { row = answered.row; base = based.base; number = number.0; stands = answered.stands; comes = based.comes; parts = number.1; is = refl },
       )
 
-  some_versions : (root : List Decl) (listed : Listed) → AreRows (ChildrenBy files) root listed.rows listed.winners
-      → HasSome (AreVersions files listed.rows listed.winners)
+  some_versions : (root : List Decl) (listed : Listed) → AreRows (ChildrenBy known) root listed.rows listed.winners
+      → HasSome (AreVersions known listed.rows listed.winners)
   some_versions root listed are =
-      zip_some (HasVersion files listed.rows) listed.winners
-      (All-weaker (IsAnswered (ChildrenBy files) listed.rows) (λ place. HasSome (HasVersion files listed.rows place)) (some_version listed.rows) listed.winners
-      (all_answered (ChildrenBy files) listed.rows are.blocks))
+      zip_some (HasVersion known listed.rows) listed.winners
+      (All-weaker (IsAnswered (ChildrenBy known) listed.rows) (λ place. HasSome (HasVersion known listed.rows place)) (some_version listed.rows) listed.winners
+      (all_answered (ChildrenBy known) listed.rows are.blocks))
 
-  pub some_together : (root : List Decl) (listed : Listed) → AreRows (ChildrenBy files) root listed.rows listed.winners → HasSome (LivesTogether files listed)
+  pub some_together : (root : List Decl) (listed : Listed) → AreRows (ChildrenBy known) root listed.rows listed.winners → HasSome (LivesTogether known listed)
   some_together root listed are =
       let versions = some_versions root listed are in
       let live = live_with listed versions.0 in
-      (live.0, record { versions = versions.0; known = versions.1; together = live.1 })
+      (live.0, record { versions = versions.0; told = versions.1; together = live.1 })

@@ -4,6 +4,7 @@ pub mod Children
 pub mod Found
 pub mod Jobs
 pub mod Lines
+pub mod LockLaws
 pub mod Needs
 pub mod Options
 pub mod Plan

@@ -1,5 +1,5 @@
 -- What a dependency is compiled from.
-use Rattle.std.specs.Prelude.{◌≡◌, ◌≢◌, ◌⊎◌, ℕ, ◌<◌, List, [], length, Option, Some, IsFalse, slice_get, MatchOption}
+use Rattle.std.specs.Prelude.{◌≡◌, ◌≢◌, ◌⊎◌, ℕ, ◌<◌, List, [], length, Option, Some, IsTrue, IsFalse, slice_get, MatchOption}
 use Rattle.std.specs.List.{All, AllZip}
 use Rattle.mx_base.specs.declared.file.File.{File}
 use Rattle.mx_base.specs.Layout.{is_in_build}
@@ -8,6 +8,7 @@ use Rattle.tree_store.specs.Files.{paths_below}
 use Rattle.dep_rows.specs.declared.row.Row.{Row}
 use Rattle.dep_rows.specs.Listed.{Listed, IsWithinLimit}
 use Rattle.project_file.specs.Files.{manifest_at}
+use Rattle.project_file.specs.Version.{is_version}
 use Rattle.build_plan.specs.declared.site.Site.{Site}
 use Rattle.build_plan.specs.Bases.{IsBase}
 use Rattle.build_plan.specs.Children.{Known}
@@ -16,6 +17,7 @@ use Rattle.build_plan.specs.Jobs.{most_files}
 
 -- what holds of a site, whether the store tells its files or not
 pub record IsSound (site : Site) : Type 0 where
+  pub versioned : IsTrue (is_version site.base.version)
   pub not_root : site.base.dir ≢ []
   pub placed : IsFalse (is_in_build site.base.dir)
   pub in_order : ArePathsInOrder site.paths.items

@@ -22,7 +22,6 @@ pub(crate) struct Base {
     pub version: Text,
     pub origin: Origin,
     pub dir: RelPath,
-    pub ghost versioned: { IsTrue (is_version version) },
 }
 
 /// What a dependency is compiled from.

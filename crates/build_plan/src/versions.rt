@@ -4,7 +4,7 @@ ghost use Rattle.std.specs.List.{All};
 ghost use Rattle.converger.specs.Divergence.{parts_in};
 ghost use Rattle.dep_rows.specs.Listed.{Listed};
 ghost use Rattle.build_plan.specs.Children.{Known};
-ghost use Rattle.build_plan.specs.Sites.{AreSites};
+ghost use Rattle.build_plan.specs.Sites.{AreSites, IsSound};
 ghost use Rattle.build_plan.specs.Versions.{AreVersions};
 
 use crate::site::Site;
@@ -14,6 +14,7 @@ use std::alloc::{AllocError, Global};
 
 /// The versions of the winners of which these are the sites.
 pub(crate) fn versions(alloc: Global, sites: &[Site]) -> Result<Versions, AllocError>
+    requires { All IsSound sites.now }
     ensures long { IfOk result (λ versions. length versions ≡ length sites.now) }
     ensures known { IfOk result (λ versions. All (λ version. IsSome version) versions) }
     ensures told { IfOk result (λ versions. (known : Known) (listed : Listed)

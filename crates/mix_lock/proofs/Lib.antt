@@ -9,6 +9,7 @@ pub mod OrderLemmas
 pub mod PrintLemmas
 pub mod PushLemmas
 pub mod ReadLemmas
+pub mod SaidLemmas
 pub mod SomeLemmas
 pub mod SortLemmas
 pub mod SoundLemmas
