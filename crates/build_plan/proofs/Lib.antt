@@ -1,6 +1,7 @@
 pub mod JobLemmas
 pub mod LineLemmas
 pub mod ListLemmas
+pub mod LockLemmas
 pub mod ManagerLemmas
 pub mod NameLemmas
 pub mod NeedLemmas

@@ -1,5 +1,5 @@
 -- The plan of a project, from one stage after another.
-use Rattle.std.proofs.Common.{ℕ, List, refl, sym, subst, All, IfSome, Option, Some, None, Result, Ok, Err}
+use Rattle.std.proofs.Common.{ℕ, List, refl, sym, subst, IfSome, Option, Some, None, Result, Ok, Err}
 use Rattle.semver.specs.Parse.{Parts}
 use Rattle.mx_base.specs.declared.file.File.{File}
 use Rattle.compile_model.specs.declared.job.Job.{Job}
@@ -11,16 +11,18 @@ use Rattle.project_file.specs.declared.settings.Settings.{Settings}
 use Rattle.project_file.specs.Files.{AreSettings}
 use Rattle.build_plan.specs.declared.error.PlanError.{PlanError}
 use Rattle.build_plan.specs.declared.error.PlanError.TheVariants as refused
-use Rattle.path_children.specs.declared.found.Found.{Found}
-use Rattle.path_children.specs.Found.{IsFound}
+use Rattle.mix_lock.specs.Lock.{AppEntry}
+use Rattle.build_plan.specs.declared.site.Site.{Site}
+use Rattle.build_plan.specs.Children.{Known, known_by}
+use Rattle.build_plan.specs.Sites.{AreSites}
 use Rattle.build_plan.specs.Versions.{AreVersions}
-use Rattle.build_plan.specs.Plan.{Converge, IsPlan, IsPlanOf, build_of}
+use Rattle.build_plan.specs.Plan.{Converge, IsPlan, IsPlanOf, IsSetUp, build_of}
 use Rattle.build_plan.specs.Plan.IsPlan.{settings as root_settings, no_project as by_no_project, project as by_project, of_root as by_root}
-use Rattle.build_plan.specs.Plan.IsPlanOf.{settings as by_settings, dependency as by_dependency, too_many as by_too_many, diverged as by_diverged, cycle as by_cycle, too_large as by_too_large, planned as by_planned}
-use Rattle.build_plan.specs.Stages.{SetsUp, HasRoot, ListsRows, LivesTogether, LiveWith, MakesJobs, Schedules, Then}
+use Rattle.build_plan.specs.Plan.IsPlanOf.{settings as by_settings, lock as by_lock, dependency as by_dependency, too_many as by_too_many, diverged as by_diverged, cycle as by_cycle, stopped as by_stopped, planned as by_planned}
+use Rattle.build_plan.specs.Stages.{SetsUp, HasLock, HasRoot, ListsRows, LivesTogether, LiveWith, MakesJobs, Schedules, Then}
 use Rattle.build_plan.specs.Stages.ListsRows.{meets, passes, lists}
 use Rattle.build_plan.specs.Stages.LiveWith.{diverges, lives}
-use Rattle.build_plan.specs.Stages.MakesJobs.{passes_size, makes}
+use Rattle.build_plan.specs.Stages.MakesJobs.{stops_at, makes}
 use Rattle.build_plan.specs.Stages.Schedules.{circles, orders}
 use Rattle.build_plan.specs.Stages.Then.{stops, goes_on}
 
@@ -40,34 +42,41 @@ module _ (files : List File) (env target : List ℕ) where
     settings_refused_of (refused.Settings error) are = by_settings are
     settings_refused_of error are = absurd are
 
-    module _ (settings : Settings) (set : AreSettings files (Ok settings)) where
-      pub rows_refused : {error : PlanError} → ListsRows files root (Err error) → IsPlanOf files root (build_of env target) (Err error)
-      rows_refused (meets met) = by_dependency settings set met
-      rows_refused (passes many) = by_too_many settings set many
+    lock_refused : (settings : Settings) (error : PlanError) → AreSettings files (Ok settings) → HasLock files (Err error) → IsPlanOf files root (build_of env target) (Err error)
+    lock_refused settings (refused.Lock error) set are = by_lock settings set are
+    lock_refused settings error set are = absurd are
 
-      pub diverged : {listed : Listed} {error : PlanError} → ListsRows files root (Ok listed) → (versions : List (Option Parts))
-          → AreVersions files listed.rows listed.winners versions → LiveWith listed versions (Err error) → IsPlanOf files root (build_of env target) (Err error)
-      diverged (lists listed are few) versions known (diverges divergences apart some told) =
-          by_diverged settings listed versions divergences set (record { rows = are; few = few; known = known }) apart some told
+    module _ (settings : Settings) (lock : List AppEntry) (set : IsSetUp files settings lock) where
+      abbrev known : Known
+      known = known_by files lock
 
-      pub live_rows : {listed : Listed} {live : Listed} → ListsRows files root (Ok listed) → (versions : List (Option Parts))
-          → AreVersions files listed.rows listed.winners versions → LiveWith listed versions (Ok live) → Converge files root listed.rows
-      live_rows (lists listed are few) versions known (lives none) = record {
+      pub rows_refused : {error : PlanError} → ListsRows known root (Err error) → IsPlanOf files root (build_of env target) (Err error)
+      rows_refused (meets met) = by_dependency settings lock set met
+      rows_refused (passes many) = by_too_many settings lock set many
+
+      pub diverged : {listed : Listed} {error : PlanError} → ListsRows known root (Ok listed) → (versions : List (Option Parts))
+          → AreVersions known listed.rows listed.winners versions → LiveWith listed versions (Err error) → IsPlanOf files root (build_of env target) (Err error)
+      diverged (lists listed are few) versions told (diverges divergences apart some said) =
+          by_diverged settings lock listed versions divergences set (record { rows = are; few = few; told = told }) apart some said
+
+      pub live_rows : {listed : Listed} {live : Listed} → ListsRows known root (Ok listed) → (versions : List (Option Parts))
+          → AreVersions known listed.rows listed.winners versions → LiveWith listed versions (Ok live) → Converge known root listed.rows
+      live_rows (lists listed are few) versions told (lives none) = record {
         winners = listed.winners;
         versions = versions;
-        listed = record { rows = are; few = few; known = known };
+        listed = record { rows = are; few = few; told = told };
         together = none;
       }
 
-      pub jobs_made : (rows : List Row) {answer : Result (List Job) PlanError} → Converge files root rows
-          → Then (Schedules settings rows env target) (MakesJobs files) answer → IsPlanOf files root (build_of env target) answer
-      jobs_made rows live (stops (circles places nodes reached around)) = by_cycle settings rows places nodes set live reached around
-      jobs_made rows live (goes_on _ (orders places order reached is_order) (passes_size jobs job first fit large)) =
-          by_too_large (record { settings = settings; target = target; rows = rows; places = places; order = order }) jobs job
-          (record { set = set; aimed = refl; converge = live; reached = reached; ordered = is_order }) first fit large
-      jobs_made rows live (goes_on _ (orders places order reached is_order) (makes first all fit)) =
-          by_planned (record { settings = settings; target = target; rows = rows; places = places; order = order })
-          (record { set = set; aimed = refl; converge = live; reached = reached; ordered = is_order }) first all fit
+      pub jobs_made : (rows : List Row) {answer : Result (List Job) PlanError} → Converge known root rows
+          → Then (Schedules settings rows env target) (MakesJobs known) answer → IsPlanOf files root (build_of env target) answer
+      jobs_made rows live (stops (circles places nodes reached around)) = by_cycle settings lock rows places nodes set live reached around
+      jobs_made rows live (goes_on _ (orders places order reached is_order) (stops_at jobs job first stand error)) =
+          by_stopped lock (record { settings = settings; target = target; rows = rows; places = places; order = order }) jobs job set.locked
+          (record { set = set.set; aimed = refl; converge = live; reached = reached; ordered = is_order }) first stand error
+      jobs_made rows live (goes_on _ (orders places order reached is_order) (makes first all stand)) =
+          by_planned lock (record { settings = settings; target = target; rows = rows; places = places; order = order }) set.locked
+          (record { set = set.set; aimed = refl; converge = live; reached = reached; ordered = is_order }) first all stand
 
 -- ---- the same where the store may not tell its files
 
@@ -102,26 +111,35 @@ if_set None root env target settings answer set says = tt
 if_set (Some files) root env target settings answer set says = says set
 
 module _ (env target : List ℕ) (settings : Settings) (root : List Decl) where
-  pub if_rows_refused : (told : Option (List File)) (error : PlanError) → IfSome told (λ files. ListsRows files root (Err error))
+  pub if_lock_refused : (told : Option (List File)) (error : PlanError) → IfSome told (λ files. HasLock files (Err error))
       → IfSome told (λ files. AreSettings files (Ok settings) → IsPlanOf files root (build_of env target) (Err error))
-  if_rows_refused None error why = tt
-  if_rows_refused (Some files) error why = λ set. rows_refused files env target root settings set why
+  if_lock_refused None error why = tt
+  if_lock_refused (Some files) error why = λ set. lock_refused files env target root settings error set why
 
-  pub if_diverged : (told : Option (List File)) (listed : Listed) (found : List Found) (error : PlanError)
-      → IfSome told (λ files. ListsRows files root (Ok listed)) → IfSome told (λ files. All (IsFound files) found)
-      → ((files : List File) → All (IsFound files) found → LivesTogether files listed (Err error))
-      → IfSome told (λ files. AreSettings files (Ok settings) → IsPlanOf files root (build_of env target) (Err error))
-  if_diverged None listed found error are meant why = tt
-  if_diverged (Some files) listed found error are meant why = λ set.
-      let live = why files meant in diverged files env target root settings set are live.versions live.known live.together
+  module _ (lock : List AppEntry) where
+    pub if_rows_refused : (told : Option (List File)) (error : PlanError) → IfSome told (λ files. HasLock files (Ok lock))
+        → IfSome told (λ files. ListsRows (known_by files lock) root (Err error))
+        → IfSome told (λ files. AreSettings files (Ok settings) → IsPlanOf files root (build_of env target) (Err error))
+    if_rows_refused None error locked why = tt
+    if_rows_refused (Some files) error locked why = λ set. rows_refused files env target root settings lock (record { set = set; locked = locked }) why
 
-  pub if_jobs : (told : Option (List File)) (listed live : Listed) (found : List Found) (answer : Result (List Job) PlanError)
-      → IfSome told (λ files. ListsRows files root (Ok listed)) → IfSome told (λ files. All (IsFound files) found)
-      → ((files : List File) → All (IsFound files) found → LivesTogether files listed (Ok live))
-      → IfSome told (λ files. Then (Schedules settings listed.rows env target) (MakesJobs files) answer)
-      → IfSome told (λ files. AreSettings files (Ok settings) → IsPlanOf files root (build_of env target) answer)
-  if_jobs None listed live found answer are meant together made = tt
-  if_jobs (Some files) listed live found answer are meant together made = λ set.
-      let live = together files meant in
-      jobs_made files env target root settings set listed.rows
-      (live_rows files env target root settings set are live.versions live.known live.together) made
+    pub if_diverged : (told : Option (List File)) (listed : Listed) (sites : List Site) (error : PlanError) → IfSome told (λ files. HasLock files (Ok lock))
+        → IfSome told (λ files. ListsRows (known_by files lock) root (Ok listed)) → IfSome told (λ files. AreSites (known_by files lock) listed sites)
+        → ((known : Known) → AreSites known listed sites → LivesTogether known listed (Err error))
+        → IfSome told (λ files. AreSettings files (Ok settings) → IsPlanOf files root (build_of env target) (Err error))
+    if_diverged None listed sites error locked are meant why = tt
+    if_diverged (Some files) listed sites error locked are meant why = λ set.
+        let live = why (known_by files lock) meant in
+        diverged files env target root settings lock (record { set = set; locked = locked }) are live.versions live.told live.together
+
+    pub if_jobs : (told : Option (List File)) (listed live : Listed) (sites : List Site) (answer : Result (List Job) PlanError) → IfSome told (λ files. HasLock files (Ok lock))
+        → IfSome told (λ files. ListsRows (known_by files lock) root (Ok listed)) → IfSome told (λ files. AreSites (known_by files lock) listed sites)
+        → ((known : Known) → AreSites known listed sites → LivesTogether known listed (Ok live))
+        → IfSome told (λ files. Then (Schedules settings listed.rows env target) (MakesJobs (known_by files lock)) answer)
+        → IfSome told (λ files. AreSettings files (Ok settings) → IsPlanOf files root (build_of env target) answer)
+    if_jobs None listed live sites answer locked are meant together made = tt
+    if_jobs (Some files) listed live sites answer locked are meant together made = λ set.
+        let up = record { set = set; locked = locked } in
+        let live = together (known_by files lock) meant in
+        jobs_made files env target root settings lock up listed.rows
+        (live_rows files env target root settings lock up are live.versions live.told live.together) made

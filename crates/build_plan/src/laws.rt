@@ -6,6 +6,7 @@ ghost use Rattle.compile_model.specs.declared.job.Job.{Job};
 ghost use Rattle.build_plan.specs.Plan.{Build, IsPlan, IsPlanOf};
 ghost use Rattle.build_plan.specs.declared.error.PlanError.{PlanError};
 
+use mix_lock::{one_lock, some_lock};
 use project_file::{one_project, one_settings, some_project, some_settings};
 
 /// The files of a project have one plan in an environment for a target, or one refusal that is met first.
@@ -16,6 +17,7 @@ pub fn one_plan()
 {
     one_settings();
     one_project();
+    one_lock();
 }
 
 /// The files of a project have a plan in each environment for each target, or a refusal that is met first.
@@ -25,6 +27,7 @@ pub fn some_plan()
 {
     some_settings();
     some_project();
+    some_lock();
 }
 
 /// The same of any root declarations: one plan, or one refusal.
@@ -35,6 +38,7 @@ pub fn one_plan_of()
 {
     one_settings();
     one_project();
+    one_lock();
 }
 
 /// And a plan or a refusal.
@@ -44,4 +48,5 @@ pub fn some_plan_of()
 {
     some_settings();
     some_project();
+    some_lock();
 }
