@@ -89,15 +89,18 @@ all_stand_more files jobs job stand last =
 
 -- ---- the job of a post
 
-pub post_job : (files : List File) (scene : Scenery) (at : ℕ) (post : Post) → IsPost scene at post → All (IsFound files) scene.found → IsJobAt files scene.schedule at (job_with files scene.schedule post.row.now post.found.now.dir (version_by post.found.now.project) (places_in scene.schedule.order post.reached.items) (apps_of scene.schedule.rows scene.schedule.places post.reached.items))
-post_job files scene at post is meant = record {
+-- the job of a post, with all its sources
+abbrev pub job_of_post : List File → Scenery → Post → Job
+job_of_post files scene post =
+    job_with files scene.schedule post.row.now post.site.now.base (places_in scene.schedule.order post.reached.items) (apps_of scene.schedule.rows scene.schedule.places post.reached.items)
+
+pub post_job : (known : Known) (scene : Scenery) (at : ℕ) (post : Post) → IsPost scene at post → AreMeant known scene → IsJobAt known scene.schedule at (job_of_post known.files scene post)
+post_job known scene at post is meant = record {
   row = post.row.now;
   reached = post.reached.items;
-  dir = post.found.now.dir;
-  found = post.found.now.project;
+  base = post.site.now.base;
   at = is.at;
-  source = is.source;
-  loaded = (All-contains (IsFound files) scene.found post.found.now meant is.among).loaded;
+  comes = (is.comes known meant).0;
   is = refl;
 }
 
@@ -110,46 +113,50 @@ module _ (scene : Scenery) (post : Post) where
     app = ap (λ (j : Job). j.app) is;
     needs = ap (λ (j : Job). j.needs) is;
     need_apps = ap (λ (j : Job). j.need_apps) is;
-    placed = subst (λ (dir : List ℕ). IsTrue (is_dep_folder dir)) (sym (ap (λ (j : Job). j.dir) is)) here.sound.placed;
+    not_root = subst (λ (dir : List ℕ). dir ≢ []) (sym (ap (λ (j : Job). j.dir) is)) here.sound.not_root;
+    outside = subst (λ (dir : List ℕ). IsFalse (is_in_build dir)) (sym (ap (λ (j : Job). j.dir) is)) here.sound.placed;
   }
 
   pub known_made : (at : ℕ) (sources : List File) (job : Job) (sent : Option Job) → MatchOption sent (most_sent < sent_size job) (λ same. (same ≡ job) × (sent_size job ≤ most_sent)) → IsPost scene at post → job ≡ job_from scene.schedule post sources → IfSome sent (IsKnownAt scene.schedule at)
   known_made at sources job None large here is = tt
   known_made at sources job (Some same) kept here is = subst (IsKnownAt scene.schedule at) (sym kept.0) (known_at at sources job here is)
 
+  -- where nothing was fetched for the job
+  pub unfetched_is : (known : Known) → is_unfetched known.files (job_of_post known.files scene post) ≡ (is_from_registry post.site.now.base.origin && not (has_files known.files post.site.now.base.dir))
+  unfetched_is known = refl
+
   module _ (opening : Opening) (here : IsPost scene opening.at post) where
     -- the job that is made is the one at the place
-    made_job : (files : List File) (room : ℕ) (sources : List File) (job : Job) → All (IsFound files) scene.found → (IsFound files post.found.now → AreSources files post.found.now.dir room (Some sources)) → job ≡ job_from scene.schedule post sources → IsJobAt files scene.schedule opening.at job
-    made_job files room sources job meant read is =
-        let found = All-contains (IsFound files) scene.found post.found.now meant here.among in
-        let same = is ∙ job_from_sources files scene.schedule post sources (read found) in
-        subst (IsJobAt files scene.schedule opening.at) (sym same) (post_job files scene opening.at post here meant)
+    made_job : (known : Known) (room : ℕ) (sources : List File) (job : Job) → AreMeant known scene → (Shows known.files post.site.now → AreSources known.files post.site.now.base.dir room (Some sources)) → job ≡ job_from scene.schedule post sources → IsJobAt known scene.schedule opening.at job
+    made_job known room sources job meant read is =
+        let same = is ∙ job_from_sources known.files scene.schedule post sources (read (here.comes known meant).1) in
+        subst (IsJobAt known scene.schedule opening.at) (sym same) (post_job known scene opening.at post here meant)
 
-    pub if_job : (told : Option (List File)) (room : ℕ) (sources : List File) (job : Job) → IfSome told (λ files. All (IsFound files) scene.found) → IfSome told (λ files. IsFound files post.found.now → AreSources files post.found.now.dir room (Some sources)) → job ≡ job_from scene.schedule post sources → IfSome told (λ files. IsJobAt files scene.schedule opening.at job)
+    pub if_job : (told : Option (List File)) (room : ℕ) (sources : List File) (job : Job) → IfSome told (λ files. AreMeant (known_by files scene.lock) scene) → IfSome told (λ files. Shows files post.site.now → AreSources files post.site.now.base.dir room (Some sources)) → job ≡ job_from scene.schedule post sources → IfSome told (λ files. IsJobAt (known_by files scene.lock) scene.schedule opening.at job)
     if_job None room sources job meant read is = tt
-    if_job (Some files) room sources job meant read is = made_job files room sources job meant read is
+    if_job (Some files) room sources job meant read is = made_job (known_by files scene.lock) room sources job meant read is
 
-    pub if_unsent : (told : Option (List File)) (room : ℕ) (sources : List File) (job : Job) → IfSome told (λ files. All (IsFound files) scene.found) → IfSome told (λ files. IsFound files post.found.now → AreSources files post.found.now.dir room (Some sources)) → job ≡ job_from scene.schedule post sources → most_sent < sent_size job → IfSome told (λ files. Misses files scene.schedule opening post.row.now)
+    pub if_unsent : (told : Option (List File)) (room : ℕ) (sources : List File) (job : Job) → IfSome told (λ files. AreMeant (known_by files scene.lock) scene) → IfSome told (λ files. Shows files post.site.now → AreSources files post.site.now.base.dir room (Some sources)) → job ≡ job_from scene.schedule post sources → most_sent < sent_size job → IfSome told (λ files. Misses (known_by files scene.lock) scene.schedule opening post.row.now)
     if_unsent None room sources job meant read is large = tt
-    if_unsent (Some files) room sources job meant read is large = (job, made_job files room sources job meant read is, ap (λ (j : Job). j.app) is, inr (inr (inr (inr large))))
+    if_unsent (Some files) room sources job meant read is large = (job, made_job (known_by files scene.lock) room sources job meant read is, ap (λ (j : Job). j.app) is, inr (inr (inr (inr large))))
 
-    pub if_made : (told : Option (List File)) (room : ℕ) (sources : List File) (job : Job) (sent : Option Job) → MatchOption sent (most_sent < sent_size job) (λ same. (same ≡ job) × (sent_size job ≤ most_sent)) → IfSome told (λ files. All (IsFound files) scene.found) → IfSome told (λ files. IsFound files post.found.now → AreSources files post.found.now.dir room (Some sources)) → job ≡ job_from scene.schedule post sources → IfSome told (λ files. MatchOption sent (Misses files scene.schedule opening post.row.now) (IsJobAt files scene.schedule opening.at))
+    pub if_made : (told : Option (List File)) (room : ℕ) (sources : List File) (job : Job) (sent : Option Job) → MatchOption sent (most_sent < sent_size job) (λ same. (same ≡ job) × (sent_size job ≤ most_sent)) → IfSome told (λ files. AreMeant (known_by files scene.lock) scene) → IfSome told (λ files. Shows files post.site.now → AreSources files post.site.now.base.dir room (Some sources)) → job ≡ job_from scene.schedule post sources → IfSome told (λ files. MatchOption sent (Misses (known_by files scene.lock) scene.schedule opening post.row.now) (IsJobAt (known_by files scene.lock) scene.schedule opening.at))
     if_made told room sources job None large meant read is = if_unsent told room sources job meant read is large
     if_made told room sources job (Some same) kept meant read is =
-        subst (λ (j : Job). IfSome told (λ files. IsJobAt files scene.schedule opening.at j)) (sym kept.0) (if_job told room sources job meant read is)
+        subst (λ (j : Job). IfSome told (λ files. IsJobAt (known_by files scene.lock) scene.schedule opening.at j)) (sym kept.0) (if_job told room sources job meant read is)
 
-    pub if_many : (told : Option (List File)) → most_jobs ≤ opening.at → IfSome told (λ files. All (IsFound files) scene.found) → IfSome told (λ files. Misses files scene.schedule opening post.row.now)
+    pub if_many : (told : Option (List File)) → most_jobs ≤ opening.at → IfSome told (λ files. AreMeant (known_by files scene.lock) scene) → IfSome told (λ files. Misses (known_by files scene.lock) scene.schedule opening post.row.now)
     if_many None many meant = tt
-    if_many (Some files) many meant = (_, post_job files scene opening.at post here meant, refl, inl many)
+    if_many (Some files) many meant = (_, post_job (known_by files scene.lock) scene opening.at post here meant, refl, inl many)
 
-    pub if_missed : (told : Option (List File)) (most : ℕ) → most ≡ min opening.room most_bytes → IfSome told (λ files. All (IsFound files) scene.found) → IfSome told (λ files. IsFound files post.found.now → AreSources files post.found.now.dir most None) → IfSome told (λ files. Misses files scene.schedule opening post.row.now)
+    pub if_missed : (told : Option (List File)) (most : ℕ) → most ≡ min opening.room most_bytes → IfSome told (λ files. AreMeant (known_by files scene.lock) scene) → IfSome told (λ files. Shows files post.site.now → AreSources files post.site.now.base.dir most None) → IfSome told (λ files. Misses (known_by files scene.lock) scene.schedule opening post.row.now)
     if_missed None most is meant read = tt
     if_missed (Some files) most is meant read =
-        let found = All-contains (IsFound files) scene.found post.found.now meant here.among in
-        let stands = post_job files scene opening.at post here meant in
-        elim (read found) [
+        let known = known_by files scene.lock in
+        let stands = post_job known scene opening.at post here meant in
+        elim (read (here.comes known meant).1) [
           | inl many ↦ (_, stands, refl, inr (inr (inl many)))
-          | inr large ↦ elim (cases_lt most_bytes (bytes_in (sources_of post.found.now.dir files))) [
+          | inr large ↦ elim (cases_lt most_bytes (bytes_in (sources_of post.site.now.base.dir files))) [
             | inl above ↦ (_, stands, refl, inr (inl above))
             | inr below ↦ (_, stands, refl, inr (inr (inr (inl (omega (arith, is, large, below))))))
           ]

@@ -17,7 +17,7 @@ use Rattle.dep_options.specs.declared.decl.Manager.TheVariants.{Mix, Rebar3, Mak
 use Rattle.dep_rows.specs.declared.row.Row.{Row}
 use Rattle.project_file.specs.Files.{has_file, manager_by_files}
 use Rattle.build_plan.specs.declared.post.Post.{Post}
-use Rattle.path_children.specs.Dependencies.{version_by}
+use Rattle.build_plan.specs.declared.site.Base.{Base}
 use Rattle.build_plan.specs.Jobs.{Schedule, manager_or, job_with, places_in}
 use Rattle.build_plan.specs.Needs.{apps_of}
 use Rattle.build_plan.specs.Options.{options_text}
@@ -127,15 +127,15 @@ manager_among_sources dir files =
     ap₂ (λ (a b : Bool). manager_if a b (has_file (sources_of dir files) [] (codes "rebar.config")) (has_file (sources_of dir files) [] (codes "Makefile"))) (has_among dir (codes "project.exs") files refl) (has_among dir (codes "mix.exs") files refl)
     ∙ ap₂ (λ (c d : Bool). manager_if (has_file files dir (codes "project.exs")) (has_file files dir (codes "mix.exs")) c d) (has_among dir (codes "rebar.config") files refl) (has_among dir (codes "Makefile") files refl)
 
-abbrev with_manager : Schedule → Row → List ℕ → List ℕ → List File → List ℕ → List (List ℕ) → Manager → Job
-with_manager schedule row dir version sources needs need_apps manager = record {
+abbrev with_manager : Schedule → Row → Base → List File → List ℕ → List (List ℕ) → Manager → Job
+with_manager schedule row base sources needs need_apps manager = record {
   app = row.app;
-  version = version;
-  origin = FromPath;
-  options = options_text version row.decl manager (command schedule.settings manager row.decl.compile) schedule.target;
+  version = base.version;
+  origin = base.origin;
+  options = options_text base.version row.decl manager (command schedule.settings manager row.decl.compile) schedule.target;
   how = command schedule.settings manager row.decl.compile;
   system_env = row.decl.system_env;
-  dir = dir;
+  dir = base.dir;
   sources = sources;
   rows = rows_of sources;
   needs = needs;
@@ -144,9 +144,11 @@ with_manager schedule row dir version sources needs need_apps manager = record {
 }
 
 -- the job that is made of the sources of a dependency
-pub job_from_sources : (files : List File) (schedule : Schedule) (post : Post) (sources : List File) → sources ≡ sources_of post.found.now.dir files → job_from schedule post sources ≡ job_with files schedule post.row.now post.found.now.dir (version_by post.found.now.project) (places_in schedule.order post.reached.items) (apps_of schedule.rows schedule.places post.reached.items)
+pub job_from_sources : (files : List File) (schedule : Schedule) (post : Post) (sources : List File) → sources ≡ sources_of post.site.now.base.dir files
+    → job_from schedule post sources ≡ job_with files schedule post.row.now post.site.now.base (places_in schedule.order post.reached.items) (apps_of schedule.rows schedule.places post.reached.items)
 job_from_sources files schedule post sources are =
     let row = post.row.now in
-    let found = post.found.now in
+    let base = post.site.now.base in
     ap (job_from schedule post) are
-    ∙ ap (with_manager schedule row found.dir (version_by found.project) (sources_of found.dir files) (places_in schedule.order post.reached.items) (apps_of schedule.rows schedule.places post.reached.items)) (ap (manager_or row.decl.manager) (manager_among_sources found.dir files))
+    ∙ ap (with_manager schedule row base (sources_of base.dir files) (places_in schedule.order post.reached.items) (apps_of schedule.rows schedule.places post.reached.items))
+    (ap (manager_or row.decl.manager) (manager_among_sources base.dir files))

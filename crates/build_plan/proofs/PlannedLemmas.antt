@@ -16,7 +16,6 @@ use Rattle.dep_rows.specs.Rows.{IsWinner}
 use Rattle.build_plan.specs.Jobs.{Schedule, places_in}
 use Rattle.build_plan.specs.Needs.{app_of, apps_of, graph_of}
 use Rattle.build_plan.specs.Scenes.{IsKnownAt, IsOrdered}
-use Rattle.path_children.proofs.FolderLemmas.{folder_outside}
 use Rattle.build_plan.proofs.Positions.{position_first}
 use Rattle.build_plan.proofs.Ranks.{ranks, ranks_has, ranks_from, ranks_in_order, as_ranks, as_values, all_some, few_places}
 
@@ -213,14 +212,13 @@ module _ (schedule : Schedule) (is_ordered : IsOrdered schedule) where
     sound : (k : ℕ) (job : Job) → slice_get jobs k ≡ Some job → IsSound job
     sound k job stands =
         let is = known k job stands in
-        let parts = and_parts _ _ is.placed in
         let within : k < length jobs = slice_get_within jobs k job stands in
         let count : length job.needs ≤ k = few_places job.needs k (needs_in_order k job is) (needs_before k job is) in
         record {
           few = omega (arith, few, within, count);
           named = named k job stands;
-          not_root = λ root. both_ways (bytes_eq job.dir []) (not-true _ parts.0) (ap (λ (d : List ℕ). bytes_eq d []) root);
-          outside = folder_outside job.dir is.placed;
+          not_root = is.not_root;
+          outside = is.outside;
           sent = sent k job stands;
         }
 

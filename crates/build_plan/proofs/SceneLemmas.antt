@@ -10,8 +10,10 @@ use Rattle.dep_rows.specs.declared.row.Row.{Row}
 use Rattle.dep_rows.specs.Listed.{Listed}
 use Rattle.project_file.specs.declared.settings.Settings.{Settings}
 use Rattle.build_plan.specs.declared.error.PlanError.{PlanError}
-use Rattle.path_children.specs.declared.found.Found.{Found}
-use Rattle.build_plan.specs.Found.{AreFoundFor}
+use Rattle.mix_lock.specs.Lock.{AppEntry}
+use Rattle.build_plan.specs.declared.site.Site.{Site}
+use Rattle.build_plan.specs.Children.{known_by}
+use Rattle.build_plan.specs.Sites.{AreSitesFor}
 use Rattle.build_plan.specs.Needs.{direct_needs, graph_of}
 use Rattle.build_plan.specs.Scenes.{IsOrdered, IsScene}
 use Rattle.build_plan.specs.Jobs.{Schedule}
@@ -19,12 +21,13 @@ use Rattle.build_plan.specs.Stages.{MakesJobs, OrdersGraph, Schedules, Then}
 use Rattle.build_plan.specs.Stages.Schedules.{circles}
 use Rattle.build_plan.specs.Stages.Then.{stops, goes_on}
 
-pub scene_is : (listed : Listed) (found : List Found) (env target places : List ℕ) (ordered : OrderedGraph) → AreFoundFor listed found
+pub scene_is : (listed : Listed) (sites : List Site) (env target places : List ℕ) (ordered : OrderedGraph) → AreSitesFor listed sites
     → AreReached listed.rows env target places → ordered.graph ≡ graph_of listed.rows target places
-    → OrdersGraph listed.rows target places (Ok ordered.order) → IsScene listed found target places ordered
-scene_is listed found env target places ordered are reached is is_order = record {
+    → OrdersGraph listed.rows target places (Ok ordered.order) → IsScene listed sites target places ordered
+scene_is listed sites env target places ordered are reached is is_order = record {
   winning = are.within.well_formed.winning;
-  founds = are.at;
+  long = are.long;
+  sound = are.sound;
   in_order = reached.in_order;
   only = λ k d within. let w = reached.only k d within in (w.0, w.1);
   is_graph = is;
@@ -36,8 +39,8 @@ pub scene_refused : (settings : Settings) (rows : List Row) (env target places :
 scene_refused settings rows env target places error reached (nodes, around, told) =
     subst (λ (e : PlanError). Schedules settings rows env target (Err e)) (sym told) (circles places nodes reached around)
 
-module _ {listed : Listed} {found : List Found} {target places : List ℕ} {ordered : OrderedGraph}
-    (scene : IsScene listed found target places ordered) where
+module _ {listed : Listed} {sites : List Site} {target places : List ℕ} {ordered : OrderedGraph}
+    (scene : IsScene listed sites target places ordered) where
   pub order_known : IsOrderOf (graph_of listed.rows target places) ordered.order
   order_known = subst (λ (g : List (List ℕ)). IsOrderOf g ordered.order) scene.is_graph scene.is_order
 
@@ -49,13 +52,13 @@ module _ {listed : Listed} {found : List Found} {target places : List ℕ} {orde
 
 -- ---- the jobs of the winners that are reached, where the store may not tell its files
 
-module _ (settings : Settings) (rows : List Row) (env target : List ℕ) where
+module _ (settings : Settings) (lock : List AppEntry) (rows : List Row) (env target : List ℕ) where
   pub if_stops : (told : Option (List File)) (error : PlanError) → Schedules settings rows env target (Err error)
-      → IfSome told (λ files. Then (Schedules settings rows env target) (MakesJobs files) (Err error))
+      → IfSome told (λ files. Then (Schedules settings rows env target) (MakesJobs (known_by files lock)) (Err error))
   if_stops None error why = tt
   if_stops (Some files) error why = stops why
 
   pub if_goes_on : (told : Option (List File)) (schedule : Schedule) (answer : Result (List Job) PlanError) → Schedules settings rows env target (Ok schedule)
-      → IfSome told (λ files. MakesJobs files schedule answer) → IfSome told (λ files. Then (Schedules settings rows env target) (MakesJobs files) answer)
+      → IfSome told (λ files. MakesJobs (known_by files lock) schedule answer) → IfSome told (λ files. Then (Schedules settings rows env target) (MakesJobs (known_by files lock)) answer)
   if_goes_on None schedule answer is made = tt
   if_goes_on (Some files) schedule answer is made = goes_on schedule is made

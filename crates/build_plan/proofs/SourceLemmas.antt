@@ -9,8 +9,8 @@ use Rattle.mx_base.specs.Order.{ArePathsInOrder, AreInOrder, paths_of, bytes_at}
 use Rattle.mx_base.specs.Path.{child_of, folder_text, path_from}
 use Rattle.mx_base.proofs.FolderLemmas.{after_is}
 use Rattle.mx_base.proofs.OrderLemmas.{in_order_without, in_order_behind}
-use Rattle.path_children.specs.declared.found.Found.{Found}
-use Rattle.path_children.specs.Found.{IsFound}
+use Rattle.build_plan.specs.declared.site.Site.{Site}
+use Rattle.build_plan.specs.Sites.{Shows}
 use Rattle.build_plan.specs.Jobs.{most_files}
 use Rattle.build_plan.specs.Sources.{source_at, sources_of, bytes_in}
 
@@ -66,23 +66,23 @@ found_step files dir sources found paths i path within is one so_far =
     ∙ so_far
 
 -- the sources that are found so far
-abbrev pub GoesOn : Option (List File) → Found → List (List ℕ) → ℕ → List File → Type 0
+abbrev pub GoesOn : Option (List File) → Site → List (List ℕ) → ℕ → List File → Type 0
 GoesOn told found paths i sources =
-    IfSome told (λ files. IsFound files found → sources ++ filter_map (source_at found.dir files) (drop i paths) ≡ filter_map (source_at found.dir files) paths)
+    IfSome told (λ files. Shows files found → sources ++ filter_map (source_at found.base.dir files) (drop i paths) ≡ filter_map (source_at found.base.dir files) paths)
 
-pub goes_on : (told : Option (List File)) (found : Found) (sources : List File) (source : Option File) (paths : List (List ℕ)) (i : ℕ) (path : List ℕ) → i < length paths → path ≡ get_or paths i path → IfSome told (λ files. IsFound files found → source ≡ source_at found.dir files path) → GoesOn told found paths i sources → GoesOn told found paths (i + 1) (sources ++ found_list source)
+pub goes_on : (told : Option (List File)) (found : Site) (sources : List File) (source : Option File) (paths : List (List ℕ)) (i : ℕ) (path : List ℕ) → i < length paths → path ≡ get_or paths i path → IfSome told (λ files. Shows files found → source ≡ source_at found.base.dir files path) → GoesOn told found paths i sources → GoesOn told found paths (i + 1) (sources ++ found_list source)
 goes_on None found sources source paths i path within is one so_far = tt
 goes_on (Some files) found sources source paths i path within is one so_far =
-    λ says. found_step files found.dir sources source paths i path within is (one says) (so_far says)
+    λ says. found_step files found.base.dir sources source paths i path within is (one says) (so_far says)
 
-pub goes_to_end : (told : Option (List File)) (found : Found) (sources : List File) (i : ℕ) → length found.paths.items ≤ i → GoesOn told found found.paths.items i sources → IfSome told (λ files. IsFound files found → sources ≡ sources_of found.dir files)
+pub goes_to_end : (told : Option (List File)) (found : Site) (sources : List File) (i : ℕ) → length found.paths.items ≤ i → GoesOn told found found.paths.items i sources → IfSome told (λ files. Shows files found → sources ≡ sources_of found.base.dir files)
 goes_to_end None found sources i all so_far = tt
 goes_to_end (Some files) found sources i all so_far =
     λ says.
     sym (append-nil sources)
-    ∙ ap (λ (ps : List (List ℕ)). sources ++ filter_map (source_at found.dir files) ps) (sym (drop_all i found.paths.items all))
+    ∙ ap (λ (ps : List (List ℕ)). sources ++ filter_map (source_at found.base.dir files) ps) (sym (drop_all i found.paths.items all))
     ∙ so_far says
-    ∙ ap (filter_map (source_at found.dir files)) says.paths
+    ∙ ap (filter_map (source_at found.base.dir files)) says.paths
 
 pub bytes-append : (files more : List File) → bytes_in (files ++ more) ≡ bytes_in files + bytes_in more
 bytes-append files more =
@@ -95,13 +95,13 @@ bytes-push files file =
     omega (arith, pushed)
 
 -- a file that is too many, or too large for what is left
-pub passes : (told : Option (List File)) (found : Found) (room left : ℕ) (sources : List File) (file : File) (i : ℕ) (path : List ℕ) → i < length found.paths.items → path ≡ get_or found.paths.items i path → IfSome told (λ files. IsFound files found → Some file ≡ source_at found.dir files path) → GoesOn told found found.paths.items i sources → (most_files ≤ length sources) ⊎ (left < length file.bytes) → bytes_in sources + left ≡ room → IfSome told (λ files. IsFound files found → (most_files < length (sources_of found.dir files)) ⊎ (room < bytes_in (sources_of found.dir files)))
+pub passes : (told : Option (List File)) (found : Site) (room left : ℕ) (sources : List File) (file : File) (i : ℕ) (path : List ℕ) → i < length found.paths.items → path ≡ get_or found.paths.items i path → IfSome told (λ files. Shows files found → Some file ≡ source_at found.base.dir files path) → GoesOn told found found.paths.items i sources → (most_files ≤ length sources) ⊎ (left < length file.bytes) → bytes_in sources + left ≡ room → IfSome told (λ files. Shows files found → (most_files < length (sources_of found.base.dir files)) ⊎ (room < bytes_in (sources_of found.base.dir files)))
 passes None found room left sources file i path within is one so_far past counted = tt
 passes (Some files) found room left sources file i path within is one so_far past counted =
     λ says.
-    let more = filter_map (source_at found.dir files) (drop (i + 1) found.paths.items) in
-    let next = found_step files found.dir sources (Some file) found.paths.items i path within is (one says) (so_far says) in
-    let all : (sources ++ file ∷ []) ++ more ≡ sources_of found.dir files = next ∙ ap (filter_map (source_at found.dir files)) says.paths in
+    let more = filter_map (source_at found.base.dir files) (drop (i + 1) found.paths.items) in
+    let next = found_step files found.base.dir sources (Some file) found.paths.items i path within is (one says) (so_far says) in
+    let all : (sources ++ file ∷ []) ++ more ≡ sources_of found.base.dir files = next ∙ ap (filter_map (source_at found.base.dir files)) says.paths in
     let long = sym (ap length all) ∙ length-append (sources ++ file ∷ []) more in
     let pushed = length-append sources (file ∷ []) in
     let large = sym (ap bytes_in all) ∙ bytes-append (sources ++ file ∷ []) more in
@@ -112,10 +112,10 @@ passes (Some files) found room left sources file i path within is one so_far pas
     ]
 
 -- what is said of one file of the folder
-pub manifest_told : (told : Option (List File)) (found : Found) (path rest : List ℕ) → path ≡ child_of found.dir rest → rest ≡ codes "project.exs" → IfSome told (λ files. IsFound files found → found.text ≡ bytes_at path files)
+pub manifest_told : (told : Option (List File)) (found : Site) (path rest : List ℕ) → path ≡ child_of found.base.dir rest → rest ≡ codes "project.exs" → IfSome told (λ files. Shows files found → found.text ≡ bytes_at path files)
 manifest_told None found path rest place is = tt
 manifest_told (Some files) found path rest place is =
-    λ says. says.text ∙ ap (λ (p : List ℕ). bytes_at p files) (sym (place ∙ ap (child_of found.dir) is))
+    λ says. says.text ∙ ap (λ (p : List ℕ). bytes_at p files) (sym (place ∙ ap (child_of found.base.dir) is))
 
 pub same_bytes : (rest name read : List ℕ) (equal : Bool) → read ≡ rest → equal ≡ bytes_eq read name → equal ≡ true → rest ≡ name
 same_bytes rest name read equal is test same = sym is ∙ (bytes_eq-Decides read name).0 (sym test ∙ same)

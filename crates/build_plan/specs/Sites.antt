@@ -51,11 +51,28 @@ AreSources files dir room sources =
     MatchOption sources ((most_files < length (sources_of dir files)) ⊎ (room < bytes_in (sources_of dir files))) (λ all. all ≡ sources_of dir files)
 
 -- a site with the folder, paths, text and version that were found
-abbrev pub IsSiteOf : Found → Site → Type 0
-IsSiteOf found site =
-    (site.base.version ≡ version_by found.project) × (site.base.origin ≡ FromPath) × (site.base.dir ≡ found.dir)
-    × (site.paths ≡ found.paths) × (site.text ≡ found.text)
+pub record IsSiteOf (found : Found) (site : Site) : Type 0 where
+  pub version : site.base.version ≡ version_by found.project
+  pub origin : site.base.origin ≡ FromPath
+  pub dir : site.base.dir ≡ found.dir
+  pub paths : site.paths ≡ found.paths
+  pub text : site.text ≡ found.text
 
--- the base of a release that is locked for an app
-abbrev pub IsBaseOf : List ℕ → HexEntry → Base → Type 0
-IsBaseOf app release base = (base.version ≡ release.version) × (base.origin ≡ FromHex release.name) × (base.dir ≡ fetched_folder app)
+-- the version, origin and folder of a release that is locked for an app
+abbrev pub base_by : List ℕ → HexEntry → Base
+base_by app release = record { version = release.version; origin = FromHex release.name; dir = fetched_folder app }
+
+-- what was fetched of a release, or the store failed
+abbrev pub SaysFetched : Store → List ℕ → HexEntry → Result Site PlanError → Type 0
+SaysFetched store app release (Ok site) = IsSound site × (site.base ≡ base_by app release) × IfSome store.sources (λ files. Shows files site)
+SaysFetched store app release (Err error) = ⊥
+
+-- what a site is for a winner, for which this was found
+pub record IsSiteFor (known : Known) (row : Row) (found : Option Found) (site : Site) : Type 0 where
+  pub base : MatchOption found (Unit {0}) (IsFound known.files) → IsBase known row.app row.decl site.base
+  pub shows : MatchOption found (Unit {0}) (IsFound known.files) → Shows known.files site
+
+-- the site of a winner, for which this was found; without any it comes from the registry, and is refused where it isn't locked
+abbrev pub SaysSite : Store → List AppEntry → Row → Option Found → Result Site PlanError → Type 0
+SaysSite store lock row found (Ok site) = (IfSome found IsSoundFound → IsSound site) × IfSome store.sources (λ files. IsSiteFor (known_by files lock) row found site)
+SaysSite store lock row found (Err error) = (found ≡ None) × (release_of lock row.app ≡ None) × (error ≡ NotLocked row.app)

@@ -5,7 +5,7 @@ use Rattle.mx_base.specs.declared.file.File.{File}
 use Rattle.mx_base.specs.Order.{ArePathsInOrder}
 use Rattle.mx_base.specs.Path.{folder_text}
 use Rattle.tree_store.specs.Known.{Known}
-use Rattle.path_children.specs.Found.{IsFound}
+use Rattle.build_plan.specs.Sites.{Shows}
 use Rattle.build_plan.specs.Jobs.{most_files}
 use Rattle.build_plan.specs.Sources.{bytes_in, source_at, sources_of}
 use Rattle.path_children.proofs.ReadLemmas.{all_same}
@@ -17,14 +17,14 @@ pub returns-then-len-eq-MOST_FILES-clause-read : goal.returns-then-len-eq-MOST_F
 returns-then-len-eq-MOST_FILES-clause-read g c =
     let told = (g.S.Store.known c.args.store.now).sources in
     let at = c.loop-path in
-    let found = c.args.found.now in
+    let found = c.args.site.now in
     let i = at.path-index in
     let path = c.path-item.result in
     let file = c.in-Some.source in
     let within = subst (λ (ps : List (List ℕ)). i < length ps) c.deref-path-items.ensures.value c.loop-path-test.true in
     let is = subst (λ (ps : List (List ℕ)). path ≡ get_or ps i path) c.deref-path-items.ensures.value c.path-item.is in
-    let answered = subst (λ (k : Known). IfSome k.sources (λ files. IsFound files found → c.in_ok-source.field-0 ≡ source_at found.dir files path)) at.invariant.same c.in_ok-source.ensures.source in
-    let one = subst (λ (o : Option File). IfSome told (λ files. IsFound files found → o ≡ source_at found.dir files path)) c.in-Some.is answered in
+    let answered = subst (λ (k : Known). IfSome k.sources (λ files. Shows files found → c.in_ok-source.field-0 ≡ source_at found.base.dir files path)) at.invariant.same c.in_ok-source.ensures.source in
+    let one = subst (λ (o : Option File). IfSome told (λ files. Shows files found → o ≡ source_at found.base.dir files path)) c.in-Some.is answered in
     let many = at.sources.ok.0 in
     let counts = c.len.ensures in
     let size = ap length c.as_slice-size.ensures in
@@ -39,14 +39,14 @@ pub loop-path-preserved : goal.loop-path-preserved
 loop-path-preserved g c =
     let told = (g.S.Store.known c.args.store.now).sources in
     let at = c.loop-path in
-    let found = c.args.found.now in
+    let found = c.args.site.now in
     let paths = found.paths.items in
     let i = at.path-index in
     let path = c.path-item.result in
     let source = c.in_ok-source.field-0 in
     let within = subst (λ (ps : List (List ℕ)). i < length ps) c.deref-path-items.ensures.value c.loop-path-test.true in
     let is = subst (λ (ps : List (List ℕ)). path ≡ get_or ps i path) c.deref-path-items.ensures.value c.path-item.is in
-    let answered = subst (λ (k : Known). IfSome k.sources (λ files. IsFound files found → source ≡ source_at found.dir files path)) at.invariant.same c.in_ok-source.ensures.source in
+    let answered = subst (λ (k : Known). IfSome k.sources (λ files. Shows files found → source ≡ source_at found.base.dir files path)) at.invariant.same c.in_ok-source.ensures.source in
     let items : c.match-branch-2.sources.items ≡ at.sources.items ++ found_list source =
     elim c.match-branch-2.branch [ in-Some+else-len-eq-MOST_FILES+else-size-left+in_ok-push w ↦ grind (arith, common_steps) | in_default w ↦ grind (arith, common_steps) ] in
     let few : length c.match-branch-2.sources.items ≤ most_files =
@@ -73,8 +73,8 @@ loop-path-preserved g c =
     ] in
     record {
       found = subst (λ (fs : List File). GoesOn told found paths (i + 1) fs) (sym items) (goes_on told found at.sources.items source paths i path within is answered at.invariant.found);
-      order = subst (λ (fs : List File). ArePathsInOrder (behind (folder_text found.dir) fs ++ drop (i + 1) paths)) (sym items)
-          (order_step (folder_text found.dir) at.sources.items source paths i path within is c.in_ok-source.ensures.place at.invariant.order);
+      order = subst (λ (fs : List File). ArePathsInOrder (behind (folder_text found.base.dir) fs ++ drop (i + 1) paths)) (sym items)
+          (order_step (folder_text found.base.dir) at.sources.items source paths i path within is c.in_ok-source.ensures.place at.invariant.order);
       few = few;
       room = room;
       same = all_same c.in_ok-source.ensures.reads ∙ at.invariant.same;
@@ -82,13 +82,13 @@ loop-path-preserved g c =
 
 pub from_vec-requires : goal.from_vec-requires
 from_vec-requires g c =
-    let found = c.args.found.now in
+    let found = c.args.site.now in
     let past = subst (λ (ps : List (List ℕ)). length ps ≤ c.loop-path.path-index) c.deref-path-items.ensures.value c.loop-path-test.false in
-    order_end (folder_text found.dir) c.loop-path.sources.items found.paths.items c.loop-path.path-index past c.loop-path.invariant.order
+    order_end (folder_text found.base.dir) c.loop-path.sources.items found.paths.items c.loop-path.path-index past c.loop-path.invariant.order
 
 pub returns-clause-read : goal.returns-clause-read
 returns-clause-read g c =
-    let found = c.args.found.now in
+    let found = c.args.site.now in
     let past = subst (λ (ps : List (List ℕ)). length ps ≤ c.loop-path.path-index) c.deref-path-items.ensures.value c.loop-path-test.false in
-    subst (λ (fs : List File). IfSome (g.S.Store.known c.args.store.now).sources (λ files. IsFound files found → fs ≡ sources_of found.dir files)) (sym c.from_vec.ensures)
+    subst (λ (fs : List File). IfSome (g.S.Store.known c.args.store.now).sources (λ files. Shows files found → fs ≡ sources_of found.base.dir files)) (sym c.from_vec.ensures)
     (goes_to_end (g.S.Store.known c.args.store.now).sources found c.loop-path.sources.items c.loop-path.path-index past c.loop-path.invariant.found)

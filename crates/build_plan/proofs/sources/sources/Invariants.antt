@@ -9,7 +9,7 @@ use Rattle.build_plan.proofs.sources.sources.Given as goal
 abbrev pub invariant-loop-path : goal.invariant-loop-path
 invariant-loop-path g l = record {
   found : GoesOn (g.S.Store.known l.fn.store).sources l.fn.found l.fn.found.paths.items l.path-index l.sources.items;
-  order : ArePathsInOrder (behind (folder_text l.fn.found.dir) l.sources.items ++ drop l.path-index l.fn.found.paths.items);
+  order : ArePathsInOrder (behind (folder_text l.fn.found.base.dir) l.sources.items ++ drop l.path-index l.fn.found.paths.items);
   few : length l.sources.items ≤ most_files;
   room : bytes_in l.sources.items + l.left ≡ l.fn.room;
   same : g.S.Store.known l.store ≡ g.S.Store.known l.fn.store;
