@@ -5,7 +5,7 @@ use Rattle.std.specs.Prelude.{nat_eq}
 use Rattle.std.proofs.lemmas.List.{take_more}
 use Rattle.std.proofs.lemmas.List.Elements.{Contains-get_or, filter_map-append}
 use Rattle.std.proofs.lemmas.List.Quantifiers.{position-Some}
-use Rattle.std.proofs.lemmas.Option.{slice_get_within, slice_get-get_or, slice_get_read}
+use Rattle.std.proofs.lemmas.Option.{same_Some, slice_get_within, slice_get-get_or, slice_get_read}
 use Rattle.compile_model.specs.Planned.{most_jobs}
 use Rattle.dep_order.specs.Ordered.{OrderedGraph}
 use Rattle.dep_order.specs.Reach.{Reaches, IsClosureOf}
@@ -14,16 +14,19 @@ use Rattle.dep_order.proofs.Reaching.{reached_before}
 use Rattle.dep_rows.specs.declared.row.Row.{Row}
 use Rattle.dep_rows.specs.Listed.{Listed}
 use Rattle.project_file.specs.declared.settings.Settings.{Settings}
-use Rattle.path_children.specs.declared.found.Found.{Found}
+use Rattle.mix_lock.specs.Lock.{AppEntry}
 use Rattle.build_plan.specs.declared.post.Post.{Post}
-use Rattle.build_plan.specs.Found.{IsFoundAt}
+use Rattle.build_plan.specs.declared.site.Site.{Site}
+use Rattle.build_plan.specs.Bases.{IsBase}
+use Rattle.build_plan.specs.Children.{Known}
+use Rattle.build_plan.specs.Sites.{IsSiteAt, IsSound}
 use Rattle.build_plan.specs.Jobs.{places_in}
 use Rattle.build_plan.specs.Scenes.{IsPost, IsScene, Scenery, StandsBefore}
 use Rattle.build_plan.proofs.PlannedLemmas.{position_of_node}
 use Rattle.build_plan.proofs.SceneLemmas.{long_graph}
 use Rattle.build_plan.proofs.SearchLemmas.{zip_get}
 
-module _ {listed : Listed} {all : List Found} {target places : List ℕ} {ordered : OrderedGraph}
+module _ {listed : Listed} {all : List Site} {target places : List ℕ} {ordered : OrderedGraph}
     (scene : IsScene listed all target places ordered) where
   pub node_in_graph : (at : ℕ) → at < length ordered.order → get_or ordered.order at 0 < length ordered.graph
   node_in_graph at within = (order_has_places ordered.graph ordered.order scene.is_order (get_or ordered.order at 0)).0 (Contains-get_or ordered.order at 0 within)
@@ -52,15 +55,24 @@ module _ {listed : Listed} {all : List Found} {target places : List ℕ} {ordere
       let inside = node_in_graph stands.0 first.0 in
       omega (arith, same, inside)
 
-  pub post_is : (settings : Settings) (at : ℕ) (post : Post) → at < length ordered.order → post.row.now ≡ get_or listed.rows (get_or places (get_or ordered.order at 0) 0) post.row.now → IsFoundAt listed.rows (get_or places (get_or ordered.order at 0) 0) post.found.now → Contains all post.found.now → IsClosureOf ordered.graph ordered.order (get_or ordered.order at 0) post.reached.items → ((other : ℕ) → Contains post.reached.items other ↔ Reaches ordered.graph (get_or ordered.order at 0) other) → IsPost (record { schedule = record { settings = settings; target = target; rows = listed.rows; places = places; order = ordered.order }; found = all }) at post
-  post_is settings at post within is found_at among closure tells =
+  abbrev view_of : Settings → List AppEntry → Scenery
+  view_of settings lock = record {
+    schedule = record { settings = settings; target = target; rows = listed.rows; places = places; order = ordered.order };
+    lock = lock;
+    winners = listed.winners;
+    sites = all;
+  }
+
+  pub post_is : (settings : Settings) (lock : List AppEntry) (at : ℕ) (post : Post) → at < length ordered.order → post.row.now ≡ get_or listed.rows (get_or places (get_or ordered.order at 0) 0) post.row.now
+      → ((known : Known) → AllZip (IsSiteAt known listed.rows) listed.winners all → IsSiteAt known listed.rows (get_or places (get_or ordered.order at 0) 0) post.site.now) → IsSound post.site.now
+      → IsClosureOf ordered.graph ordered.order (get_or ordered.order at 0) post.reached.items → ((other : ℕ) → Contains post.reached.items other ↔ Reaches ordered.graph (get_or ordered.order at 0) other) → IsPost (view_of settings lock) at post
+  post_is settings lock at post within is site_at sound closure tells =
       let row = post.row.now in
       let reached = post.reached.items in
       let node = get_or ordered.order at 0 in
       let inside = node_within at within in
       let place = get_or places node 0 in
       let stands_row : slice_get listed.rows place ≡ Some row = slice_get_read listed.rows (length listed.rows) place row refl (place_within node inside) is in
-      let same : found_at.row ≡ row = let there = found_at.stands in cc in
       record {
         at = record {
           node = node;
@@ -70,30 +82,34 @@ module _ {listed : Listed} {all : List Found} {target places : List ℕ} {ordere
           stands = stands_row;
           closure = subst (λ (g : List (List ℕ)). IsClosureOf g ordered.order node reached) scene.is_graph closure;
         };
-        source = ap (λ (r : Row). r.decl.source) (sym same) ∙ found_at.source;
-        sound = found_at.sound;
-        among = among;
+        sound = sound;
+        comes = λ known meant.
+            let here = site_at known meant in
+            let same : here.row ≡ row = same_Some here.row row (sym here.stands ∙ stands_row) in
+            (subst (λ (r : Row). IsBase known r.app r.decl post.site.now.base) same here.base, here.shows);
         before = λ i d here. stand_before at within (get_or reached i d) ((tells (get_or reached i d)).0 (Contains-get_or reached i d here));
       }
 
   -- the same of a scene, whose node at the place is known
-  pub post_of : (view : Scenery) (settings : Settings) (at node : ℕ) (post : Post) → ◌≡◌ {A = Scenery} (record { schedule = record { settings = settings; target = target; rows = listed.rows; places = places; order = ordered.order }; found = all }) view → at < length ordered.order → node ≡ get_or ordered.order at 0 → post.row.now ≡ get_or listed.rows (get_or places node 0) post.row.now → IsFoundAt listed.rows (get_or places node 0) post.found.now → Contains all post.found.now → IsClosureOf ordered.graph ordered.order node post.reached.items → ((other : ℕ) → Contains post.reached.items other ↔ Reaches ordered.graph node other) → IsPost view at post
-  post_of view settings at node post is within same row found among closure tells =
+  pub post_of : (view : Scenery) (settings : Settings) (lock : List AppEntry) (at node : ℕ) (post : Post) → ◌≡◌ {A = Scenery} (view_of settings lock) view → at < length ordered.order → node ≡ get_or ordered.order at 0 → post.row.now ≡ get_or listed.rows (get_or places node 0) post.row.now
+      → ((known : Known) → AllZip (IsSiteAt known listed.rows) listed.winners all → IsSiteAt known listed.rows (get_or places node 0) post.site.now) → IsSound post.site.now
+      → IsClosureOf ordered.graph ordered.order node post.reached.items → ((other : ℕ) → Contains post.reached.items other ↔ Reaches ordered.graph node other) → IsPost view at post
+  post_of view settings lock at node post is within same row site sound closure tells =
       subst (λ (v : Scenery). IsPost v at post) is
-      (post_is settings at post within
+      (post_is settings lock at post within
       (subst (λ (n : ℕ). post.row.now ≡ get_or listed.rows (get_or places n 0) post.row.now) same row)
-      (subst (λ (n : ℕ). IsFoundAt listed.rows (get_or places n 0) post.found.now) same found)
-      among
+      (subst (λ (n : ℕ). (known : Known) → AllZip (IsSiteAt known listed.rows) listed.winners all → IsSiteAt known listed.rows (get_or places n 0) post.site.now) same site)
+      sound
       (subst (λ (n : ℕ). IsClosureOf ordered.graph ordered.order n post.reached.items) same closure)
       (subst (λ (n : ℕ). (other : ℕ) → Contains post.reached.items other ↔ Reaches ordered.graph n other) same tells))
 
--- what was found of the winner at a place
-pub found_by_place : (rows : List Row) (winners : List ℕ) (found : List Found) (place at : ℕ) (f : Found) → AllZip (IsFoundAt rows) winners found → at < length winners → get_or winners at 0 ≡ place → at < length found → f ≡ get_or found at f → IsFoundAt rows place f
-found_by_place rows winners found place at f all within is inside read =
-    zip_get (IsFoundAt rows) winners found at place f all (slice_get-get_or winners at 0 within ∙ ap (λ (n : ℕ). Some n) is) (slice_get_read found (length found) at f refl inside read)
+-- the site of the winner at a place
+pub site_by_place : (known : Known) (rows : List Row) (winners : List ℕ) (sites : List Site) (place at : ℕ) (s : Site) → AllZip (IsSiteAt known rows) winners sites → at < length winners → get_or winners at 0 ≡ place → at < length sites → s ≡ get_or sites at s → IsSiteAt known rows place s
+site_by_place known rows winners sites place at s all within is inside read =
+    zip_get (IsSiteAt known rows) winners sites at place s all (slice_get-get_or winners at 0 within ∙ ap (λ (n : ℕ). Some n) is) (slice_get_read sites (length sites) at s refl inside read)
 
-pub found_among : (found : List Found) (at : ℕ) (f : Found) → at < length found → f ≡ get_or found at f → Contains found f
-found_among found at f inside read = (at, inside, sym read)
+pub site_among : (sites : List Site) (at : ℕ) (s : Site) → at < length sites → s ≡ get_or sites at s → Contains sites s
+site_among sites at s inside read = (at, inside, sym read)
 
 -- ---- the places of needs
 

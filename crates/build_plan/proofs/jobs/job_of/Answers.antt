@@ -1,7 +1,6 @@
 use Rattle.std.proofs.Common.{List, Option, Some, None, IfSome, subst}
 use Rattle.mx_base.specs.declared.file.File.{File}
-use Rattle.build_plan.specs.Found.{AreSources}
-use Rattle.path_children.specs.Found.{IsFound}
+use Rattle.build_plan.specs.Sites.{AreSources, Shows}
 use Rattle.build_plan.proofs.JobLemmas.{if_made, if_many, if_missed, known_made}
 use Rattle.build_plan.proofs.jobs.job_of.Goals as goal
 
@@ -13,8 +12,8 @@ pub returns-in_ok-described-in-Some-clause-job : goal.returns-in_ok-described-in
 returns-in_ok-described-in-Some-clause-job g c =
     let told = (g.S.Store.known c.args.store.now).sources in
     let post = c.args.post.now in
-    let read : IfSome told (λ files. IsFound files post.found.now → AreSources files post.found.now.dir c.min.result (Some c.in-Some.sources)) =
-    subst (λ (o : Option (List File)). IfSome told (λ files. IsFound files post.found.now → AreSources files post.found.now.dir c.min.result o)) c.in-Some.is c.in_ok-sources.ensures.read in
+    let read : IfSome told (λ files. Shows files post.site.now → AreSources files post.site.now.base.dir c.min.result (Some c.in-Some.sources)) =
+    subst (λ (o : Option (List File)). IfSome told (λ files. Shows files post.site.now → AreSources files post.site.now.base.dir c.min.result o)) c.in-Some.is c.in_ok-sources.ensures.read in
     if_made c.args.scene.now post c.args.opening c.requires.post told c.min.result c.in-Some.sources c.in_ok-described-in-Some.field-0 c.if_sent.result c.if_sent.ensures c.requires.meant read c.in_ok-described-in-Some.ensures
 
 pub returns-in_ok-described-in-Some-clause-known : goal.returns-in_ok-described-in-Some-clause-known
@@ -25,6 +24,6 @@ pub returns-in-None-clause-job : goal.returns-in-None-clause-job
 returns-in-None-clause-job g c =
     let told = (g.S.Store.known c.args.store.now).sources in
     let post = c.args.post.now in
-    let read : IfSome told (λ files. IsFound files post.found.now → AreSources files post.found.now.dir c.min.result None) =
-    subst (λ (o : Option (List File)). IfSome told (λ files. IsFound files post.found.now → AreSources files post.found.now.dir c.min.result o)) c.in-None.is c.in_ok-sources.ensures.read in
+    let read : IfSome told (λ files. Shows files post.site.now → AreSources files post.site.now.base.dir c.min.result None) =
+    subst (λ (o : Option (List File)). IfSome told (λ files. Shows files post.site.now → AreSources files post.site.now.base.dir c.min.result o)) c.in-None.is c.in_ok-sources.ensures.read in
     if_missed c.args.scene.now post c.args.opening c.requires.post told c.min.result c.min.ensures c.requires.meant read

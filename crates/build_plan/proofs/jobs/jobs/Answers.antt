@@ -22,7 +22,7 @@ returns-in_err-job-clause-answer g c =
     let p = err_from_is_err_and c.from_residual.result c.from_residual.ensures.1 in
     rw (p.1, p.2) (λ input.
     if_refuses_jobs schedule (g.S.Store.known c.args.store.now).sources l.jobs.items opening error l.invariant.long within l.invariant.meant l.invariant.fit l.invariant.room
-    (subst (λ (k : Known). IfSome k.sources (λ files. MakesJob files schedule opening (Err error))) l.invariant.same (c.in_err-job.ensures.answer input)))
+    (subst (λ (k : Known). IfSome k.sources (λ files. MakesJob (known_by files c.args.scene.now.lock) schedule opening (Err error))) l.invariant.same (c.in_err-job.ensures.answer input)))
 
 pub loop-at-preserved : goal.loop-at-preserved
 loop-at-preserved g c =
@@ -35,8 +35,8 @@ loop-at-preserved g c =
     let job = c.in_ok-job.job in
     let fits = c.in_ok-job.ensures.fits in
     let pushed : new ≡ jobs ++ job ∷ [] = c.in_ok-push.ensures.items in
-    let stands : IfSome told (λ files. IsJobAt files schedule l.at job) =
-    subst (λ (k : Known). IfSome k.sources (λ files. IsJobAt files schedule l.at job)) l.invariant.same c.in_ok-job.ensures.answer in
+    let stands : IfSome told (λ files. IsJobAt (known_by files c.args.scene.now.lock) schedule l.at job) =
+    subst (λ (k : Known). IfSome k.sources (λ files. IsJobAt (known_by files c.args.scene.now.lock) schedule l.at job)) l.invariant.same c.in_ok-job.ensures.answer in
     let taken : c.bytes_in-room.result ≡ bytes_in job.sources = c.bytes_in-room.ensures ∙ ap bytes_in c.as_slice.ensures.value in
     let left : (l.room - c.bytes_in-room.result) + bytes_in job.sources ≡ l.room = omega (arith, taken, fits.within) in
     record {

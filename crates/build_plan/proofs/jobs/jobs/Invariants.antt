@@ -10,7 +10,7 @@ abbrev pub invariant-loop-at : goal.invariant-loop-at
 invariant-loop-at g l = record {
   long : length l.jobs.items ≡ l.at;
   few : l.at ≤ most_jobs;
-  meant : IfSome (g.S.Store.known l.fn.store).sources (λ files. (k : ℕ) (job : Job) → slice_get l.jobs.items k ≡ Some job → IsJobAt files l.scene.schedule k job);
+  meant : IfSome (g.S.Store.known l.fn.store).sources (λ files. (k : ℕ) (job : Job) → slice_get l.jobs.items k ≡ Some job → IsJobAt (known_by files l.scene.lock) l.scene.schedule k job × IsFalse (is_unfetched files job));
   known : (k : ℕ) (job : Job) → slice_get l.jobs.items k ≡ Some job → IsKnownAt l.scene.schedule k job;
   sent : (k : ℕ) (job : Job) → slice_get l.jobs.items k ≡ Some job → sent_size job ≤ most_sent;
   fit : AllFit l.jobs.items;

@@ -27,8 +27,8 @@ invariant_of-result c =
     let listed = c.args.converged.now.rows in
     let graph = subst (λ (l : Listed). ordered.graph ≡ graph_of l.rows c.args.target.now places) c.rows-rows.ensures (subst (λ (ps : List ℕ). ordered.graph ≡ graph_of seen.rows c.args.target.now ps) c.deref.ensures.value c.in_ok-ordered.ensures.graph) in
     let order = subst (λ (l : Listed). OrdersGraph l.rows c.args.target.now places (Ok ordered.order)) c.rows-rows.ensures (subst (λ (ps : List ℕ). OrdersGraph seen.rows c.args.target.now ps (Ok ordered.order)) c.deref.ensures.value c.in_ok-ordered.ensures.answer) in
-    subst (λ (l : Listed). IsScene l c.args.found.now c.args.target.now places ordered) (sym c.rows-rows.ensures)
-    (scene_is listed c.args.found.now c.args.env.now c.args.target.now places ordered c.requires c.in_ok-places.ensures graph order)
+    subst (λ (l : Listed). IsScene l c.args.sites.now c.args.target.now places ordered) (sym c.rows-rows.ensures)
+    (scene_is listed c.args.sites.now c.args.env.now c.args.target.now places ordered c.requires c.in_ok-places.ensures graph order)
 
 pub returns-clause-answer : goal.returns-clause-answer
 returns-clause-answer c =

@@ -1,8 +1,9 @@
 use Rattle.std.proofs.Common.{◌≡◌, ℕ, ◌<◌, List, length, get_or, Contains, sym, ◌∙◌, ap, subst}
 use Rattle.std.specs.List.{AllZip}
-use Rattle.std.proofs.lemmas.Slice.Zip.{AllZip-long}
+use Rattle.std.proofs.lemmas.List.Elements.{All-contains}
 use Rattle.dep_rows.specs.declared.row.Row.{Row}
-use Rattle.build_plan.specs.Found.{IsFoundAt}
+use Rattle.build_plan.specs.Children.{Known}
+use Rattle.build_plan.specs.Sites.{IsSiteAt, IsSound}
 use Rattle.build_plan.specs.Scenes.{Scenery}
 use Rattle.build_plan.proofs.PostLemmas.{node_within, place_within, winner_has, post_of}
 use Rattle.build_plan.proofs.scene.Scene.post_at.Goals as goal
@@ -20,13 +21,13 @@ bounds-rows-place c =
     subst (λ (rs : List Row). place < length rs) (sym c.rows.ensures.rows)
     (subst (λ (p : ℕ). p < length s.rows.now.rows) (sym is) (place_within scene (get_or order at 0) (node_within scene at within)))
 
-pub found_at-requires-clause-long : goal.found_at-requires-clause-long
-found_at-requires-clause-long c =
+pub site_at-requires-clause-long : goal.site_at-requires-clause-long
+site_at-requires-clause-long c =
     let s = c.self.inside in
-    AllZip-long (IsFoundAt s.rows.now.rows) s.rows.now.winners s.found.now c.self.invariant.founds ∙ ap length (sym c.winners.ensures.winners)
+    c.self.invariant.long ∙ ap length (sym c.winners.ensures.winners)
 
-pub found_at-requires-clause-has : goal.found_at-requires-clause-has
-found_at-requires-clause-has c =
+pub site_at-requires-clause-has : goal.site_at-requires-clause-has
+site_at-requires-clause-has c =
     let s = c.self.inside in
     let scene = c.self.invariant in
     let at = c.args.at in
@@ -52,8 +53,9 @@ returns c =
     let within : at < length order = subst (λ (v : Scenery). at < length v.schedule.order) (sym c.self.view_is) c.requires in
     let row = c.index-rows-place.result in
     let read = subst (λ (rs : List Row). row ≡ get_or rs place row) c.rows.ensures.rows c.index-rows-place.is in
-    let found = c.found_at.ensures.at rows (subst (λ (ws : List ℕ). AllZip (IsFoundAt rows) ws s.found.now) (sym c.winners.ensures.winners) scene.founds) in
-    post_of scene c.args.self.now s.settings.now at node _ c.self.view_is within same
+    let site = λ (known : Known) (meant : AllZip (IsSiteAt known rows) s.rows.now.winners s.sites.now). c.site_at.ensures.at known rows (subst (λ (ws : List ℕ). AllZip (IsSiteAt known rows) ws s.sites.now) (sym c.winners.ensures.winners) meant) in
+    post_of scene c.args.self.now s.settings.now s.lock.now at node _ c.self.view_is within same
     (subst (λ (p : ℕ). row ≡ get_or rows p row) there read)
-    (subst (λ (p : ℕ). IsFoundAt rows p c.found_at.result.now) there found)
-    c.found_at.ensures.among c.in_ok-reached.ensures.in_order c.in_ok-reached.ensures.reached
+    (subst (λ (p : ℕ). (known : Known) → AllZip (IsSiteAt known rows) s.rows.now.winners s.sites.now → IsSiteAt known rows p c.site_at.result.now) there site)
+    (All-contains IsSound s.sites.now c.site_at.result.now scene.sound c.site_at.ensures.among)
+    c.in_ok-reached.ensures.in_order c.in_ok-reached.ensures.reached
