@@ -15,6 +15,7 @@ pub mod PlannedLemmas
 pub mod Positions
 pub mod PostLemmas
 pub mod Ranks
+pub mod ReleaseLemmas
 pub mod RootLemmas
 pub mod SceneLemmas
 pub mod SearchLemmas

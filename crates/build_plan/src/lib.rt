@@ -18,6 +18,7 @@ mod options;
 mod planning;
 mod post;
 mod recipe;
+mod release;
 mod root;
 mod said;
 mod scene;

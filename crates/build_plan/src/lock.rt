@@ -10,6 +10,7 @@ ghost use Rattle.build_plan.specs.LockLaws.{locked_once};
 ghost use Rattle.build_plan.specs.Stages.{HasLock};
 
 use crate::error::{PlanError, of_lock};
+use crate::release::release_of;
 use dep_options::Decl;
 use mix_lock::{Lock, LockDep, read_lock};
 use mx_base::{AppName, LOCK, RelPath};
@@ -56,7 +57,7 @@ impl Registry for Locked<'_> {
         app: &AppName,
         _package: &AppName,
     ) -> Result<Vec<Decl>, ChildError<AppName>> {
-        match self.lock.release_of(app) {
+        match release_of(self.lock, app) {
             Some(release) => Ok(declared(alloc, release.deps.as_slice())?),
             None => Err(ChildError::Registry(app.clone()?)),
         }

@@ -8,6 +8,7 @@ ghost use Rattle.build_plan.specs.Blame.{blame_of};
 ghost use Rattle.build_plan.specs.Found.{SaysSite};
 
 use crate::error::PlanError;
+use crate::release::release_of;
 use compile_model::Origin;
 use dep_rows::Row;
 use mix_lock::{HexEntry, Lock};
@@ -47,7 +48,7 @@ pub(crate) fn site_of<S: Store>(
 {
     match found {
         Some(found) => Ok(of_folder(alloc, found)?),
-        None => match lock.release_of(&row.app) {
+        None => match release_of(lock, &row.app) {
             Some(release) => of_release(alloc, store, &row.app, release),
             None => Err(PlanError::NotLocked(row.app.clone()?)),
         },
