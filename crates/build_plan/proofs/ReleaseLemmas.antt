@@ -3,12 +3,13 @@ use Rattle.std.proofs.Common.{◌≡◌, ℕ, zero, suc, ◌<◌, ◌≤◌, Boo
 use Rattle.std.specs.List.{position_or_len}
 use Rattle.std.specs.List.Sorted.{IsBinarySearchResult, IsSearchInRange}
 use Rattle.std.specs.Ordering.{is_eq, ordering_index}
+use Rattle.std.specs.Result.{result_ok}
 use Rattle.std.proofs.lemmas.Bool.{cases_lt, le-ltb, lt-ltb, ltb-false}
 use Rattle.std.proofs.lemmas.Cmp.{nat_list_cmp_total}
 use Rattle.std.proofs.lemmas.List.Folds.{find_at}
 use Rattle.std.proofs.lemmas.List.Sums.{position_or_len_is}
 use Rattle.std.proofs.lemmas.Option.{slice_get_past}
-use Rattle.std.proofs.lemmas.Str.{bytes_eq-Decides}
+use Rattle.std.proofs.lemmas.Slice.Eq.{bytes_eq-Decides}
 use Rattle.term_values.specs.declared.term.Term.TheVariants.{Atom}
 use Rattle.mx_base.specs.Order.{text_cmp, IsBefore}
 use Rattle.tree_store.proofs.OrderLemmas.{equal_itself, same_name}
@@ -143,3 +144,8 @@ release_nowhere lock app h = by_test (nat_lt (position_or_len (λ (q : AppEntry)
         ap (λ o. option_and_then (λ (q : AppEntry). release_in q.1) o)
         (find_at (λ (q : AppEntry). bytes_eq app q.0) lock
         ∙ slice_get_past lock (position_or_len (λ (q : AppEntry). bytes_eq app q.0) lock) (ltb-false (position_or_len (λ (q : AppEntry). bytes_eq app q.0) lock) (length lock) e))
+
+-- what is kept of the answer of a search
+pub place_told : (lock : List AppEntry) (app : List ℕ) (found : Result ℕ ℕ) (place : Option ℕ) → place ≡ result_ok found → SaysPlace lock app found → place ≡ position (λ (q : AppEntry). bytes_eq app q.0) lock
+place_told lock app (Ok at) place is says = is ∙ sym says
+place_told lock app (Err at) place is says = is ∙ sym says
