@@ -14,11 +14,13 @@ status_of plan.Read = ReadFault
 status_of (plan.Settings fault) = Refused
 status_of plan.NoProject = Missing
 status_of (plan.Project path fault) = Refused
+status_of (plan.Lock fault) = Refused
 status_of (plan.PathMissing app dir) = Missing
 status_of (plan.NotLocked app) = Missing
 status_of plan.TooManyRows = Refused
 status_of (plan.Diverged lines) = Conflict
 status_of (plan.Cycle apps) = Conflict
+status_of (plan.NotFetched app) = Missing
 status_of (plan.TooLarge app) = Refused
 status_of plan.OutOfMemory = OutOfMemory
 

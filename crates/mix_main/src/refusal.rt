@@ -39,12 +39,14 @@ fn status_of(error: &PlanError) -> Status
     match error {
         PlanError::Settings(_)
         | PlanError::Project { .. }
+        | PlanError::Lock(_)
         | PlanError::TooManyRows
         | PlanError::TooLarge(_) => Status::Refused,
         PlanError::Diverged(_) | PlanError::Cycle(_) => Status::Conflict,
-        PlanError::NoProject | PlanError::PathMissing { .. } | PlanError::NotLocked(_) => {
-            Status::Missing
-        }
+        PlanError::NoProject
+        | PlanError::PathMissing { .. }
+        | PlanError::NotLocked(_)
+        | PlanError::NotFetched(_) => Status::Missing,
         PlanError::Read => Status::ReadFault,
         PlanError::OutOfMemory => Status::OutOfMemory,
     }
