@@ -22,7 +22,11 @@ fn push_written(alloc: Global, out: &mut String, lock: &Lock) -> Result<(), Faul
     push_after(alloc, out, "ok ", written.as_slice())
 }
 
-fn refused_lock(alloc: Global, out: &mut String, error: &LockError) -> Result<(), Fault> {
+pub(crate) fn refused_lock(
+    alloc: Global,
+    out: &mut String,
+    error: &LockError,
+) -> Result<(), Fault> {
     match error {
         LockError::Term(error) => refused_term(out, *error),
         LockError::Shape(name) => push_after(alloc, out, "refused - Shape ", name.as_slice()),

@@ -101,6 +101,7 @@ fn refused_plan(alloc: Global, out: &mut String, error: &PlanError) -> Result<()
             refused_project(alloc, out, fault)?;
             push_name(out, path.as_str())
         }
+        PlanError::Lock(error) => refused_lock(alloc, out, error),
         PlanError::PathMissing { app, dir } => {
             refused_app(out, "PathMissing", app)?;
             push_name(out, dir.as_str())
@@ -115,6 +116,7 @@ fn refused_plan(alloc: Global, out: &mut String, error: &PlanError) -> Result<()
             }
             Ok(())
         }
+        PlanError::NotFetched(app) => refused_app(out, "NotFetched", app),
         PlanError::TooLarge(app) => refused_app(out, "TooLarge", app),
         PlanError::OutOfMemory => Err(Fault::Memory),
     }
