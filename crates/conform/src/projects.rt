@@ -5,6 +5,7 @@ ghost use Rattle.tree_store.specs.Slot.{AllHere};
 
 use crate::compilers::refused_settings;
 use crate::fields::{Fault, word};
+use crate::locks::refused_lock;
 use crate::manifests::refused_project;
 use crate::mortal::MortalCompiler;
 use crate::rows::rule_name;
