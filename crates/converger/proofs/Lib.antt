@@ -13,3 +13,4 @@ pub mod Decided
 pub mod Another
 pub mod SomeStray
 pub mod Exists
+pub mod LineLemmas

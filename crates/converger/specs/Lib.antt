@@ -4,3 +4,4 @@ pub mod Said
 pub mod Converged
 pub mod Strays
 pub mod Cases
+pub mod Lines

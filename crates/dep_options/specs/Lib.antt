@@ -4,3 +4,4 @@ pub mod Options
 pub mod Said
 pub mod Decls
 pub mod Stated
+pub mod Released

@@ -3,6 +3,7 @@ use Rattle.std.specs.Prelude.{◌≡◌, ℕ, Bool, List, [], map, find, filter,
 use Rattle.std.specs.List.{list_any}
 use Rattle.indexmap.specs.IndexSet.{IndexSet}
 use Rattle.hex_messages.specs.declared.package.Package.{Package}
+use Rattle.hex_messages.specs.declared.package.Release.{Release}
 use Rattle.hex_registry.specs.declared.offer.Demand.{Demand}
 use Rattle.hex_registry.specs.declared.offer.Offer.{Offer}
 use Rattle.hex_registry.specs.declared.shelf.Shelf.{Shelf}
@@ -33,6 +34,10 @@ message_of shelves name = option_map (λ stock. stock.message) (stock_of shelves
 -- what a release of a package offers, by its place among the releases
 abbrev pub offer_at : List Shelf → List ℕ × ℕ → Option Offer
 offer_at shelves picked = option_and_then (λ stock. slice_get stock.offers picked.1) (stock_of shelves picked.0)
+
+-- a release of a package as it was read, by its place
+abbrev pub release_at : List Shelf → List ℕ × ℕ → Option Release
+release_at shelves picked = option_and_then (λ stock. slice_get stock.message.releases picked.1) (stock_of shelves picked.0)
 
 abbrev pub listed_demands : Option (List Demand) → List Demand
 listed_demands None = []

@@ -23,6 +23,6 @@ pub use missing::first_missing;
 pub use offer::{Demand, Demands, Offer, Offers};
 pub use pick::{Pick, Picked};
 pub use registry::Registry;
-pub use shelf::{Shelf, Stock};
+pub use shelf::{Released, Shelf, Stock};
 pub use unmet::{By, demand_refuses, demands_refuse, wants_refuse};
 pub use wants::{Locked, LockedList, Want, WantList, Wants};

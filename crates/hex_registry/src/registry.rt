@@ -1,11 +1,12 @@
 // The packages that were read, by their names.
-ghost use Rattle.std.specs.Prelude.{◌≡◌, bytes_eq, position, slice_get};
+ghost use Rattle.std.specs.Prelude.{◌≡◌, ℕ, List, IfSome, bytes_eq, option_map, position, slice_get};
 ghost use Rattle.std.specs.Option.{option_copied};
-ghost use Rattle.hex_registry.specs.Shelves.{AreNamesOf, message_of, demands_of, offer_at, shelf_of, stock_of};
+ghost use Rattle.hex_registry.specs.Offers.{IsOffer};
+ghost use Rattle.hex_registry.specs.Shelves.{AreNamesOf, message_of, demands_of, offer_at, release_at, shelf_of, stock_of};
 
 use crate::offer::{Demand, Offer};
 use crate::pick::Picked;
-use crate::shelf::{Shelf, Stock};
+use crate::shelf::{Released, Shelf, Stock};
 use hex_messages::Package;
 use indexmap::IndexSet;
 use mx_base::AppName;
@@ -49,6 +50,20 @@ impl Registry {
     {
         let stock = self.stock(name)?;
         stock.offers.as_slice().get(place as usize)
+    }
+
+    /// The release of a package that stands at this place of its message, as it was read, and what it offers; none
+    /// where there is no such.
+    pub fn released(&self, name: &AppName, place: u64) -> Option<Released<'_>>
+        ensures release { option_map (λ found. found.release.now) result
+            ≡ release_at self.now (name.now, place) }
+        ensures offer { option_map (λ found. found.offer.now) result
+            ≡ offer_at self.now (name.now, place) }
+        ensures offered { IfSome result (λ found. (repository : List ℕ)
+            × IsOffer repository found.release.now found.offer.now) }
+    {
+        let stock = self.stock(name)?;
+        stock.released(place as usize)
     }
 
     /// What a picked release asks for, with what is set aside.

@@ -1,8 +1,11 @@
 // Locks.
-ghost use Rattle.std.specs.Prelude.{◌≡◌, []};
-ghost use Rattle.mix_lock.specs.Lock.{IsLock};
+ghost use Rattle.std.specs.Prelude.{◌≡◌, [], bytes_eq};
+ghost use Rattle.std.specs.List.{AllByRecursion, IsDistinct};
+ghost use Rattle.std.specs.List.Sorted.{IsPermutation};
+ghost use Rattle.mix_lock.specs.Lock.{AreInOrder, IsAppEntry, IsLock, apps_of};
 
 use crate::entry::Entry;
+use crate::reader::put_in_order;
 use mx_base::AppName;
 use std::alloc::Global;
 use std::marker::Model;
@@ -46,6 +49,17 @@ impl Lock {
         requires { IsLock entries.items }
         ensures { result ≡ entries.items }
     {
+        Lock { entries }
+    }
+
+    /// The entries of different apps, put in order. It takes no memory.
+    pub fn of(mut entries: Vec<(AppName, Entry)>) -> Lock
+        requires apart { IsDistinct bytes_eq (apps_of entries.items) }
+        requires each { AllByRecursion IsAppEntry entries.items }
+        ensures same { IsPermutation entries.items result }
+        ensures in_order { AreInOrder result }
+    {
+        put_in_order(&mut entries);
         Lock { entries }
     }
 

@@ -40,8 +40,8 @@ fn lock_of(alloc: Global, term: Term) -> Result<Lock, LockError>
     Ok(Lock::from_vec(entries))
 }
 
-// Sorts by the apps, where that is still to do.
-fn put_in_order(entries: &mut Vec<(AppName, Entry)>)
+/// Sorts by the apps, where that is still to do.
+pub(crate) fn put_in_order(entries: &mut Vec<(AppName, Entry)>)
     requires { IsDistinct bytes_eq (apps_of entries.old.items) }
     ensures in_order { AreInOrder entries.new.items }
     ensures same { IsPermutation entries.old.items entries.new.items }
