@@ -20,12 +20,13 @@ use Rattle.build_plan.specs.declared.error.PlanError.TheVariants.{TooLarge}
 use Rattle.build_plan.specs.declared.opening.Opening.{Opening}
 use Rattle.build_plan.specs.declared.post.Post.{Post}
 use Rattle.dep_options.specs.Options.{is_dep_folder}
-use Rattle.build_plan.specs.Dependencies.{version_by}
+use Rattle.path_children.specs.Dependencies.{version_by}
 use Rattle.build_plan.specs.Blame.{blame_of}
 use Rattle.build_plan.specs.Refusals.{of_store}
 use Rattle.build_plan.specs.Stages.{MakesJobs}
 use Rattle.build_plan.specs.Stages.MakesJobs.{passes_size, makes}
-use Rattle.build_plan.specs.Found.{AreSources, IsFound}
+use Rattle.build_plan.specs.Found.{AreSources}
+use Rattle.path_children.specs.Found.{IsFound}
 use Rattle.build_plan.specs.Jobs.{Schedule, AllFit, IsJobAt, is_too_large, job_with, places_in, most_bytes, most_files, most_plan_bytes, source_bytes}
 use Rattle.build_plan.specs.Needs.{apps_of}
 use Rattle.build_plan.specs.Scenes.{Fits, IsKnownAt, IsPost, MakesJob, Misses, Passes, Scenery, job_from}

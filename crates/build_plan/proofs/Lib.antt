@@ -1,6 +1,4 @@
-pub mod FolderLemmas
 pub mod JobLemmas
-pub mod KeptLemmas
 pub mod LineLemmas
 pub mod ListLemmas
 pub mod ManagerLemmas
@@ -16,7 +14,6 @@ pub mod PlannedLemmas
 pub mod Positions
 pub mod PostLemmas
 pub mod Ranks
-pub mod ReadLemmas
 pub mod RootLemmas
 pub mod SceneLemmas
 pub mod SearchLemmas
@@ -26,6 +23,6 @@ pub mod SomeRoot
 pub mod SourceLemmas
 pub mod Stages
 pub mod Steps
+pub mod StockLemmas
 pub mod VersionLemmas
 pub mod VersionsLemmas
-pub mod WinnerLemmas

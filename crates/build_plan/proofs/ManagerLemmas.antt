@@ -17,7 +17,7 @@ use Rattle.dep_options.specs.declared.decl.Manager.TheVariants.{Mix, Rebar3, Mak
 use Rattle.dep_rows.specs.declared.row.Row.{Row}
 use Rattle.project_file.specs.Files.{has_file, manager_by_files}
 use Rattle.build_plan.specs.declared.post.Post.{Post}
-use Rattle.build_plan.specs.Dependencies.{version_by}
+use Rattle.path_children.specs.Dependencies.{version_by}
 use Rattle.build_plan.specs.Jobs.{Schedule, manager_or, job_with, places_in}
 use Rattle.build_plan.specs.Needs.{apps_of}
 use Rattle.build_plan.specs.Options.{options_text}

@@ -18,10 +18,10 @@ use Rattle.project_file.specs.declared.project.Project.{Project}
 use Rattle.project_file.specs.declared.settings.Settings.{Settings}
 use Rattle.build_plan.specs.declared.error.PlanError.{PlanError}
 use Rattle.build_plan.specs.declared.error.PlanError.TheVariants as refused
-use Rattle.build_plan.specs.Dependencies.{version_by}
+use Rattle.path_children.specs.Dependencies.{version_by}
 use Rattle.build_plan.specs.Jobs.{Schedule, IsJobAt, AreFirstJobs, AllFit, is_too_large, job_with, places_in}
 use Rattle.build_plan.specs.Needs.{graph_of, apps_of}
-use Rattle.build_plan.specs.ChildLaws.{OneProject}
+use Rattle.path_children.specs.ChildLaws.{OneProject}
 use Rattle.build_plan.proofs.ListLemmas.{Agree, begins, one_at, same_filter, same_list}
 use Rattle.build_plan.proofs.OneRoot.{one_found}
 use Rattle.build_plan.specs.Stages.{MakesJobs, Schedules}

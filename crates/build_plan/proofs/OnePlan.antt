@@ -11,7 +11,7 @@ use Rattle.project_file.specs.declared.settings.Settings.{Settings}
 use Rattle.project_file.specs.Files.{AreSettings, IsLoaded}
 use Rattle.build_plan.specs.declared.error.PlanError.{PlanError}
 use Rattle.build_plan.specs.Plan.{Build, IsPlan, IsPlanOf}
-use Rattle.build_plan.specs.ChildLaws.{OneProject}
+use Rattle.path_children.specs.ChildLaws.{OneProject}
 use Rattle.build_plan.proofs.OneOrder.{jobs_one, schedule_one}
 use Rattle.build_plan.proofs.OneRoot.{rows_one, together_one}
 use Rattle.build_plan.specs.Stages.{ListsRows, LivesTogether, MakesJobs, Schedules, Then}

@@ -17,9 +17,13 @@ use Rattle.project_file.specs.Files.{IsLoaded}
 use Rattle.build_plan.specs.declared.error.DivergedLine.{DivergedLine}
 use Rattle.build_plan.specs.declared.error.PlanError.{PlanError}
 use Rattle.build_plan.specs.declared.error.PlanError.TheVariants as refused
-use Rattle.build_plan.specs.Dependencies.{AreChildren, AreVersions, HasVersion, version_by}
+use Rattle.path_children.specs.declared.error.ChildError.{ChildError}
+use Rattle.path_children.specs.Dependencies.{version_by}
+use Rattle.build_plan.specs.Children.{ChildrenBy, IsUnlocked, evidence_by, unlocked_once}
+use Rattle.build_plan.specs.Refusals.{of_child}
+use Rattle.build_plan.specs.Versions.{AreVersions, HasVersion}
 use Rattle.build_plan.specs.Lines.{AreLines, IsLine, line_of}
-use Rattle.build_plan.specs.ChildLaws.{OneProject, once}
+use Rattle.path_children.specs.ChildLaws.{OneProject, once}
 use Rattle.build_plan.proofs.ListLemmas.{one_at, same_zip}
 use Rattle.build_plan.specs.Stages.{ListsRows, LivesTogether, LiveWith}
 use Rattle.build_plan.specs.Stages.ListsRows.{meets, passes, lists}
@@ -63,20 +67,20 @@ live_same listed versions (lives none) (diverges list are some said) = absurd (s
 live_same listed versions (lives none) (lives also) = refl
 
 module _ (one : OneProject) (files : List File) where
-  children_once : AnswersOnce (AreChildren files)
-  children_once app winner answer other says tells = once one says tells
+  children_once : AnswersOnce (ChildrenBy files)
+  children_once app winner answer other says tells = once one IsUnlocked unlocked_once (evidence_by files) app winner says tells
 
   rows_same : {root : List Decl} {a b : Result Listed PlanError} → ListsRows files root a → ListsRows files root b → a ≡ b
-  rows_same {root = root} (meets {error = d} met) (meets {error = e} also) = ap (λ (e : PlanError). Err e) (one_fault (AreChildren files) children_once root d e met also)
-  rows_same {root = root} (meets {error = d} met) (passes many) = absurd (fault_or_limit (AreChildren files) children_once root d met many)
-  rows_same {root = root} (meets {error = d} met) (lists listed are few) = absurd (rows_or_fault (AreChildren files) children_once root listed.rows listed.winners d are met)
-  rows_same {root = root} (passes many) (meets {error = d} met) = absurd (fault_or_limit (AreChildren files) children_once root d met many)
+  rows_same {root = root} (meets {error = d} met) (meets {error = e} also) = ap (λ (e : ChildError (List ℕ)). Err (of_child e)) (one_fault (ChildrenBy files) children_once root d e met also)
+  rows_same {root = root} (meets {error = d} met) (passes many) = absurd (fault_or_limit (ChildrenBy files) children_once root d met many)
+  rows_same {root = root} (meets {error = d} met) (lists listed are few) = absurd (rows_or_fault (ChildrenBy files) children_once root listed.rows listed.winners d are met)
+  rows_same {root = root} (passes many) (meets {error = d} met) = absurd (fault_or_limit (ChildrenBy files) children_once root d met many)
   rows_same (passes many) (passes also) = refl
-  rows_same {root = root} (passes many) (lists listed are few) = absurd (rows_or_limit (AreChildren files) children_once root listed.rows listed.winners are few many)
-  rows_same {root = root} (lists listed are few) (meets {error = d} met) = absurd (rows_or_fault (AreChildren files) children_once root listed.rows listed.winners d are met)
-  rows_same {root = root} (lists listed are few) (passes many) = absurd (rows_or_limit (AreChildren files) children_once root listed.rows listed.winners are few many)
+  rows_same {root = root} (passes many) (lists listed are few) = absurd (rows_or_limit (ChildrenBy files) children_once root listed.rows listed.winners are few many)
+  rows_same {root = root} (lists listed are few) (meets {error = d} met) = absurd (rows_or_fault (ChildrenBy files) children_once root listed.rows listed.winners d are met)
+  rows_same {root = root} (lists listed are few) (passes many) = absurd (rows_or_limit (ChildrenBy files) children_once root listed.rows listed.winners are few many)
   rows_same {root = root} (lists listed are few) (lists others also less) =
-      let same = one_list (AreChildren files) children_once root listed.rows others.rows listed.winners others.winners are also in
+      let same = one_list (ChildrenBy files) children_once root listed.rows others.rows listed.winners others.winners are also in
       ap₂ (λ (rs : List Row) (ws : List ℕ). Ok (record { rows = rs; winners = ws })) same.0 same.1
 
   pub rows_one : (root : List Decl) → HasOne (ListsRows files root)

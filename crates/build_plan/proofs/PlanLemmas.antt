@@ -11,9 +11,9 @@ use Rattle.project_file.specs.declared.settings.Settings.{Settings}
 use Rattle.project_file.specs.Files.{AreSettings}
 use Rattle.build_plan.specs.declared.error.PlanError.{PlanError}
 use Rattle.build_plan.specs.declared.error.PlanError.TheVariants as refused
-use Rattle.build_plan.specs.declared.found.Found.{Found}
-use Rattle.build_plan.specs.Found.{IsFound}
-use Rattle.build_plan.specs.Dependencies.{AreVersions}
+use Rattle.path_children.specs.declared.found.Found.{Found}
+use Rattle.path_children.specs.Found.{IsFound}
+use Rattle.build_plan.specs.Versions.{AreVersions}
 use Rattle.build_plan.specs.Plan.{Converge, IsPlan, IsPlanOf, build_of}
 use Rattle.build_plan.specs.Plan.IsPlan.{settings as root_settings, no_project as by_no_project, project as by_project, of_root as by_root}
 use Rattle.build_plan.specs.Plan.IsPlanOf.{settings as by_settings, dependency as by_dependency, too_many as by_too_many, diverged as by_diverged, cycle as by_cycle, too_large as by_too_large, planned as by_planned}

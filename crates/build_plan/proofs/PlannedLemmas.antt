@@ -16,7 +16,7 @@ use Rattle.dep_rows.specs.Rows.{IsWinner}
 use Rattle.build_plan.specs.Jobs.{Schedule, places_in}
 use Rattle.build_plan.specs.Needs.{app_of, apps_of, graph_of}
 use Rattle.build_plan.specs.Scenes.{IsKnownAt, IsOrdered}
-use Rattle.build_plan.proofs.FolderLemmas.{folder_outside}
+use Rattle.path_children.proofs.FolderLemmas.{folder_outside}
 use Rattle.build_plan.proofs.Positions.{position_first}
 use Rattle.build_plan.proofs.Ranks.{ranks, ranks_has, ranks_from, ranks_in_order, as_ranks, as_values, all_some, few_places}
 

@@ -14,7 +14,7 @@ use Rattle.dep_order.proofs.Reaching.{reached_before}
 use Rattle.dep_rows.specs.declared.row.Row.{Row}
 use Rattle.dep_rows.specs.Listed.{Listed}
 use Rattle.project_file.specs.declared.settings.Settings.{Settings}
-use Rattle.build_plan.specs.declared.found.Found.{Found}
+use Rattle.path_children.specs.declared.found.Found.{Found}
 use Rattle.build_plan.specs.declared.post.Post.{Post}
 use Rattle.build_plan.specs.Found.{IsFoundAt}
 use Rattle.build_plan.specs.Jobs.{places_in}

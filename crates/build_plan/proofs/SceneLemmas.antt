@@ -10,7 +10,7 @@ use Rattle.dep_rows.specs.declared.row.Row.{Row}
 use Rattle.dep_rows.specs.Listed.{Listed}
 use Rattle.project_file.specs.declared.settings.Settings.{Settings}
 use Rattle.build_plan.specs.declared.error.PlanError.{PlanError}
-use Rattle.build_plan.specs.declared.found.Found.{Found}
+use Rattle.path_children.specs.declared.found.Found.{Found}
 use Rattle.build_plan.specs.Found.{AreFoundFor}
 use Rattle.build_plan.specs.Needs.{direct_needs, graph_of}
 use Rattle.build_plan.specs.Scenes.{IsOrdered, IsScene}

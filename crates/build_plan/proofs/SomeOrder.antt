@@ -20,7 +20,9 @@ use Rattle.dep_rows.specs.Listed.{Listed}
 use Rattle.dep_rows.specs.Rows.{AreRows, AreWinners}
 use Rattle.project_file.specs.declared.settings.Settings.{Settings}
 use Rattle.build_plan.specs.declared.error.PlanError.TheVariants as refused
-use Rattle.build_plan.specs.Dependencies.{AreChildren, version_by}
+use Rattle.path_children.specs.Dependencies.{version_by}
+use Rattle.path_children.proofs.WinnerLemmas.{IsAnswered, all_answered}
+use Rattle.build_plan.specs.Children.{ChildrenBy}
 use Rattle.build_plan.specs.Jobs.{Schedule, StandsAt, IsJobAt, AreFirstJobs, AllFit, is_too_large, job_with, places_in}
 use Rattle.build_plan.specs.Needs.{graph_of, apps_of, direct_needs}
 use Rattle.build_plan.specs.Stages.{MakesJobs, Schedules}
@@ -30,7 +32,6 @@ use Rattle.build_plan.proofs.JobLemmas.{all_fit_more, each_more}
 use Rattle.build_plan.proofs.NeedLemmas.{graph_within}
 use Rattle.build_plan.proofs.SomeRoot.{read_of}
 use Rattle.build_plan.proofs.Steps.{HasSome}
-use Rattle.build_plan.proofs.WinnerLemmas.{IsAnswered, all_answered}
 
 pub some_schedule : (settings : Settings) (rows : List Row) (env target : List ℕ) → HasSome (Schedules settings rows env target)
 some_schedule settings rows env target =
@@ -58,7 +59,7 @@ some_closure graph order node within inside =
 
 -- ---- the job at a place of the order
 
-module _ (files : List File) (root : List Decl) (listed : Listed) (are : AreRows (AreChildren files) root listed.rows listed.winners) where
+module _ (files : List File) (root : List Decl) (listed : Listed) (are : AreRows (ChildrenBy files) root listed.rows listed.winners) where
   module _ (settings : Settings) (env target places order : List ℕ)
       (reached : AreReached listed.rows env target places) (ordered : IsOrderOf (graph_of listed.rows target places) order) where
     abbrev graph : List (List ℕ)
@@ -77,12 +78,12 @@ module _ (files : List File) (root : List Decl) (listed : Listed) (are : AreRows
         omega (arith, inside, long)
 
     -- the children of each winner that is reached are known
-    answered : (node : ℕ) → node < length places → IsAnswered (AreChildren files) listed.rows (get_or places node 0)
+    answered : (node : ℕ) → node < length places → IsAnswered (ChildrenBy files) listed.rows (get_or places node 0)
     answered node less =
         let wins = reached.only node 0 less in
         let winning : AreWinners listed.rows listed.winners = subst (AreWinners listed.rows) (append-nil listed.winners) are.winners in
-        All-contains (IsAnswered (AreChildren files) listed.rows) listed.winners (get_or places node 0)
-        (all_answered (AreChildren files) listed.rows are.blocks) (winning.all (get_or places node 0) wins.0 wins.1)
+        All-contains (IsAnswered (ChildrenBy files) listed.rows) listed.winners (get_or places node 0)
+        (all_answered (ChildrenBy files) listed.rows are.blocks) (winning.all (get_or places node 0) wins.0 wins.1)
 
     some_job : (k : ℕ) → k < length order → HasSome (IsJobAt files schedule k)
     some_job k less =
@@ -144,7 +145,7 @@ module _ (files : List File) (schedule : Schedule) (each : (k : ℕ) → k < len
       (record { few = omega arith; each = λ k job at. absurd (none-some job at) })
       (λ k job at. absurd (none-some job at))
 
-pub some_jobs : (files : List File) (root : List Decl) (listed : Listed) → AreRows (AreChildren files) root listed.rows listed.winners
+pub some_jobs : (files : List File) (root : List Decl) (listed : Listed) → AreRows (ChildrenBy files) root listed.rows listed.winners
     → (settings : Settings) (env target : List ℕ) (schedule : Schedule) → Schedules settings listed.rows env target (Ok schedule)
     → HasSome (MakesJobs files schedule)
 some_jobs files root listed are settings env target _ (orders places order reached ordered) =

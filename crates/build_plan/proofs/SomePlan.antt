@@ -19,7 +19,8 @@ use Rattle.build_plan.specs.Stages.ListsRows.{lists}
 use Rattle.build_plan.specs.Stages.Then.{stops, goes_on}
 use Rattle.build_plan.proofs.PlanLemmas.{diverged, jobs_made, live_rows, rows_refused}
 use Rattle.build_plan.proofs.SomeOrder.{some_jobs, some_schedule}
-use Rattle.build_plan.proofs.SomeRoot.{SomeProject, some_rows, some_together}
+use Rattle.path_children.proofs.SomeChildren.{SomeProject}
+use Rattle.build_plan.proofs.SomeRoot.{some_rows, some_together}
 use Rattle.build_plan.proofs.Stages.{FromDecls, FromFiles, FromRoot, FromRows, FromSettings, root_answer, settings_answer}
 use Rattle.build_plan.proofs.Steps.{Becomes, HasSome, becomes_some, same_err, same_ok, then_some}
 

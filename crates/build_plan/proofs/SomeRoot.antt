@@ -26,20 +26,15 @@ use Rattle.project_file.specs.Files.{IsLoaded}
 use Rattle.project_file.specs.Version.{is_version}
 use Rattle.build_plan.specs.declared.error.PlanError.{PlanError}
 use Rattle.build_plan.specs.declared.error.PlanError.TheVariants as plan
-use Rattle.build_plan.specs.Dependencies.{AreChildren, AreVersions, HasVersion, has_files, version_by}
+use Rattle.path_children.specs.Dependencies.{AreChildren, has_files, version_by}
+use Rattle.build_plan.specs.Versions.{AreVersions, HasVersion}
 use Rattle.build_plan.specs.Dependencies.AreChildren.{unlocked, missing, refused, declared}
 use Rattle.build_plan.specs.Lines.{AreLines, IsLine, line_of}
 use Rattle.build_plan.specs.Stages.{ListsRows, LivesTogether, LiveWith}
 use Rattle.build_plan.specs.Stages.ListsRows.{meets, passes, lists}
 use Rattle.build_plan.specs.Stages.LiveWith.{diverges, lives}
 use Rattle.build_plan.proofs.Steps.{HasSome}
-use Rattle.build_plan.proofs.VersionLemmas.{version_is}
 use Rattle.build_plan.proofs.VersionsLemmas.{none_diverges}
-use Rattle.build_plan.proofs.WinnerLemmas.{IsAnswered, all_answered}
-
--- the manifest in a folder says something
-abbrev pub SomeProject : Type 0
-SomeProject = (files : List File) (dir : List ℕ) → (answer : Result (Option Project) ProjectError) × IsLoaded files dir answer
 
 -- where each item has something beside it, there is a list of these
 zip_some : {A B : Type 0} (R : A → B → Type 0) (xs : List A) → All (λ x. HasSome (R x)) xs → HasSome (AllZip R xs)
@@ -71,8 +66,12 @@ pub record IsRead (files : List File) (decl : Decl) : Type 0 where
   pub source : decl.source ≡ Path dir
   pub loaded : IsLoaded files dir (Ok found)
 
-pub read_of : {files : List File} {app : List ℕ} {winner : Decl} {decls : List Decl} → AreChildren files app winner (Ok decls) → IsRead files winner
-read_of (declared dir {found = found} is has reads) = record { dir = dir; found = found; source = is; loaded = reads }
+pub read_of : {files : List File} {app : List ℕ} {winner : Decl} {decls : List Decl} → ChildrenBy files app winner (Ok decls) → IsRead files winner
+read_of (of_registry name is says) = absurd (never says)
+  where
+    never : {decls : List Decl} {app : List ℕ} → ◌≡◌ {A = Result (List Decl) (List ℕ)} (Ok decls) (Err app) → ⊥
+    never same = cc
+read_of (of_folder dir is (holds {found = found} has reads)) = record { dir = dir; found = found; source = is; loaded = reads }
 
 -- ---- divergences
 
@@ -101,35 +100,18 @@ module _ (listed : Listed) (versions : List (Option Parts)) where
 -- ---- rows
 
 module _ (some : SomeProject) (files : List File) where
-  by_manifest : (app : List ℕ) (winner : Decl) (dir : List ℕ) → winner.source ≡ Path dir → IsTrue (has_files files dir)
-      → (answer : Result (Option Project) ProjectError) → IsLoaded files dir answer → HasSome (AreChildren files app winner)
-  by_manifest app winner dir is has (Ok found) reads = (_, declared dir is has reads)
-  by_manifest app winner dir is has (Err fault) reads = (_, refused dir is has reads)
-
-  by_files : (app : List ℕ) (winner : Decl) (dir : List ℕ) → winner.source ≡ Path dir → (has : Bool) → has_files files dir ≡ has
-      → HasSome (AreChildren files app winner)
-  by_files app winner dir is true has = let said = some files dir in by_manifest app winner dir is has said.0 said.1
-  by_files app winner dir is false gone = (_, missing dir is gone)
-
-  by_source : (app : List ℕ) (winner : Decl) (source : DepSource) → winner.source ≡ source → HasSome (AreChildren files app winner)
-  by_source app winner (Hex name) is = (_, unlocked name is)
-  by_source app winner (Path dir) is = by_files app winner dir is (has_files files dir) refl
-
-  each_answers : AnswersEach (AreChildren files)
-  each_answers app winner = by_source app winner winner.source refl
-
-  by_outcome : (root : List Decl) (outcome : Result Listed (RowsError PlanError)) → IsListing (AreChildren files) root outcome → IfOk outcome IsWithinLimit
+  by_outcome : (root : List Decl) (outcome : Result Listed (RowsError (ChildError (List ℕ)))) → IsListing (ChildrenBy files) root outcome → IfOk outcome IsWithinLimit
       → HasSome (ListsRows files root)
   by_outcome root (Ok listed) are within = (Ok listed, lists listed are within.few)
-  by_outcome root (Err (listing.Children error)) met within = (Err error, meets met)
+  by_outcome root (Err (listing.Children error)) met within = (Err (of_child error), meets met)
   by_outcome root (Err listing.TooManyRows) many within = (Err plan.TooManyRows, passes many)
   by_outcome root (Err listing.OutOfMemory) none within = absurd none
 
   pub some_rows : (root : List Decl) → HasSome (ListsRows files root)
-  some_rows root = let found = some_outcome AreChildren files each_answers root in by_outcome root found.outcome found.is found.within
+  some_rows root = let found = some_outcome ChildrenBy files each_answers root in by_outcome root found.outcome found.is found.within
 
 module _ (files : List File) where
-  some_version : (rows : List Row) (place : ℕ) → IsAnswered (AreChildren files) rows place → HasSome (HasVersion files rows place)
+  some_version : (rows : List Row) (place : ℕ) → IsAnswered (ChildrenBy files) rows place → HasSome (HasVersion files rows place)
   some_version rows place known =
       let read = read_of known.answer in
       let number = version_known (version_by read.found) (version_is read.found) in (
@@ -147,14 +129,14 @@ module _ (files : List File) where
         },
       )
 
-  some_versions : (root : List Decl) (listed : Listed) → AreRows (AreChildren files) root listed.rows listed.winners
+  some_versions : (root : List Decl) (listed : Listed) → AreRows (ChildrenBy files) root listed.rows listed.winners
       → HasSome (AreVersions files listed.rows listed.winners)
   some_versions root listed are =
       zip_some (HasVersion files listed.rows) listed.winners
-      (All-weaker (IsAnswered (AreChildren files) listed.rows) (λ place. HasSome (HasVersion files listed.rows place)) (some_version listed.rows) listed.winners
-      (all_answered (AreChildren files) listed.rows are.blocks))
+      (All-weaker (IsAnswered (ChildrenBy files) listed.rows) (λ place. HasSome (HasVersion files listed.rows place)) (some_version listed.rows) listed.winners
+      (all_answered (ChildrenBy files) listed.rows are.blocks))
 
-  pub some_together : (root : List Decl) (listed : Listed) → AreRows (AreChildren files) root listed.rows listed.winners → HasSome (LivesTogether files listed)
+  pub some_together : (root : List Decl) (listed : Listed) → AreRows (ChildrenBy files) root listed.rows listed.winners → HasSome (LivesTogether files listed)
   some_together root listed are =
       let versions = some_versions root listed are in
       let live = live_with listed versions.0 in

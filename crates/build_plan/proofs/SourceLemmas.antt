@@ -9,8 +9,8 @@ use Rattle.mx_base.specs.Order.{ArePathsInOrder, AreInOrder, paths_of, bytes_at}
 use Rattle.mx_base.specs.Path.{child_of, folder_text, path_from}
 use Rattle.mx_base.proofs.FolderLemmas.{after_is}
 use Rattle.mx_base.proofs.OrderLemmas.{in_order_without, in_order_behind}
-use Rattle.build_plan.specs.declared.found.Found.{Found}
-use Rattle.build_plan.specs.Found.{IsFound}
+use Rattle.path_children.specs.declared.found.Found.{Found}
+use Rattle.path_children.specs.Found.{IsFound}
 use Rattle.build_plan.specs.Jobs.{most_files}
 use Rattle.build_plan.specs.Sources.{source_at, sources_of, bytes_in}
 

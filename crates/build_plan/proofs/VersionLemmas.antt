@@ -1,24 +1,20 @@
 -- The versions of what was found.
-use Rattle.std.proofs.Common.{◌≡◌, ℕ, List, [], ◌∷◌, Option, Some, None, Ok, codes, refl, sym, ◌∙◌, subst, Bool, true, false, ◌&&◌, is_ok, IsTrue, length, take, get_or, suc, ap, ◌≤◌, ◌<◌, ◌+◌, ◌++◌}
+use Rattle.std.proofs.Common.{◌≡◌, ℕ, List, [], ◌∷◌, Option, Some, Ok, refl, sym, subst, length, take, ap, ◌≤◌}
 use Rattle.std.specs.Prelude.{IsSome, option_map}
 use Rattle.std.specs.List.{All, AllZip}
-use Rattle.std.specs.Str.{is_utf8, chars, IsUtf8}
-use lib.Utf8.{encode}
-use Rattle.std.proofs.lemmas.List.{take_all, take_more}
-use Rattle.project_file.specs.declared.project.Project.{Project}
-use Rattle.project_file.specs.Version.{is_version}
-use Rattle.project_file.proofs.VersionLemmas.{no_text}
+use Rattle.std.proofs.lemmas.List.{take_all}
 use Rattle.std.proofs.lemmas.List.Elements.{All-nil, All-cons, All-head, All-tail}
-use Rattle.semver.proofs.OnLiterals.{semver_on_literals}
 use Rattle.semver.specs.Identifiers.{parts_of}
 use Rattle.semver.specs.Parse.{version_parts}
 use Rattle.semver.specs.declared.Version.{Version}
 use Rattle.mx_base.specs.declared.file.File.{File}
 use Rattle.converger.specs.Divergence.{parts_in}
 use Rattle.dep_rows.specs.declared.row.Row.{Row}
-use Rattle.build_plan.specs.declared.found.Found.{Found}
-use Rattle.build_plan.specs.Dependencies.{AreVersions, version_by}
-use Rattle.build_plan.specs.Found.{IsFound, IsFoundAt}
+use Rattle.path_children.specs.declared.found.Found.{Found}
+use Rattle.path_children.specs.Dependencies.{version_by}
+use Rattle.path_children.specs.Found.{IsFound}
+use Rattle.build_plan.specs.Found.{IsFoundAt}
+use Rattle.build_plan.specs.Versions.{AreVersions}
 
 -- the version that the manifest says
 pub record IsVersionOf (found : Found) (version : Option Version) : Type 0 where
@@ -55,38 +51,5 @@ are_versions files rows (winner ∷ winners) (one ∷ found) (version ∷ versio
       are_versions files rows winners found versions are.1 (All-tail (IsFound files) one found told) at.1,
     )
 
-and_left : (a b : Bool) → (a && b) ≡ true → a ≡ true
-and_left true b both = refl
-and_left false b both = cc
-
--- a version is a text
-pub not_version : (text : List ℕ) → (IsUtf8 text → ⊥) → IsTrue (is_version text) → ⊥
-not_version text garbled is =
-    let clash : true ≡ false = sym (and_left (is_utf8 text) (is_ok (version_parts text)) is) ∙ no_text text garbled in cc
-
 pub all_versions : (found : List Found) (versions : List (Option Version)) (i : ℕ) → length found ≤ i → AllZip IsVersionOf (take i found) versions → AllZip IsVersionOf found versions
 all_versions found versions i past are = subst (λ (fs : List Found). AllZip IsVersionOf fs versions) (take_all i found past) are
-
-pub zip_more : {A B : Type 0} (R : A → B → Type 0) (xs : List A) (ys : List B) (i : ℕ) (d : A) (y : B) → i < length xs → AllZip R (take i xs) ys → R (get_or xs i d) y → AllZip R (take (i + 1) xs) (ys ++ y ∷ [])
-zip_more R xs ys i d y within so_far next = subst (λ (front : List _). AllZip R front (ys ++ y ∷ [])) (sym (take_more xs i d within)) (zip_push R (take i xs) ys (get_or xs i d) y so_far next)
-  where
-    zip_push : {A B : Type 0} (R : A → B → Type 0) (xs : List A) (ys : List B) (x : A) (y : B) → AllZip R xs ys → R x y → AllZip R (xs ++ x ∷ []) (ys ++ y ∷ [])
-    zip_push R [] [] x y so_far next = (next, so_far)
-    zip_push R [] (z ∷ zs) x y so_far next = absurd so_far
-    zip_push R (w ∷ ws) [] x y so_far next = absurd so_far
-    zip_push R (w ∷ ws) (z ∷ zs) x y so_far next = (so_far.0, zip_push R ws zs x y so_far.1 next)
-
-pub length_zip : {A B : Type 0} (R : A → B → Type 0) (xs : List A) (ys : List B) → AllZip R xs ys → length xs ≡ length ys
-length_zip R [] [] all = refl
-length_zip R [] (y ∷ ys) all = absurd all
-length_zip R (x ∷ xs) [] all = absurd all
-length_zip R (x ∷ xs) (y ∷ ys) all = ap suc (length_zip R xs ys all.1)
-
--- the version without a manifest
-pub no_version : IsTrue (is_version (codes "0.0.0"))
-unfolding semver_on_literals is_utf8 chars encode
-no_version = refl
-
-pub version_is : (project : Option Project) → IsTrue (is_version (version_by project))
-version_is None = no_version
-version_is (Some project) = project.versioned

@@ -15,7 +15,7 @@ use Rattle.dep_rows.specs.declared.row.Row.{Row}
 use Rattle.project_file.specs.declared.project.Project.{Project}
 use Rattle.project_file.specs.declared.settings.Settings.{Settings}
 use Rattle.project_file.specs.Files.{IsLoaded, manager_by_files}
-use Rattle.build_plan.specs.Dependencies.{version_by}
+use Rattle.path_children.specs.Dependencies.{version_by}
 use Rattle.build_plan.specs.Needs.{graph_of, apps_of}
 use Rattle.build_plan.specs.Options.{options_text}
 use Rattle.build_plan.specs.Sources.{sources_of, bytes_in}

@@ -1,9 +1,7 @@
 pub mod Blame
-pub mod ChildLaws
-pub mod Dependencies
+pub mod Children
 pub mod Found
 pub mod Jobs
-pub mod Kept
 pub mod Lines
 pub mod Needs
 pub mod Options
@@ -14,3 +12,4 @@ pub mod Said
 pub mod Scenes
 pub mod Sources
 pub mod Stages
+pub mod Versions

@@ -21,14 +21,17 @@ use Rattle.project_file.specs.Files.{IsLoaded, AreSettings, manifest_at}
 use Rattle.build_plan.specs.declared.error.DivergedLine.{DivergedLine}
 use Rattle.build_plan.specs.declared.error.PlanError.{PlanError}
 use Rattle.build_plan.specs.declared.error.PlanError.TheVariants as refused
-use Rattle.build_plan.specs.Dependencies.{AreChildren, AreVersions}
+use Rattle.path_children.specs.declared.error.ChildError.{ChildError}
+use Rattle.build_plan.specs.Children.{ChildrenBy}
+use Rattle.build_plan.specs.Refusals.{of_child}
+use Rattle.build_plan.specs.Versions.{AreVersions}
 use Rattle.build_plan.specs.Jobs.{Schedule, AreFirstJobs, AllFit, is_too_large}
 use Rattle.build_plan.specs.Lines.{AreLines}
 use Rattle.build_plan.specs.Needs.{graph_of, apps_of}
 
 -- the rows of these root declarations, within the limit, with the versions of their winners
 pub record AreListed (files : List File) (root : List Decl) (listed : Listed) (versions : List (Option Parts)) : Type 0 where
-  pub rows : AreRows (AreChildren files) root listed.rows listed.winners
+  pub rows : AreRows (ChildrenBy files) root listed.rows listed.winners
   pub few : length listed.rows ≤ most_rows
   pub known : AreVersions files listed.rows listed.winners versions
 
@@ -59,9 +62,9 @@ pub record IsSchedule (files : List File) (root : List Decl) (build : Build) (sc
 -- all divergences, a cycle, and the first app past a limit; else the jobs in converged order
 pub data IsPlanOf (files : List File) (root : List Decl) (build : Build) : Result (List Job) PlanError → Type 0 where
   settings : {error : SettingsError} → AreSettings files (Err error) → IsPlanOf files root build (Err (refused.Settings error))
-  dependency : (settings : Settings) {error : PlanError} → AreSettings files (Ok settings) → Meets (AreChildren files) root error
-      → IsPlanOf files root build (Err error)
-  too_many : (settings : Settings) → AreSettings files (Ok settings) → PassesLimit (AreChildren files) root
+  dependency : (settings : Settings) {error : ChildError (List ℕ)} → AreSettings files (Ok settings) → Meets (ChildrenBy files) root error
+      → IsPlanOf files root build (Err (of_child error))
+  too_many : (settings : Settings) → AreSettings files (Ok settings) → PassesLimit (ChildrenBy files) root
       → IsPlanOf files root build (Err refused.TooManyRows)
   diverged : (settings : Settings) (listed : Listed) (versions : List (Option Parts)) (divergences : List Divergence) {lines : List DivergedLine}
       → AreSettings files (Ok settings) → AreListed files root listed versions → AreDivergences listed.rows listed.winners versions divergences

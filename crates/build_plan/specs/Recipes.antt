@@ -9,7 +9,7 @@ use Rattle.project_file.specs.declared.settings.Settings.{Settings}
 use Rattle.project_file.specs.Files.{manager_by_files}
 use Rattle.build_plan.specs.declared.post.Post.{Post}
 use Rattle.build_plan.specs.declared.recipe.Recipe.{Recipe}
-use Rattle.build_plan.specs.Dependencies.{version_by}
+use Rattle.path_children.specs.Dependencies.{version_by}
 use Rattle.build_plan.specs.Jobs.{Schedule, manager_or}
 use Rattle.build_plan.specs.Options.{options_text}
 

@@ -1,7 +1,8 @@
 -- How it is said why a project has no plan.
 use Rattle.std.specs.Prelude.{ℕ, List, [], ◌∷◌, ◌++◌, map, flat_map, Option, Some, None, codes, decimal}
 use Rattle.mx_base.specs.Layout.{settings_name}
-use Rattle.project_file.specs.Said.{manifest_said, settings_said}
+use Rattle.project_file.specs.Said.{settings_said}
+use Rattle.path_children.specs.Said.{manifest_at_said, missing_said}
 use Rattle.converger.specs.declared.divergence.Rule.{Rule}
 use Rattle.converger.specs.Said.{rule_said}
 use Rattle.build_plan.specs.declared.error.DivergedLine.{DivergedLine}
@@ -33,8 +34,8 @@ abbrev pub texts_said : PlanError → List (List ℕ)
 texts_said plan.Read = codes "read fault" ∷ []
 texts_said (plan.Settings fault) = (settings_name ++ codes ": " ++ settings_said fault) ∷ []
 texts_said plan.NoProject = codes "no project" ∷ []
-texts_said (plan.Project path fault) = (path ++ codes ": " ++ manifest_said fault) ∷ []
-texts_said (plan.PathMissing app dir) = (codes "path missing: " ++ app ++ codes " " ++ dir) ∷ []
+texts_said (plan.Project path fault) = manifest_at_said path fault ∷ []
+texts_said (plan.PathMissing app dir) = missing_said app dir ∷ []
 texts_said (plan.NotLocked app) = (codes "not locked: " ++ app) ∷ []
 texts_said plan.TooManyRows = codes "too many rows" ∷ []
 texts_said (plan.Diverged lines) = map diverged_said lines

@@ -15,13 +15,14 @@ use Rattle.dep_rows.specs.Listed.{Listed}
 use Rattle.dep_rows.specs.Rows.{AreWinners, IsWinner}
 use Rattle.build_plan.specs.declared.error.PlanError.{PlanError}
 use Rattle.build_plan.specs.declared.error.PlanError.TheVariants.{TooLarge}
-use Rattle.build_plan.specs.declared.found.Found.{Found}
+use Rattle.path_children.specs.declared.found.Found.{Found}
 use Rattle.build_plan.specs.declared.opening.Opening.{Opening}
 use Rattle.build_plan.specs.declared.post.Post.{Post}
 use Rattle.build_plan.specs.declared.recipe.Recipe.{Recipe}
 use Rattle.build_plan.specs.declared.scene.Needs.{Needs}
-use Rattle.build_plan.specs.Dependencies.{version_by}
-use Rattle.build_plan.specs.Found.{IsFoundAt, IsSound}
+use Rattle.path_children.specs.Dependencies.{version_by}
+use Rattle.build_plan.specs.Found.{IsFoundAt}
+use Rattle.path_children.specs.Found.{IsSound}
 use Rattle.build_plan.specs.Jobs.{Schedule, StandsAt, IsJobAt, places_in, most_bytes, most_files}
 use Rattle.build_plan.specs.Needs.{graph_of, apps_of}
 use Rattle.build_plan.specs.Options.{options_text}

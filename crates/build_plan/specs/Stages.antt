@@ -19,7 +19,10 @@ use Rattle.project_file.specs.Files.{IsLoaded, AreSettings, manifest_at}
 use Rattle.build_plan.specs.declared.error.DivergedLine.{DivergedLine}
 use Rattle.build_plan.specs.declared.error.PlanError.{PlanError}
 use Rattle.build_plan.specs.declared.error.PlanError.TheVariants as refused
-use Rattle.build_plan.specs.Dependencies.{AreChildren, AreVersions}
+use Rattle.path_children.specs.declared.error.ChildError.{ChildError}
+use Rattle.build_plan.specs.Children.{ChildrenBy}
+use Rattle.build_plan.specs.Refusals.{of_child}
+use Rattle.build_plan.specs.Versions.{AreVersions}
 use Rattle.build_plan.specs.Jobs.{Schedule, AreFirstJobs, AllFit, is_too_large}
 use Rattle.build_plan.specs.Lines.{AreLines}
 use Rattle.build_plan.specs.Needs.{graph_of, apps_of}
@@ -39,9 +42,9 @@ HasRoot files (Err error) = ⊥
 
 -- the rows of a root and their winners
 pub data ListsRows (files : List File) (root : List Decl) : Result Listed PlanError → Type 0 where
-  meets : {error : PlanError} → Meets (AreChildren files) root error → ListsRows files root (Err error)
-  passes : PassesLimit (AreChildren files) root → ListsRows files root (Err refused.TooManyRows)
-  lists : (listed : Listed) → AreRows (AreChildren files) root listed.rows listed.winners → length listed.rows ≤ most_rows → ListsRows files root (Ok listed)
+  meets : {error : ChildError (List ℕ)} → Meets (ChildrenBy files) root error → ListsRows files root (Err (of_child error))
+  passes : PassesLimit (ChildrenBy files) root → ListsRows files root (Err refused.TooManyRows)
+  lists : (listed : Listed) → AreRows (ChildrenBy files) root listed.rows listed.winners → length listed.rows ≤ most_rows → ListsRows files root (Ok listed)
 
 -- rows with these versions live together, or there is a line of each divergence
 pub data LiveWith (listed : Listed) (versions : List (Option Parts)) : Result Listed PlanError → Type 0 where

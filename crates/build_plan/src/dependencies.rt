@@ -1,21 +1,20 @@
 // All declarations of a project, and what is found in the folders of its dependencies.
-ghost use Rattle.std.specs.Prelude.{◌≡◌, IfOk};
-ghost use Rattle.std.specs.List.{All, AllZip};
-ghost use Rattle.mx_base.specs.Blame.{AnswersBy, fails};
+ghost use Rattle.std.specs.Prelude.{◌<◌, IfOk, IsFalse, length};
+ghost use Rattle.std.specs.List.{All};
+ghost use Rattle.mx_base.specs.Blame.{Answers, AnswersBy, fails};
 ghost use Rattle.tree_store.specs.Known.{Told, OnlyReads};
+ghost use Rattle.path_children.specs.Found.{AreFoundFor as AreAllFoundFor, IsFound};
 ghost use Rattle.build_plan.specs.Blame.{blame_of};
-ghost use Rattle.build_plan.specs.Found.{AreFoundFor, IsFound, IsFoundAt};
-ghost use Rattle.build_plan.specs.Kept.{AreKept, FindsAll};
+ghost use Rattle.build_plan.specs.Found.{AreFoundFor, AreFolders, IsFolderOf, StandsAs};
 ghost use Rattle.build_plan.specs.Stages.{ListsRows};
 
 use crate::error::PlanError;
-use crate::found::Found;
-use crate::manifests::Manifests;
+use crate::unlocked::Unlocked;
 use dep_options::Decl;
-use dep_rows::{Rows, Tally, rows};
+use dep_rows::{Row, Rows};
+use path_children::{Found, take_stock};
 use project_file::one_project;
 use std::alloc::Global;
-use std::collections::BTreeMap;
 use tree_store::Store;
 
 /// The declarations of a project, and what is found in the folders of the winners, in their order.
@@ -38,56 +37,50 @@ pub(crate) fn dependencies<S: Store>(
         all.found.items) }
     ensures reads { OnlyReads (S.known store.old) (S.known store.new) (fails blame_of result) }
 {
-    let mut found = BTreeMap::new(alloc);
-    let mut manifests = Manifests {
-        store,
-        found: &mut found,
-        tally: Tally::none(),
-    };
-    take_stock(alloc, &mut manifests, root)
-}
-
-/// Reads what the dependencies of a root declare, over manifests that are kept.
-fn take_stock<S: Store>(
-    alloc: Global,
-    manifests: &mut Manifests<'_, S>,
-    root: &[Decl],
-) -> Result<Inventory, PlanError>
-    requires { AreKept (S.known manifests.old.store.now).sources manifests.old.found.now }
-    ensures answer { AnswersBy (λ all. all.rows) blame_of result
-        (Told (S.known manifests.old.store.now) (λ files. ListsRows files root.now)) }
-    ensures whole { IfOk result (λ all. AreFoundFor all.rows all.found.items) }
-    ensures found { IfOk result (λ all. Told (S.known manifests.old.store.now)
-        (λ files. All (IsFound files)) all.found.items) }
-    ensures same_reference { manifests.new.store.ghost_name ≡ manifests.old.store.ghost_name }
-    ensures reads { OnlyReads (S.known manifests.old.store.now) (S.known manifests.new.store.now)
-        (fails blame_of result) }
-{
     one_project();
-    let rows = rows(alloc, root, manifests)?;
-    let found = found_for(alloc, manifests, &rows)?;
-    Ok(Inventory { rows, found })
+    let stock = take_stock(alloc, store, &Unlocked, root)?;
+    let found = folders(alloc, &stock.rows, stock.found)?;
+    Ok(Inventory {
+        rows: stock.rows,
+        found,
+    })
 }
 
-/// What lies in the folders of the winners, in their order.
-fn found_for<S: Store>(
+/// What was found for the winners, all of which come from folders.
+fn folders(
     alloc: Global,
-    manifests: &mut Manifests<'_, S>,
     rows: &Rows,
+    found: Vec<Option<Found>>,
 ) -> Result<Vec<Found>, PlanError>
-    requires { AreKept (S.known manifests.old.store.now).sources manifests.old.found.now }
-    ensures answer { AnswersBy (λ all. all.items) blame_of result
-        (Told (S.known manifests.old.store.now) (λ files. FindsAll files rows.now)) }
-    ensures at { IfOk result (λ all. AllZip (IsFoundAt rows.now.rows) rows.now.winners all.items) }
-    ensures same_reference { manifests.new.store.ghost_name ≡ manifests.old.store.ghost_name }
-    ensures reads { OnlyReads (S.known manifests.old.store.now) (S.known manifests.new.store.now)
-        (fails blame_of result) }
+    requires { AreAllFoundFor rows.now found.items }
+    ensures answer { AnswersBy (λ all. all.items) blame_of result (AreFolders rows.now found.items) }
+    ensures alone { IsFalse (fails blame_of result) }
 {
-    let all = rows.rows();
-    let mut found = Vec::new(alloc);
-    for winner in rows.winners() {
-        let row = &all[*winner as usize];
-        found.push(manifests.take(alloc, &row.app, &row.decl)?)?;
+    let mut folders = Vec::new(alloc);
+    let mut at = 0;
+    for one in found {
+        folders.push(folder(winner_at(rows, at), one)?)?;
+        at += 1;
     }
-    Ok(found)
+    Ok(folders)
+}
+
+/// The row of a winner, by its place among the winners.
+fn winner_at(rows: &Rows, at: usize) -> &Row
+    requires { at < length rows.now.winners }
+    ensures { StandsAs rows.now at result.now }
+{
+    let place = rows.winners()[at];
+    &rows.rows()[place as usize]
+}
+
+/// What was found for a winner, which comes from a folder.
+fn folder(row: &Row, found: Option<Found>) -> Result<Found, PlanError>
+    ensures answer { Answers blame_of result (IsFolderOf row.now found) }
+    ensures alone { IsFalse (fails blame_of result) }
+{
+    match found {
+        Some(found) => Ok(found),
+        None => Err(PlanError::NotLocked(row.app.clone()?)),
+    }
 }

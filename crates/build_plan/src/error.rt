@@ -5,6 +5,7 @@ ghost use Rattle.build_plan.specs.Refusals.{of_project, of_settings};
 use converger::Rule;
 use dep_rows::RowsError;
 use mx_base::{AppName, ListOf, Names, RelPath};
+use path_children::{ChildError, FolderError};
 use project_file::{ProjectError, SettingsError};
 use std::alloc::{AllocError, AllocFailed};
 use tree_store::StoreFault;
@@ -91,15 +92,32 @@ impl From<StoreFault> for PlanError {
     }
 }
 
-impl From<RowsError<PlanError>> for PlanError {
+impl From<FolderError> for PlanError {
+    ghost use Rattle.std.specs.Prelude.{◌≡◌};
+    ghost use Rattle.build_plan.specs.Refusals.{of_folder};
+
+    ghost from_gives = { λ error e. e ≡ of_folder error };
+
+    fn from(error: FolderError) -> PlanError {
+        match error {
+            FolderError::Read => PlanError::Read,
+            FolderError::PathMissing { app, dir } => PlanError::PathMissing { app, dir },
+            FolderError::Project { path, fault } => PlanError::Project { path, fault },
+            FolderError::OutOfMemory => PlanError::OutOfMemory,
+        }
+    }
+}
+
+impl From<RowsError<ChildError<AppName>>> for PlanError {
     ghost use Rattle.std.specs.Prelude.{◌≡◌};
     ghost use Rattle.build_plan.specs.Refusals.{of_rows};
 
     ghost from_gives = { λ error e. e ≡ of_rows error };
 
-    fn from(error: RowsError<PlanError>) -> PlanError {
+    fn from(error: RowsError<ChildError<AppName>>) -> PlanError {
         match error {
-            RowsError::Children(error) => error,
+            RowsError::Children(ChildError::Folder(error)) => error.into(),
+            RowsError::Children(ChildError::Registry(app)) => PlanError::NotLocked(app),
             RowsError::TooManyRows => PlanError::TooManyRows,
             RowsError::OutOfMemory => PlanError::OutOfMemory,
         }

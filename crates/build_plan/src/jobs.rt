@@ -7,7 +7,7 @@ ghost use Rattle.compile_model.specs.Planned.{ArePlanned, most_jobs, most_sent, 
 ghost use Rattle.tree_store.specs.Blame.{blame_of as store_blame};
 ghost use Rattle.tree_store.specs.Known.{Told, OnlyReads};
 ghost use Rattle.build_plan.specs.Blame.{blame_of};
-ghost use Rattle.build_plan.specs.Found.{IsFound};
+ghost use Rattle.path_children.specs.Found.{IsFound};
 ghost use Rattle.build_plan.specs.Jobs.{AllFit, IsJobAt};
 ghost use Rattle.build_plan.specs.Scenes.{Fits, IsKnownAt, IsPost, Misses, MakesJob, job_from, job_of_parts};
 ghost use Rattle.build_plan.specs.Stages.{MakesJobs};

@@ -7,12 +7,10 @@
 
 mod dependencies;
 mod error;
-mod found;
 mod jobs;
 mod laws;
 mod limits;
 mod lines;
-mod manifests;
 mod needs;
 mod opening;
 mod options;
@@ -23,6 +21,7 @@ mod root;
 mod said;
 mod scene;
 mod sources;
+mod unlocked;
 mod versions;
 
 pub use error::{DivergedLine, DivergedLines, PlanError};

@@ -9,14 +9,15 @@ ghost use Rattle.tree_store.specs.Known.{Told, OnlyReads};
 ghost use Rattle.converger.specs.Divergence.{parts_in};
 ghost use Rattle.project_file.specs.Files.{AreSettings};
 ghost use Rattle.build_plan.specs.Blame.{blame_of};
-ghost use Rattle.build_plan.specs.Found.{AreFoundFor, IsFound};
+ghost use Rattle.build_plan.specs.Found.{AreFoundFor};
+ghost use Rattle.path_children.specs.Found.{IsFound};
 ghost use Rattle.build_plan.specs.Jobs.{AllFit};
 ghost use Rattle.build_plan.specs.Plan.{IsPlan, IsPlanOf, build_of};
 ghost use Rattle.build_plan.specs.Stages.{LiveWith, LivesTogether, MakesJobs, Schedules, Then};
 
 use crate::dependencies::dependencies;
 use crate::error::PlanError;
-use crate::found::Found;
+use path_children::Found;
 use crate::jobs::jobs;
 use crate::lines::lines;
 use crate::root::{root, settings};

@@ -1,6 +1,6 @@
 // What stands at a place of the order.
 
-use crate::found::Found;
+use path_children::Found;
 use dep_rows::Row;
 
 /// A winner, what was found in its folder, and all nodes that it reaches.

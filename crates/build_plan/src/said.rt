@@ -1,12 +1,14 @@
 // How it is said why a project has no plan.
 ghost use Rattle.std.specs.Prelude.{◌≡◌, ◌++◌, map, flat_map, OnOk, codes};
 ghost use Rattle.mx_base.specs.Layout.{settings_name};
-ghost use Rattle.project_file.specs.Said.{manifest_said, settings_said};
+ghost use Rattle.project_file.specs.Said.{settings_said};
+ghost use Rattle.path_children.specs.Said.{manifest_at_said, missing_said};
 ghost use Rattle.build_plan.specs.Said.{after_space, broken_said, by_said, diverged_said, line_of, lines_said, place_said};
 
 use crate::error::{DivergedLine, PlanError};
 use converger::Rule;
 use mx_base::{AppName, RelPath, SETTINGS, push_decimal};
+use path_children::{say_manifest, say_missing};
 use project_file::{ProjectError, SettingsError};
 use std::alloc::{AllocError, Global};
 
@@ -20,8 +22,8 @@ impl PlanError {
             PlanError::Read => say_line(before, text, b"read fault"),
             PlanError::Settings(fault) => say_settings(alloc, before, text, fault),
             PlanError::NoProject => say_line(before, text, b"no project"),
-            PlanError::Project { path, fault } => say_manifest(alloc, before, text, path, fault),
-            PlanError::PathMissing { app, dir } => say_missing(before, text, app, dir),
+            PlanError::Project { path, fault } => say_refused(alloc, before, text, path, fault),
+            PlanError::PathMissing { app, dir } => say_absent(before, text, app, dir),
             PlanError::NotLocked(app) => say_app(before, text, b"not locked: ", app),
             PlanError::TooManyRows => say_line(before, text, b"too many rows"),
             PlanError::Diverged(lines) => say_diverged(alloc, before, text, lines.as_slice()),
@@ -67,7 +69,7 @@ fn say_of_settings(
     fault.say(alloc, text)
 }
 
-fn say_manifest(
+fn say_refused(
     alloc: Global,
     before: &[u8],
     text: &mut Vec<u8>,
@@ -75,49 +77,25 @@ fn say_manifest(
     fault: &ProjectError,
 ) -> Result<(), AllocError>
     ensures { OnOk result (text.new.items ≡ text.old.items
-        ++ line_of before.now (path.now ++ codes ": " ++ manifest_said fault.now)) }
+        ++ line_of before.now (manifest_at_said path.now fault.now)) }
 {
     text.extend_from_slice(before)?;
-    say_of_manifest(alloc, text, path, fault)?;
+    say_manifest(alloc, text, path, fault)?;
     text.extend_from_slice(b"\n")
 }
 
-fn say_of_manifest(
-    alloc: Global,
-    text: &mut Vec<u8>,
-    path: &RelPath,
-    fault: &ProjectError,
-) -> Result<(), AllocError>
-    ensures { OnOk result (text.new.items ≡ text.old.items
-        ++ path.now ++ codes ": " ++ manifest_said fault.now) }
-{
-    text.extend_from_slice(path.as_str().as_bytes())?;
-    text.extend_from_slice(b": ")?;
-    fault.say(alloc, text)
-}
-
-fn say_missing(
+fn say_absent(
     before: &[u8],
     text: &mut Vec<u8>,
     app: &AppName,
     dir: &RelPath,
 ) -> Result<(), AllocError>
     ensures { OnOk result (text.new.items ≡ text.old.items
-        ++ line_of before.now (codes "path missing: " ++ app.now ++ codes " " ++ dir.now)) }
+        ++ line_of before.now (missing_said app.now dir.now)) }
 {
     text.extend_from_slice(before)?;
-    say_of_missing(text, app, dir)?;
+    say_missing(text, app, dir)?;
     text.extend_from_slice(b"\n")
-}
-
-fn say_of_missing(text: &mut Vec<u8>, app: &AppName, dir: &RelPath) -> Result<(), AllocError>
-    ensures { OnOk result (text.new.items ≡ text.old.items
-        ++ codes "path missing: " ++ app.now ++ codes " " ++ dir.now) }
-{
-    text.extend_from_slice(b"path missing: ")?;
-    text.extend_from_slice(app.as_str().as_bytes())?;
-    text.extend_from_slice(b" ")?;
-    text.extend_from_slice(dir.as_str().as_bytes())
 }
 
 // What is said of an app.

@@ -12,7 +12,7 @@ ghost use Rattle.build_plan.specs.Scenes.{IsOrdered, IsPost, StandsBefore};
 ghost use Rattle.build_plan.specs.Stages.{Schedules};
 
 use crate::error::PlanError;
-use crate::found::Found;
+use path_children::Found;
 use crate::needs::{apps_of, ordered_of};
 use crate::post::Post;
 use compile_model::Places;

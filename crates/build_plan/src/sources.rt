@@ -6,11 +6,12 @@ ghost use Rattle.mx_base.specs.Path.{child_of};
 ghost use Rattle.tree_store.specs.Blame.{blame_of};
 ghost use Rattle.mx_base.specs.Layout.{is_in_build};
 ghost use Rattle.tree_store.specs.Known.{OnlyReads};
-ghost use Rattle.build_plan.specs.Found.{AreSources, IsFound, IsSound};
+ghost use Rattle.build_plan.specs.Found.{AreSources};
+ghost use Rattle.path_children.specs.Found.{IsFound, IsSound};
 ghost use Rattle.build_plan.specs.Jobs.{most_files};
 ghost use Rattle.build_plan.specs.Sources.{bytes_in, is_source, source_at};
 
-use crate::found::Found;
+use path_children::Found;
 use mx_base::{Bytes, File, Files, LOCK, MANIFEST, RelPath};
 use std::alloc::Global;
 use tree_store::{Store, StoreFault};

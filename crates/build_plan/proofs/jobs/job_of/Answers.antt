@@ -1,6 +1,7 @@
 use Rattle.std.proofs.Common.{List, Option, Some, None, IfSome, subst}
 use Rattle.mx_base.specs.declared.file.File.{File}
-use Rattle.build_plan.specs.Found.{AreSources, IsFound}
+use Rattle.build_plan.specs.Found.{AreSources}
+use Rattle.path_children.specs.Found.{IsFound}
 use Rattle.build_plan.proofs.JobLemmas.{if_made, if_many, if_missed, known_made}
 use Rattle.build_plan.proofs.jobs.job_of.Goals as goal
 

@@ -7,7 +7,7 @@ use Rattle.build_plan.specs.Jobs.{IsJobAt}
 use Rattle.build_plan.specs.declared.opening.Opening.{Opening}
 use Rattle.build_plan.specs.Scenes.{MakesJob}
 use Rattle.build_plan.specs.Sources.{bytes_in}
-use Rattle.build_plan.proofs.ReadLemmas.{all_same}
+use Rattle.path_children.proofs.ReadLemmas.{all_same}
 use Rattle.build_plan.proofs.JobLemmas.{fit_more, if_jobs_more, if_makes, if_refuses_jobs, known_more, room_more, sent_more}
 use Rattle.build_plan.proofs.PlannedLemmas.{are_planned}
 use Rattle.build_plan.proofs.jobs.jobs.Goals as goal

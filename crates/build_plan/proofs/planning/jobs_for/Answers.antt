@@ -2,11 +2,11 @@ use Rattle.std.proofs.Common.{List, IfSome, All, sym, subst, Vec}
 use Rattle.std.proofs.lemmas.Result.{err_from_is_err_and}
 use Rattle.std.specs.declared.alloc.Global.{Global}
 use Rattle.compile_model.specs.declared.job.Job.{Job}
-use Rattle.build_plan.specs.declared.found.Found.{Found}
+use Rattle.path_children.specs.declared.found.Found.{Found}
 use Rattle.build_plan.specs.Blame.{blame_of}
-use Rattle.build_plan.specs.Found.{IsFound}
+use Rattle.path_children.specs.Found.{IsFound}
 use Rattle.build_plan.specs.Stages.{MakesJobs, Schedules, Then}
-use Rattle.build_plan.proofs.ReadLemmas.{answers_by_as}
+use Rattle.path_children.proofs.ReadLemmas.{answers_by_as}
 use Rattle.build_plan.proofs.SceneLemmas.{if_goes_on, if_stops}
 use Rattle.build_plan.proofs.planning.jobs_for.Goals as goal
 

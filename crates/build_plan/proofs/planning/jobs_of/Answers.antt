@@ -4,14 +4,14 @@ use Rattle.mx_base.specs.declared.file.File.{File}
 use Rattle.std.specs.declared.alloc.Global.{Global}
 use Rattle.compile_model.specs.declared.job.Job.{Job}
 use Rattle.dep_rows.specs.Listed.{Listed}
-use Rattle.build_plan.specs.declared.found.Found.{Found}
+use Rattle.path_children.specs.declared.found.Found.{Found}
 use Rattle.build_plan.specs.Blame.{blame_of}
-use Rattle.build_plan.specs.Found.{IsFound}
+use Rattle.path_children.specs.Found.{IsFound}
 use Rattle.project_file.specs.Files.{AreSettings}
 use Rattle.build_plan.specs.Plan.{IsPlanOf, build_of}
 use Rattle.build_plan.specs.Stages.{MakesJobs, Schedules, Then}
 use Rattle.build_plan.proofs.PlanLemmas.{if_rows_refused, if_diverged, if_jobs}
-use Rattle.build_plan.proofs.ReadLemmas.{answers_by_as, same_sources}
+use Rattle.path_children.proofs.ReadLemmas.{answers_by_as, same_sources}
 use Rattle.build_plan.proofs.planning.jobs_of.Goals as goal
 
 pub returns-in_err-all-clause-answer : goal.returns-in_err-all-clause-answer

@@ -8,7 +8,7 @@ use Rattle.build_plan.specs.Blame.{blame_of}
 use Rattle.build_plan.specs.Plan.{IsPlan, IsPlanOf, build_of}
 use Rattle.build_plan.specs.Stages.{HasRoot}
 use Rattle.build_plan.proofs.PlanLemmas.{if_settings_refused, if_root_refused, if_root}
-use Rattle.build_plan.proofs.ReadLemmas.{answers_by_as, read_before, same_sources}
+use Rattle.path_children.proofs.ReadLemmas.{answers_by_as, read_before, same_sources}
 use Rattle.build_plan.proofs.planning.plan.Goals as goal
 
 pub returns-in_err-settings-clause-answer : goal.returns-in_err-settings-clause-answer

@@ -6,7 +6,7 @@ use Rattle.project_file.specs.Files.{AreSettings}
 use Rattle.build_plan.specs.Blame.{blame_of}
 use Rattle.build_plan.specs.Plan.{IsPlanOf, build_of}
 use Rattle.build_plan.proofs.PlanLemmas.{if_settings_refused_of, if_set}
-use Rattle.build_plan.proofs.ReadLemmas.{answers_by_as, same_sources}
+use Rattle.path_children.proofs.ReadLemmas.{answers_by_as, same_sources}
 use Rattle.build_plan.proofs.planning.plan_of.Goals as goal
 
 pub returns-in_err-settings-clause-answer : goal.returns-in_err-settings-clause-answer

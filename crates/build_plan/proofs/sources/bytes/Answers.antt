@@ -1,7 +1,7 @@
 use Rattle.std.proofs.Common.{◌≡◌, ℕ, List, Option, IfSome, codes, sym, subst}
 use Rattle.mx_base.specs.Order.{bytes_at}
 use Rattle.dep_options.proofs.Copies.{same_option}
-use Rattle.build_plan.specs.Found.{IsFound}
+use Rattle.path_children.specs.Found.{IsFound}
 use Rattle.build_plan.proofs.SourceLemmas.{manifest_told, same_bytes}
 use Rattle.build_plan.proofs.sources.bytes.Goals as goal
 

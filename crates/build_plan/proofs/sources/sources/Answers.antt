@@ -5,10 +5,10 @@ use Rattle.mx_base.specs.declared.file.File.{File}
 use Rattle.mx_base.specs.Order.{ArePathsInOrder}
 use Rattle.mx_base.specs.Path.{folder_text}
 use Rattle.tree_store.specs.Known.{Known}
-use Rattle.build_plan.specs.Found.{IsFound}
+use Rattle.path_children.specs.Found.{IsFound}
 use Rattle.build_plan.specs.Jobs.{most_files}
 use Rattle.build_plan.specs.Sources.{bytes_in, source_at, sources_of}
-use Rattle.build_plan.proofs.ReadLemmas.{all_same}
+use Rattle.path_children.proofs.ReadLemmas.{all_same}
 use Rattle.build_plan.proofs.SourceLemmas.{GoesOn, behind, bytes-push, found_list, goes_on, goes_to_end, order_end, order_step, passes}
 use Rattle.build_plan.proofs.sources.sources.Goals as goal
 use Rattle.build_plan.proofs.sources.sources.Goals.{then-len-eq-MOST_FILES-via-then-len-eq-MOST_FILES, then-len-eq-MOST_FILES-via-else-len-eq-MOST_FILES+then-size-left, in-Some+else-len-eq-MOST_FILES+else-size-left+in_ok-push, in_default}

@@ -1,5 +1,0 @@
-use Rattle.build_plan.proofs.VersionLemmas.{version_is}
-use Rattle.build_plan.proofs.found.Found.version.Goals as goal
-
-pub returns-in-None-clause-is : goal.returns-in-None-clause-is
-returns-in-None-clause-is c = version_is c.args.self.now.project

@@ -1,6 +1,0 @@
-use Rattle.std.proofs.Common.{◌≡◌, take, filter}
-use Rattle.converger.specs.Reach.{admits}
-use Rattle.build_plan.proofs.found.admitted.Given as goal
-
-abbrev pub invariant-loop-decl : goal.invariant-loop-decl
-invariant-loop-decl l = l.admitted.items ≡ filter (λ decl. admits decl.only l.env) (take l.decl-index l.decls)
