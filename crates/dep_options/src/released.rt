@@ -13,14 +13,14 @@ use version_req::Requirement;
 pub fn decl_of_release(
     alloc: Global,
     app: AppName,
-    package: AppName,
+    name: AppName,
     requirement: Requirement,
     optional: bool,
 ) -> Result<Decl, AllocError>
-    ensures { IfOk result (λ decl. decl ≡ decl_of_release app package requirement optional) }
+    ensures { IfOk result (λ decl. decl ≡ decl_of_release app name requirement optional) }
 {
     let mut decl = declared(alloc, &RelPath::root(alloc), app, Some(requirement), &[])?;
     decl.optional = optional;
-    decl.source = DepSource::Hex { package };
+    decl.source = DepSource::Hex { package: name };
     Ok(decl)
 }

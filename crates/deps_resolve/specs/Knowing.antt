@@ -10,7 +10,7 @@ use Rattle.hex_registry.specs.Shelves.{demands_of, offer_at, release_at}
 use Rattle.hex_registry.specs.declared.offer.Demand.{Demand}
 use Rattle.hex_registry.specs.declared.offer.Offer.{Offer}
 use Rattle.hex_registry.specs.declared.shelf.Shelf.{Shelf}
-use Rattle.path_children.specs.Dependencies.{Evidence}
+use Rattle.path_children.specs.Dependencies.{Declared, Evidence}
 use Rattle.deps_resolve.specs.declared.error.Never.{Never}
 use Rattle.deps_resolve.specs.declared.knowing.Knowing.{Knowing}
 use Rattle.deps_resolve.specs.declared.knowing.Knowing.TheVariants.{Nothing, Picks}
@@ -45,9 +45,12 @@ abbrev pub children_of : Option Choice → List ℕ → List Decl
 children_of None name = []
 children_of (Some choice) name = map declared_as (demands_of (offer_of choice name))
 
+abbrev pub releases_declare : Option Choice → Declared Never
+releases_declare choice app name answer = answer ≡ Ok (children_of choice name)
+
 -- what is known of all dependencies
-abbrev pub evidence : List File → Option Choice → Evidence Never
-evidence files choice = record { files = files; registry = λ app name. Ok (children_of choice name) }
+abbrev pub evidence : List File → Option Choice → Evidence (Option Choice)
+evidence files choice = record { files = files; registry = choice }
 
 -- what of the registry is known
 abbrev pub known_by : Knowing → Option Choice

@@ -30,7 +30,7 @@ use Rattle.deps_resolve.specs.declared.error.GetError.TheVariants as refused
 use Rattle.deps_resolve.specs.declared.taken.Taken.{Taken}
 use Rattle.deps_resolve.specs.declared.resolve.Resolved.{Resolved}
 use Rattle.deps_resolve.specs.declared.resolve.Wanting.{Wanting}
-use Rattle.deps_resolve.specs.Knowing.{Choice, evidence}
+use Rattle.deps_resolve.specs.Knowing.{Choice, evidence, releases_declare}
 use Rattle.deps_resolve.specs.Refusals.{of_folder}
 use Rattle.deps_resolve.specs.Taken.{takes}
 use Rattle.deps_resolve.specs.Versions.{AreVersions}
@@ -51,9 +51,9 @@ IsOldLock files answer = SaysOld (bytes_at lock_name files) answer
 
 -- the rows of a root where this is known of the registry, or why there are none
 pub data HasRows (files : List File) (choice : Option Choice) (root : List Decl) : Result Listed GetError → Type 0 where
-  meets : {error : FolderError} → Meets (AreChildren (evidence files choice)) root (Folder error) → HasRows files choice root (Err (of_folder error))
-  passes : PassesLimit (AreChildren (evidence files choice)) root → HasRows files choice root (Err refused.TooManyRows)
-  lists : {listed : Listed} → AreRows (AreChildren (evidence files choice)) root listed.rows listed.winners → length listed.rows ≤ most_rows
+  meets : {error : FolderError} → Meets (AreChildren releases_declare (evidence files choice)) root (Folder error) → HasRows files choice root (Err (of_folder error))
+  passes : PassesLimit (AreChildren releases_declare (evidence files choice)) root → HasRows files choice root (Err refused.TooManyRows)
+  lists : {listed : Listed} → AreRows (AreChildren releases_declare (evidence files choice)) root listed.rows listed.winners → length listed.rows ≤ most_rows
       → HasRows files choice root (Ok listed)
 
 -- the old lock, and what is wanted of the registry

@@ -1,9 +1,7 @@
 // What releases declare in turn, by what was picked.
-ghost use Rattle.std.specs.Prelude.{◌≡◌, ℕ, List, IfOk, IfSome, IsTrue, map, option_map};
+ghost use Rattle.std.specs.Prelude.{◌≡◌, ℕ, List, Some, IfOk, IfSome, IsTrue, map, option_map};
 ghost use Rattle.hex_registry.specs.Candidates.{is_usable_in};
 ghost use Rattle.hex_registry.specs.Offers.{IsOffer};
-ghost use Rattle.hex_registry.specs.Shelves.{demands_of};
-ghost use Rattle.std.specs.Prelude.{Some, Ok};
 ghost use Rattle.deps_resolve.specs.Knowing.{children_of, declared_as, known_by, offer_of, release_of};
 
 use crate::error::Never;
@@ -26,31 +24,38 @@ pub(crate) enum Knowing<'a> {
 }
 
 impl path_children::Registry for Knowing<'_> {
-    ghost use Rattle.std.specs.Prelude.{Ok};
-    ghost use Rattle.deps_resolve.specs.Knowing.{children_of, known_by};
+    ghost use Rattle.std.specs.Prelude.{Option};
+    ghost use Rattle.std.proofs.Common.{sym, ◌∙◌};
+    ghost use Rattle.deps_resolve.specs.Knowing.{Choice, known_by, releases_declare};
 
     type Refusal = Never;
 
-    ghost declared = { λ knowing app name. Ok (children_of (known_by knowing) name) };
+    ghost Known = { Option Choice };
+
+    ghost declared = { releases_declare };
+
+    ghost known = { known_by };
+
+    ghost one = { λ known app name answer other is also. is ∙ sym also };
 
     fn children(
         &self,
         alloc: Global,
         _app: &AppName,
-        package: &AppName,
+        name: &AppName,
     ) -> Result<Vec<Decl>, ChildError<Never>> {
-        Ok(self.declares(alloc, package)?)
+        Ok(self.declares(alloc, name)?)
     }
 }
 
 impl<'a> Knowing<'a> {
     /// What an app that comes from a package declares in turn.
-    fn declares(&self, alloc: Global, package: &AppName) -> Result<Vec<Decl>, AllocError>
-        ensures { IfOk result (λ decls. decls.items ≡ children_of (known_by self.now) package.now) }
+    fn declares(&self, alloc: Global, name: &AppName) -> Result<Vec<Decl>, AllocError>
+        ensures { IfOk result (λ decls. decls.items ≡ children_of (known_by self.now) name.now) }
     {
         match self {
             Knowing::Nothing => Ok(Vec::new(alloc)),
-            Knowing::Picks { registry, pick } => match released(*registry, *pick, package) {
+            Knowing::Picks { registry, pick } => match released(*registry, *pick, name) {
                 Some(found) => declared_as(alloc, found.offer.demands()),
                 None => Ok(Vec::new(alloc)),
             },
@@ -62,18 +67,18 @@ impl<'a> Knowing<'a> {
 pub(crate) fn released<'a>(
     registry: &'a Registry,
     pick: &Pick,
-    package: &AppName,
+    name: &AppName,
 ) -> Option<Released<'a>>
     ensures release { option_map (λ found. found.release.now) result
-        ≡ release_of (record { shelves = registry.now; pick = pick.now }) package.now }
+        ≡ release_of (record { shelves = registry.now; pick = pick.now }) name.now }
     ensures offer { option_map (λ found. found.offer.now) result
-        ≡ offer_of (record { shelves = registry.now; pick = pick.now }) package.now }
+        ≡ offer_of (record { shelves = registry.now; pick = pick.now }) name.now }
     ensures offered { IfSome result (λ found. (repository : List ℕ)
         × IsOffer repository found.release.now found.offer.now) }
     ensures usable { IfSome result (λ found. IsTrue (is_usable_in (Some found.offer.now))) }
 {
-    let place = pick.place_of(package)?;
-    let found = registry.released(package, place)?;
+    let place = pick.place_of(name)?;
+    let found = registry.released(name, place)?;
     if found.offer.is_usable() {
         Some(found)
     } else {

@@ -68,7 +68,7 @@ pub fn resolve<S: Store>(
     ensures reads { OnlyReads (S.known store.old) (S.known store.new) (fails get_blame result) }
 {
     let Wanting { old, wants } = wants(alloc, store, root)?;
-    let chosen = chosen(alloc, store, &wants)?;
+    let chosen = choose(alloc, store, &wants)?;
     let taken = converged(alloc, store, root, &chosen)?;
     Ok(Resolved { old, taken })
 }
@@ -106,7 +106,7 @@ fn stock<S: Store>(
 }
 
 /// What is picked for wants, of the packages that they come to.
-fn chosen<S: Store>(alloc: Global, store: &mut S, wants: &Wants) -> Result<Chosen, GetError>
+fn choose<S: Store>(alloc: Global, store: &mut S, wants: &Wants) -> Result<Chosen, GetError>
     ensures answer { AnswersBy (λ chosen. record { shelves = chosen.registry; pick = chosen.pick })
         get_blame result (Told (S.known store.old) (λ files. Chooses files wants.now)) }
     ensures reads { OnlyReads (S.known store.old) (S.known store.new) (fails get_blame result) }

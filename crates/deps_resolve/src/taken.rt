@@ -72,31 +72,31 @@ fn taken_from(
 fn taken_as(
     alloc: Global,
     app: &AppName,
-    package: &AppName,
+    name: &AppName,
     found: Released<'_>,
 ) -> Result<Taken, AllocError>
     requires offered { (repository : List ℕ)
         × IsOffer repository found.release.now found.offer.now }
     requires usable { IsTrue (is_usable_in (Some found.offer.now)) }
-    ensures taken { IfOk result (λ taken. taken ≡ taken_as app.now package.now found.entry.release.now) }
+    ensures taken { IfOk result (λ taken. taken ≡ taken_as app.now name.now found.entry.release.now) }
     ensures sound { IfOk result IsSound }
 {
     // This call tells that the app has a name.
     let _ = app.as_str();
     Ok(Taken {
         app: app.clone()?,
-        home: home_of(alloc, package, &found.release.version)?,
-        entry: entry_of(alloc, package, found)?,
+        home: home_of(alloc, name, &found.release.version)?,
+        entry: entry_of(alloc, name, found)?,
     })
 }
 
 /// Where the registry has the files of a release.
-fn home_of(alloc: Global, package: &AppName, version: &Text) -> Result<RelPath, AllocError>
+fn home_of(alloc: Global, name: &AppName, version: &Text) -> Result<RelPath, AllocError>
     requires { IsTrue (is_version version.now) }
-    ensures home { IfOk result (λ home. home ≡ home_of package.now version.now) }
+    ensures home { IfOk result (λ home. home ≡ home_of name.now version.now) }
 {
     let registry = RelPath::root(alloc).child(alloc, REGISTRY)?;
-    let folder = registry.child(alloc, package.as_str())?;
+    let folder = registry.child(alloc, name.as_str())?;
     match str::from_utf8(version.as_slice()) {
         Ok(version) => folder.child(alloc, version),
         Err(_) => unreachable!(),
@@ -105,20 +105,20 @@ fn home_of(alloc: Global, package: &AppName, version: &Text) -> Result<RelPath, 
 
 fn entry_of(
     alloc: Global,
-    package: &AppName,
+    name: &AppName,
     found: Released<'_>,
 ) -> Result<HexEntry, AllocError>
     requires offered { (repository : List ℕ)
         × IsOffer repository found.release.now found.offer.now }
     requires usable { IsTrue (is_usable_in (Some found.offer.now)) }
-    ensures entry { IfOk result (λ entry. entry ≡ entry_of package.now found.entry.release.now) }
+    ensures entry { IfOk result (λ entry. entry ≡ entry_of name.now found.entry.release.now) }
     ensures sound { IfOk result IsHexEntry }
 {
     // This call tells that the package has a name.
-    let _ = package.as_str();
+    let _ = name.as_str();
     let release = found.release;
     Ok(HexEntry {
-        name: package.clone()?,
+        name: name.clone()?,
         version: copy_text(&release.version)?,
         inner: release.inner_checksum.clone()?,
         managers: Names::new(alloc),

@@ -67,13 +67,13 @@ fn version_at(
 fn release_version(
     registry: &Registry,
     pick: &Pick,
-    package: &AppName,
+    name: &AppName,
 ) -> Result<Option<Version>, AllocError>
     ensures { IfOk result (λ version. option_map parts_of version
         ≡ option_map (λ offer. parts_of offer.version)
-        (offer_of (record { shelves = registry.now; pick = pick.now }) package.now)) }
+        (offer_of (record { shelves = registry.now; pick = pick.now }) name.now)) }
 {
-    match released(registry, pick, package) {
+    match released(registry, pick, name) {
         Some(found) => Ok(Some(found.offer.version.clone()?)),
         None => Ok(None),
     }

@@ -1,0 +1,5 @@
+pub mod AltersLemmas
+pub mod BytesLemmas
+pub mod ContentLemmas
+pub mod FolderSteps
+pub mod RemoveLemmas
