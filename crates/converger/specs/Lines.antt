@@ -1,7 +1,11 @@
 -- What is said of divergences.
-use Rattle.std.specs.Prelude.{◌≡◌, ℕ, List, ◌++◌, Option, Some, None, option_map, option_and_then, slice_get, codes, decimal}
+use Rattle.std.specs.Prelude.{◌≡◌, ℕ, ◌<◌, List, length, ◌++◌, Option, Some, None, option_map, option_and_then, slice_get, codes, decimal}
 use Rattle.std.specs.List.{AllZip}
+use Rattle.semver.specs.Parse.{Parts}
 use Rattle.dep_rows.specs.declared.row.Row.{Row}
+use Rattle.dep_rows.specs.Listed.{Listed}
+use Rattle.converger.specs.Converged.{NoneDiverges}
+use Rattle.converger.specs.Divergence.{AreDivergences}
 use Rattle.converger.specs.declared.divergence.Divergence.{Divergence}
 use Rattle.converger.specs.declared.divergence.Rule.{Rule}
 use Rattle.converger.specs.declared.lines.DivergedLine.{DivergedLine}
@@ -29,6 +33,12 @@ pub record IsLine (rows : List Row) (divergence : Divergence) (line : DivergedLi
 -- one line for each divergence, in their order
 abbrev pub AreLines : List Row → List Divergence → List DivergedLine → Type 0
 AreLines rows divergences lines = AllZip (IsLine rows) divergences lines
+
+-- there is a line for each divergence, or no divergence
+abbrev pub SaysDiverged : Listed → List (Option Parts) → Option (List DivergedLine) → Type 0
+SaysDiverged listed versions None = NoneDiverges listed.rows listed.winners versions
+SaysDiverged listed versions (Some lines) =
+    (list : List Divergence) × AreDivergences listed.rows listed.winners versions list × (0 < length list) × AreLines listed.rows list lines
 
 -- who declares: an app, or the root
 abbrev pub by_said : Option (List ℕ) → List ℕ

@@ -1,11 +1,14 @@
 // What is said of divergences.
 ghost use Rattle.std.specs.Prelude.{◌≡◌, ◌<◌, ◌++◌, length, IfOk, OnOk};
 ghost use Rattle.std.specs.List.{All};
-ghost use Rattle.converger.specs.Lines.{AreLines, IsLine, app_at, broken_said, by_said, declarer, diverged_said, place_said};
+ghost use Rattle.converger.specs.Divergence.{parts_in};
+ghost use Rattle.converger.specs.Lines.{AreLines, IsLine, SaysDiverged, app_at, broken_said, by_said, declarer, diverged_said, place_said};
 
+use crate::converged::divergences;
 use crate::divergence::{Divergence, Rule};
-use dep_rows::Row;
+use dep_rows::{Row, Rows};
 use mx_base::{AppName, ListOf, push_decimal};
+use semver::Version;
 use std::alloc::{AllocError, Global};
 
 /// Where the two declarations of a divergence stand.
@@ -72,8 +75,26 @@ fn by_said(by: &Option<AppName>) -> &[u8]
     }
 }
 
+/// Where the declarations stand that can't live together with the winners of their apps; none where there are no
+/// such.
+pub fn diverged_lines(
+    alloc: Global,
+    rows: &Rows,
+    versions: &[Option<Version>],
+) -> Result<Option<DivergedLines>, AllocError>
+    requires { length versions.now ≡ length rows.now.winners }
+    ensures { IfOk result (SaysDiverged rows.now (parts_in versions.now)) }
+{
+    let list = divergences(alloc, rows, versions)?;
+    if list.as_slice().is_empty() {
+        return Ok(None);
+    }
+    let lines = lines_of(alloc, rows.rows(), list.as_slice())?;
+    Ok(Some(lines))
+}
+
 /// Where the two declarations of each divergence stand.
-pub fn lines_of(
+fn lines_of(
     alloc: Global,
     rows: &[Row],
     divergences: &[Divergence],

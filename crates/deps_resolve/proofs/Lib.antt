@@ -1,1 +1,2 @@
 pub mod VersionText
+pub mod ResolveLemmas

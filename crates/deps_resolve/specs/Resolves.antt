@@ -1,14 +1,11 @@
 -- Which releases the files of a project come to, or the first refusal.
-use Rattle.std.specs.Prelude.{◌≡◌, ℕ, ◌<◌, ◌≤◌, List, [], length, Option, Some, None, Result, Ok, Err, IfOk}
+use Rattle.std.specs.Prelude.{◌≡◌, ℕ, ◌≤◌, List, [], length, Option, Some, None, Result, Ok, Err}
 use Rattle.semver.specs.Parse.{Parts}
 use Rattle.mx_base.specs.declared.file.File.{File}
 use Rattle.mx_base.specs.Layout.{lock_name}
 use Rattle.mx_base.specs.Order.{bytes_at}
-use Rattle.converger.specs.Converged.{NoneDiverges}
-use Rattle.converger.specs.declared.divergence.Divergence.{Divergence}
 use Rattle.converger.specs.declared.lines.DivergedLine.{DivergedLine}
-use Rattle.converger.specs.Divergence.{AreDivergences}
-use Rattle.converger.specs.Lines.{AreLines}
+use Rattle.converger.specs.Lines.{SaysDiverged}
 use Rattle.dep_options.specs.declared.decl.Decl.{Decl}
 use Rattle.dep_rows.specs.Listed.{Listed}
 use Rattle.dep_rows.specs.Rows.{AreRows, Meets, PassesLimit, most_rows}
@@ -79,18 +76,13 @@ pub data Chooses (files : List File) (wants : Wants) : Result Choice GetError �
   picks : {shelves : List Shelf} {pick : List Picked} → IsLoaded files wants (Ok shelves) → SaysPick shelves wants most_nodes (Ok pick)
       → Chooses files wants (Ok (record { shelves = shelves; pick = pick }))
 
--- rows with these versions live together, or there is a line of each divergence
-pub data LiveWith (listed : Listed) (versions : List (Option Parts)) {X : Type 0} : Result X GetError → Type 0 where
-  diverges : (divergences : List Divergence) {lines : List DivergedLine} → AreDivergences listed.rows listed.winners versions divergences
-      → 0 < length divergences → AreLines listed.rows divergences lines → LiveWith listed versions (Err (refused.Diverged lines))
-  lives : {x : X} → NoneDiverges listed.rows listed.winners versions → LiveWith listed versions (Ok x)
-
--- the rows that a choice leads to, which live together; else why there are none, or all divergences
+-- the rows that a choice leads to, which live together; else why there are none, or a line for each divergence
 pub data Converges (files : List File) (root : List Decl) (choice : Choice) : Result Listed GetError → Type 0 where
   no_rows : {error : GetError} → HasRows files (Some choice) root (Err error) → Converges files root choice (Err error)
-  judged : {answer : Result Listed GetError} (listed : Listed) (versions : List (Option Parts)) → HasRows files (Some choice) root (Ok listed)
-      → AreVersions files choice listed.rows listed.winners versions → LiveWith listed versions answer → IfOk answer (λ same. same ≡ listed)
-      → Converges files root choice answer
+  diverged : (listed : Listed) (versions : List (Option Parts)) {lines : List DivergedLine} → HasRows files (Some choice) root (Ok listed)
+      → AreVersions files choice listed.rows listed.winners versions → SaysDiverged listed versions (Some lines) → Converges files root choice (Err (refused.Diverged lines))
+  together : (listed : Listed) (versions : List (Option Parts)) → HasRows files (Some choice) root (Ok listed)
+      → AreVersions files choice listed.rows listed.winners versions → SaysDiverged listed versions None → Converges files root choice (Ok listed)
 
 -- the same, where the releases of the winners are wanted
 abbrev pub Takes : List File → List Decl → Choice → Result (List Taken) GetError → Type 0

@@ -1,13 +1,11 @@
 // Which releases a project's dependencies get.
-ghost use Rattle.std.specs.Prelude.{◌≡◌, List, Ok, IfOk, IsFalse, Some, length};
-ghost use Rattle.mx_base.specs.declared.file.File.{File};
+ghost use Rattle.std.specs.Prelude.{IfOk};
 ghost use Rattle.mx_base.specs.Blame.{Answers, AnswersBy, fails};
 ghost use Rattle.tree_store.specs.Known.{OnlyReads, Told};
-ghost use Rattle.converger.specs.Divergence.{parts_in};
 ghost use Rattle.path_children.specs.Found.{AreFound, AreFoundFor};
 ghost use Rattle.deps_resolve.specs.Blame.{get_blame};
 ghost use Rattle.deps_resolve.specs.Knowing.{known_by};
-ghost use Rattle.deps_resolve.specs.Resolves.{Chooses, HasRows, LiveWith, Resolves, Takes, Wanted, start_of};
+ghost use Rattle.deps_resolve.specs.Resolves.{Chooses, HasRows, Resolves, Takes, Wanted, start_of};
 ghost use Rattle.deps_resolve.specs.Taken.{AreSound};
 
 use crate::error::GetError;
@@ -16,14 +14,12 @@ use crate::old_lock::old_lock;
 use crate::taken::{Taken, takes};
 use crate::versions::versions;
 use crate::wants::wants_by;
-use converger::{divergences, lines_of};
+use converger::diverged_lines;
 use dep_options::Decl;
-use dep_rows::Rows;
 use hex_pick::pick;
 use hex_registry::{Pick, Registry, Wants};
 use mix_lock::Lock;
 use path_children::{Inventory, take_stock};
-use semver::Version;
 use std::alloc::Global;
 use tree_store::Store;
 
@@ -67,9 +63,10 @@ pub fn resolve<S: Store>(
     // Nothing is written.
     ensures reads { OnlyReads (S.known store.old) (S.known store.new) (fails get_blame result) }
 {
-    let Wanting { old, wants } = wants(alloc, store, root)?;
-    let chosen = choose(alloc, store, &wants)?;
+    let wanting = wants(alloc, store, root)?;
+    let chosen = choose(alloc, store, &wanting.wants)?;
     let taken = converged(alloc, store, root, &chosen)?;
+    let Wanting { old, wants: _ } = wanting;
     Ok(Resolved { old, taken })
 }
 
@@ -84,8 +81,8 @@ pub fn wants<S: Store>(alloc: Global, store: &mut S, root: &[Decl]) -> Result<Wa
     ensures reads { OnlyReads (S.known store.old) (S.known store.new) (fails get_blame result) }
 {
     let old = old_lock(alloc, store)?;
-    let Inventory { rows, found: _ } = stock(alloc, store, root, Knowing::Nothing)?;
-    let wants = wants_by(alloc, &rows, &old)?;
+    let all = stock(alloc, store, root, Knowing::Nothing)?;
+    let wants = wants_by(alloc, &all.rows, &old)?;
     Ok(Wanting { old, wants })
 }
 
@@ -132,19 +129,8 @@ fn converged<S: Store>(
     let pick = &chosen.pick;
     let all = stock(alloc, store, root, Knowing::Picks { registry, pick })?;
     let versions = versions(alloc, &all.rows, &all.found, registry, pick)?;
-    judge(alloc, &all.rows, versions.as_slice())?;
-    Ok(takes(alloc, &all.rows, registry, pick)?)
-}
-
-/// Refuses rows that can't live together.
-fn judge(alloc: Global, rows: &Rows, versions: &[Option<Version>]) -> Result<(), GetError>
-    requires { length versions.now ≡ length rows.now.winners }
-    ensures answer { Answers get_blame result (LiveWith rows.now (parts_in versions.now)) }
-    ensures alone { IsFalse (fails get_blame result) }
-{
-    let list = divergences(alloc, rows, versions)?;
-    if list.as_slice().is_empty() {
-        return Ok(());
+    if let Some(lines) = diverged_lines(alloc, &all.rows, versions.as_slice())? {
+        return Err(GetError::Diverged(lines));
     }
-    Err(GetError::Diverged(lines_of(alloc, rows.rows(), list.as_slice())?))
+    Ok(takes(alloc, &all.rows, registry, pick)?)
 }
