@@ -56,4 +56,3 @@ some_left list shown empty same is some =
     let differ : length shown ≡ 0 → ⊥ = eqb-false (length shown) 0 (sym is ∙ some) in
     let long : length shown ≡ length list = ap length same in
     omega (arith, differ, long)
-

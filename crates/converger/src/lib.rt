@@ -18,6 +18,6 @@ mod web;
 
 pub use converged::{ConvergeError, Converged, Versions, converge, divergences, for_env};
 pub use divergence::{Divergence, Divergences, Rule};
-pub use lines::{DivergedLine, DivergedLines, diverged_lines};
 pub use laws::{one_divergence_list, one_reach, some_divergence_list, some_reach};
+pub use lines::{DivergedLine, DivergedLines, diverged_lines};
 pub use reach::{admits, is_for};

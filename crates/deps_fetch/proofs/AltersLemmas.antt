@@ -71,3 +71,8 @@ ends_here {old = old} {now = now} stands alone more = record {
   where
     quietly : (before after : ℕ) → after ≡ before → Counted before after false
     quietly before after same = record { later = omega (arith, same); rose = λ e. cc; kept = λ e. same }
+
+-- nothing was begun
+pub nothing_done : {Y F : Type 0} {other : F → Blame} {M : Result Y F → List File → List File → Type 0} {answer : Result Y F} (old : Known) → fails other answer ≡ false
+    → ((files : List File) → M answer files files) → Alters other M old old answer
+nothing_done {M = M} {answer = answer} old alone holds = ends_here (at_first (λ files at. M answer files at) old holds) alone (λ files at is. is)

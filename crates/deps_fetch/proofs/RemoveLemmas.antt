@@ -51,9 +51,9 @@ module _ {X : Type 0} where
   put_err file error (Some files) n fault partly =
       elim partly [
         | inl some ↦ elim some [
-            | inl same ↦ (files, same, record { others = λ other differ. refl; fault = fault; there = tt })
-            | inr without ↦ (without_file file.path files, without, record { others = without_other file.path files; fault = fault; there = tt })
-          ]
+          | inl same ↦ (files, same, record { others = λ other differ. refl; fault = fault; there = tt })
+          | inr without ↦ (without_file file.path files, without, record { others = without_other file.path files; fault = fault; there = tt })
+        ]
         | inr cut ↦ (put_file (cut_at cut.0 file) files, cut.1, record { others = put_other (cut_at cut.0 file) files; fault = fault; there = tt })
       ]
 

@@ -1,7 +1,9 @@
 -- What the files of a project come to when its dependencies are fetched, or the first refusal.
-use Rattle.std.specs.Prelude.{◌≡◌, ℕ, List, [], map, Some, None, Result, Ok, Err}
+use Rattle.std.specs.Prelude.{◌≡◌, ℕ, List, [], map, Option, Some, None, Result, Ok, Err}
 use Rattle.std.specs.List.{All}
+use Rattle.semver.specs.Parse.{Parts}
 use Rattle.mx_base.specs.declared.file.File.{File}
+use Rattle.converger.specs.Converged.{NoneDiverges}
 use Rattle.dep_options.specs.declared.decl.Decl.{Decl}
 use Rattle.mix_lock.specs.Lock.{AppEntry}
 use Rattle.project_file.specs.declared.error.ProjectError.{ProjectError}
@@ -11,7 +13,8 @@ use Rattle.deps_resolve.specs.declared.error.GetError.{GetError}
 use Rattle.deps_resolve.specs.declared.error.GetError.TheVariants as refused
 use Rattle.deps_resolve.specs.declared.resolve.Resolved.{Resolved}
 use Rattle.deps_resolve.specs.declared.taken.Taken.{Taken}
-use Rattle.deps_resolve.specs.Resolves.{Resolves}
+use Rattle.deps_resolve.specs.Resolves.{Resolution, Resolves}
+use Rattle.deps_resolve.specs.Versions.{AreVersions}
 use Rattle.deps_fetch.specs.declared.fetched.FetchedApp.{FetchedApp}
 use Rattle.deps_fetch.specs.Checks.{IsFirstWrong, IsRight}
 use Rattle.deps_fetch.specs.NewLock.{IsNewLock, entry_for}
@@ -45,3 +48,20 @@ pub data IsGet (files : List File) : Result (List FetchedApp) GetError → Type 
   project : {fault : ProjectError} → IsLoaded files [] (Err fault) → IsGet files (Err (refused.Project (manifest_at []) fault))
   of_root : (root : Project) {answer : Result (List FetchedApp) GetError} → IsLoaded files [] (Ok (Some root)) → IsGetOf files root.decls answer
       → IsGet files answer
+
+-- the manifest of the root
+abbrev pub HasRoot : List File → Result Project GetError → Type 0
+HasRoot files (Ok root) = IsLoaded files [] (Ok (Some root))
+HasRoot files (Err refused.NoProject) = IsLoaded files [] (Ok None)
+HasRoot files (Err (refused.Project path fault)) = (path ≡ manifest_at []) × IsLoaded files [] (Err fault)
+HasRoot files (Err error) = ⊥
+
+-- each row that isn't ignored is met by the version of its winner, and by no rule two declarations can't live together
+pub record MeetsEveryRowOf (files : List File) (root : List Decl) : Type 0 where
+  pub found : Resolution files root
+  pub versions : List (Option Parts)
+  pub known : AreVersions files found.choice found.listed.rows found.listed.winners versions
+  pub none : NoneDiverges found.listed.rows found.listed.winners versions
+
+abbrev pub MeetsEveryRow : List File → Type 0
+MeetsEveryRow files = (root : Project) × IsLoaded files [] (Ok (Some root)) × MeetsEveryRowOf files root.decls

@@ -1,8 +1,6 @@
 -- What stands after dependencies were fetched, or not.
-use Rattle.std.specs.Prelude.{◌≡◌, ◌⊎◌, ℕ, List, [], ◌∷◌, ◌++◌, Option, Some, Result, Ok, Err, IfSome, IsTrue, IsFalse}
+use Rattle.std.specs.Prelude.{◌≡◌, ◌⊎◌, ℕ, List, [], ◌∷◌, ◌++◌, Some, Result, Ok, Err, IsTrue, IsFalse}
 use Rattle.std.specs.List.{All}
-use Rattle.mx_base.specs.Blame.{fails}
-use Rattle.mx_base.specs.Causes.{Counted}
 use Rattle.mx_base.specs.declared.file.File.{File}
 use Rattle.mx_base.specs.Layout.{lock_name}
 use Rattle.mx_base.specs.Order.{bytes_at}
@@ -10,9 +8,9 @@ use Rattle.mx_base.specs.Path.{child_of, is_below}
 use Rattle.mix_lock.specs.Lock.{AppEntry}
 use Rattle.mix_lock.specs.Text.{written}
 use Rattle.tree_store.specs.Files.{PutsPartly, put_file}
-use Rattle.tree_store.specs.Known.{Known}
 use Rattle.dep_options.specs.declared.decl.Decl.{Decl}
-use Rattle.deps_resolve.specs.Blame.{get_blame}
+use Rattle.project_file.specs.declared.project.Project.{Project}
+use Rattle.project_file.specs.Files.{IsLoaded}
 use Rattle.deps_resolve.specs.declared.error.GetError.{GetError}
 use Rattle.deps_resolve.specs.declared.error.GetError.TheVariants.{Write, OutOfMemory}
 use Rattle.deps_resolve.specs.declared.taken.Taken.{Taken}
@@ -50,23 +48,26 @@ pub data StopsAt (files now : List File) (got : Got) (path : List ℕ) : List (L
   at_lock : (before : List File) → path ≡ lock_name → AllFetched files before got → PutsPartly (lock_file got.lock) (Some before) (Some now)
       → StopsAt files now got path (apps_in got.taken)
 
--- some folders are new, in full or in part, and the lock is as before
-pub record IsPartly (files now : List File) (got : Got) : Type 0 where
-  pub done : List Taken
-  pub under : List Taken
-  pub later : List Taken
-  pub are : got.taken ≡ done ++ (under ++ later)
-  pub fetched : AreFetched files now done under
+-- memory ran out: some folders are new, in full or in part, and all else is as before; or all are new, and memory ran out in the
+-- write to the lock
+pub data RunsOut (files now : List File) (got : Got) : Type 0 where
+  in_folders : (done under later : List Taken) → got.taken ≡ done ++ (under ++ later) → AreFetched files now done under → RunsOut files now got
+  at_lock : (before : List File) → AllFetched files before got → PutsPartly (lock_file got.lock) (Some before) (Some now) → RunsOut files now got
 
--- what is left of the files
-abbrev pub Leaves : List File → List Decl → Result Fetched GetError → List File → Type 0
-Leaves files root (Ok fetched) now = (got : Got) × Gets files root got × ((before : List File) × AllFetched files before got × (now ≡ put_file (lock_file got.lock) before))
-Leaves files root (Err (Write path apps)) now = (got : Got) × Gets files root got × StopsAt files now got path apps
-Leaves files root (Err OutOfMemory) now = (now ≡ files) ⊎ ((got : Got) × Gets files root got × IsPartly files now got)
-Leaves files root (Err error) now = now ≡ files
+-- what is left of the files over these root declarations
+abbrev pub Leaves : List Decl → Result Fetched GetError → List File → List File → Type 0
+Leaves root (Ok fetched) files now = (got : Got) × Gets files root got × ((before : List File) × AllFetched files before got × (now ≡ put_file (lock_file got.lock) before))
+Leaves root (Err (Write path apps)) files now = (got : Got) × Gets files root got × StopsAt files now got path apps
+Leaves root (Err OutOfMemory) files now = (now ≡ files) ⊎ ((got : Got) × Gets files root got × RunsOut files now got)
+Leaves root (Err error) files now = now ≡ files
 
--- what the call does to a store: it leaves this of the files, where they are told, and counts its failures
-pub record Fetches (root : List Decl) (result : Result Fetched GetError) (old new : Known) : Type 0 where
-  pub left : IfSome old.sources (λ files. (now : List File) × (new.sources ≡ Some now) × Leaves files root result now)
-  pub rest : new ≡ record old { sources = new.sources; faults = new.faults }
-  pub cause : Counted old.faults new.faults (fails get_blame result)
+-- the answer is a refusal, and none of a write
+abbrev pub IsRefused : Result Fetched GetError → Type 0
+IsRefused (Ok fetched) = ⊥
+IsRefused (Err (Write path apps)) = ⊥
+IsRefused (Err error) = Unit {0}
+
+-- the same over the declarations of the root: nothing changes where that is refused
+pub data LeavesProject (result : Result Fetched GetError) (files now : List File) : Type 0 where
+  unread : IsRefused result → now ≡ files → LeavesProject result files now
+  of_root : (root : Project) → IsLoaded files [] (Ok (Some root)) → Leaves root.decls result files now → LeavesProject result files now

@@ -4,5 +4,6 @@ pub mod Gets
 pub mod Leaves
 pub mod NewLock
 pub mod Parcels
+pub mod Prepared
 pub mod Said
 pub mod Writing

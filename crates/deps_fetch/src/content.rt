@@ -65,11 +65,7 @@ fn file_at<S: Store>(
 }
 
 /// A path as it is seen from a folder, where it has a name there.
-fn named_from(
-    alloc: Global,
-    dir: &RelPath,
-    path: &RelPath,
-) -> Result<Option<RelPath>, AllocError>
+fn named_from(alloc: Global, dir: &RelPath, path: &RelPath) -> Result<Option<RelPath>, AllocError>
     ensures { IfOk result (λ rest. rest ≡ option_and_then if_named (path_from dir.now path.now)) }
 {
     match path.from_folder(alloc, dir)? {

@@ -1,10 +1,15 @@
 // Fetching the dependencies of a project.
-ghost use Rattle.std.specs.Prelude.{◌≡◌, List, Ok, IfOk, IfSome};
+ghost use Rattle.std.specs.Prelude.{◌≡◌, IfOk, IfSome, map};
+ghost use Rattle.std.specs.List.{All};
 ghost use Rattle.mx_base.specs.Blame.{Answers, AnswersBy, fails};
+ghost use Rattle.mx_base.specs.Layout.{lock_name};
 ghost use Rattle.tree_store.specs.Known.{OnlyReads, Told};
 ghost use Rattle.deps_resolve.specs.Blame.{get_blame};
-ghost use Rattle.deps_fetch.specs.Gets.{IsGet, IsGetOf, HasRoot, MeetsEveryRow, MeetsEveryRowOf, Prepares};
-ghost use Rattle.deps_fetch.specs.Leaves.{Fetches, FetchesOf, Stores};
+ghost use Rattle.deps_fetch.specs.Gets.{HasRoot, IsGet, IsGetOf, MeetsEveryRow, MeetsEveryRowOf, fetched_as};
+ghost use Rattle.deps_fetch.specs.Leaves.{Leaves, LeavesProject};
+ghost use Rattle.deps_fetch.specs.Parcels.{Alters};
+ghost use Rattle.deps_fetch.specs.Prepared.{IsSound, Prepares, PutsLock, Stores};
+ghost use Rattle.deps_fetch.specs.Writing.{IsListed};
 
 use crate::check::pack_all;
 use crate::fetched::{Fetched, FetchedApp, FetchedApps};
@@ -13,7 +18,7 @@ use crate::parcel::Parcel;
 use crate::write::write_folders;
 use dep_options::Decl;
 use deps_resolve::{GetError, Resolved, Taken, resolve};
-use mix_lock::{Lock, write_lock};
+use mix_lock::write_lock;
 use mx_base::{Bytes, LOCK, MANIFEST, Names, RelPath, copy_text};
 use project_file::{Project, ProjectError, load_project};
 use std::alloc::{AllocError, Global};
@@ -35,7 +40,7 @@ pub fn get<S: Store>(alloc: Global, store: &mut S) -> Result<Fetched, GetError>
         (Told (S.known store.old) IsGet) }
     // Each row that isn't ignored is met by the version of its winner, and no two declarations diverge.
     ensures meets { IfOk result (λ _. IfSome (S.known store.old).sources MeetsEveryRow) }
-    ensures fetches { Fetches result (S.known store.old) (S.known store.new) }
+    ensures left { Alters get_blame LeavesProject (S.known store.old) (S.known store.new) result }
 {
     let root = root(alloc, store)?;
     get_of(alloc, store, root.decls.as_slice())
@@ -46,16 +51,12 @@ pub fn get<S: Store>(alloc: Global, store: &mut S) -> Result<Fetched, GetError>
 /// # Errors
 ///
 /// Those of `get` without `NoProject` and the root's `Project`.
-pub fn get_of<S: Store>(
-    alloc: Global,
-    store: &mut S,
-    root: &[Decl],
-) -> Result<Fetched, GetError>
+pub fn get_of<S: Store>(alloc: Global, store: &mut S, root: &[Decl]) -> Result<Fetched, GetError>
     ensures answer { AnswersBy (λ fetched. fetched.apps) get_blame result
         (Told (S.known store.old) (λ files. IsGetOf files root.now)) }
     ensures meets { IfOk result (λ _. IfSome (S.known store.old).sources
         (λ files. MeetsEveryRowOf files root.now)) }
-    ensures fetches { FetchesOf root.now result (S.known store.old) (S.known store.new) }
+    ensures left { Alters get_blame (Leaves root.now) (S.known store.old) (S.known store.new) result }
 {
     let prepared = prepare(alloc, store, root)?;
     store_all(alloc, store, prepared)
@@ -87,19 +88,16 @@ struct Prepared {
 }
 
 /// Reads all that there is to be read.
-fn prepare<S: Store>(
-    alloc: Global,
-    store: &mut S,
-    root: &[Decl],
-) -> Result<Prepared, GetError>
+fn prepare<S: Store>(alloc: Global, store: &mut S, root: &[Decl]) -> Result<Prepared, GetError>
     ensures answer { Answers get_blame result
         (Told (S.known store.old) (λ files. Prepares files root.now)) }
     ensures sound { IfOk result IsSound }
     ensures reads { OnlyReads (S.known store.old) (S.known store.new) (fails get_blame result) }
 {
-    let Resolved { old, taken } = resolve(alloc, store, root)?;
-    let parcels = pack_all(alloc, store, &taken)?;
-    let apps = fetched_apps(alloc, &taken)?;
+    let resolved = resolve(alloc, store, root)?;
+    let parcels = pack_all(alloc, store, &resolved.taken)?;
+    let apps = fetched_apps(alloc, &resolved.taken)?;
+    let Resolved { old, taken } = resolved;
     let lock = new_lock(alloc, old, taken, &parcels)?;
     let text = write_lock(alloc, &lock)?;
     let path = RelPath::root(alloc).child(alloc, LOCK)?;
@@ -137,7 +135,7 @@ fn store_all<S: Store>(
     store: &mut S,
     prepared: Prepared,
 ) -> Result<Fetched, GetError>
-    requires { IsSound prepared }
+    requires sound { IsSound prepared }
     requires told { IfSome (S.known store.old).sources (λ files. All (IsListed files) prepared.parcels.items) }
     ensures { Alters get_blame (Stores prepared) (S.known store.old) (S.known store.new) result }
 {

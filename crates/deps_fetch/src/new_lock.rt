@@ -54,7 +54,11 @@ fn entries(
 fn entry_with(alloc: Global, taken: Taken, parcel: &Parcel) -> Result<(AppName, Entry), AllocError>
     ensures { IfOk result (λ entry. entry ≡ entry_with taken parcel.now) }
 {
-    let Taken { app, home: _, mut entry } = taken;
+    let Taken {
+        app,
+        home: _,
+        mut entry,
+    } = taken;
     let manager = manager_name(alloc, manager_by_files(parcel.content.as_slice()))?;
     let mut managers = Names::new(alloc);
     managers.push(manager)?;

@@ -64,11 +64,7 @@ pub(crate) fn write_folders<S: Store>(
 }
 
 /// Writes the folder of a release: what lies there goes, and its files come.
-fn write_folder<S: Store>(
-    alloc: Global,
-    store: &mut S,
-    parcel: &Parcel,
-) -> Result<(), WriteFault>
+fn write_folder<S: Store>(alloc: Global, store: &mut S, parcel: &Parcel) -> Result<(), WriteFault>
     requires { IsParcel parcel.now }
     ensures { Alters write_blame (WritesFolder parcel.now) (S.known store.old) (S.known store.new)
         result }

@@ -1,2 +1,3 @@
 pub mod VersionText
 pub mod ResolveLemmas
+pub mod ChooseLemmas

@@ -50,15 +50,6 @@ use Rattle.deps_resolve.specs.Taken.{takes}
 use Rattle.deps_resolve.specs.Versions.{AreVersions}
 use Rattle.deps_resolve.specs.Wants.{wants_by}
 
--- ---- rows
-
-pub has_rows_err : (files : List File) (choice : Option Choice) (root : List Decl) (error : RowsError (ChildError Never)) → get_blame (of_rows error) ≡ Input
-    → IsListing (AreChildren releases_declare (evidence files choice)) root (Err error) → HasRows files choice root (Err (of_rows error))
-has_rows_err files choice root (rows.Children (child.Folder error)) input says = meets says
-has_rows_err files choice root (rows.Children (child.Registry never)) input says = cc
-has_rows_err files choice root rows.TooManyRows input says = passes says
-has_rows_err files choice root rows.OutOfMemory input says = cc
-
 -- ---- steps
 
 module _ (told : Option (List File)) (root : List Decl) where

@@ -5,3 +5,4 @@ pub mod Resolves
 pub mod Taken
 pub mod Versions
 pub mod Wants
+pub mod Said

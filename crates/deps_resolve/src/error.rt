@@ -21,11 +21,17 @@ pub enum GetError {
     /// There is no `project.exs`.
     NoProject,
     /// The manifest at this path is refused.
-    Project { path: RelPath, fault: ProjectError },
+    Project {
+        path: RelPath,
+        fault: ProjectError,
+    },
     /// The lock is refused.
     Lock(LockError),
     /// No file lies below the folder of a dependency.
-    PathMissing { app: AppName, dir: RelPath },
+    PathMissing {
+        app: AppName,
+        dir: RelPath,
+    },
     /// There are more than 65,536 declarations.
     TooManyRows,
     /// A package of the registry is refused.
@@ -35,7 +41,9 @@ pub enum GetError {
     /// Some declarations can't live together with the winners of their apps.
     Diverged(DivergedLines),
     /// The registry has no file of an app's release.
-    FolderMissing { app: AppName },
+    FolderMissing {
+        app: AppName,
+    },
     /// The files of an app's release have another checksum than its package says.
     ChecksumDiffers {
         app: AppName,
@@ -43,7 +51,10 @@ pub enum GetError {
         found: Digest32,
     },
     /// The store failed at a write to this path, and counted it. The folders of these apps are fetched.
-    Write { path: RelPath, fetched: Names },
+    Write {
+        path: RelPath,
+        fetched: Names,
+    },
     /// There was not enough memory. This says nothing of the files.
     OutOfMemory,
 }

@@ -11,6 +11,7 @@ mod knowing;
 mod locked;
 mod old_lock;
 mod resolve;
+mod said;
 mod taken;
 mod versions;
 mod wants;

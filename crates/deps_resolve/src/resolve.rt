@@ -53,11 +53,7 @@ struct Chosen {
 /// What is met first: `Lock`; row by row over the manifests of folders `PathMissing`, `Project` or `TooManyRows`;
 /// `Registry`; `Pick`; the same of the rows made anew with what the releases declare; `Diverged`. `Read` comes where
 /// the store failed, `OutOfMemory` where there was not enough memory.
-pub fn resolve<S: Store>(
-    alloc: Global,
-    store: &mut S,
-    root: &[Decl],
-) -> Result<Resolved, GetError>
+pub fn resolve<S: Store>(alloc: Global, store: &mut S, root: &[Decl]) -> Result<Resolved, GetError>
     ensures answer { Answers get_blame result
         (Told (S.known store.old) (λ files. Resolves files root.now)) }
     // Nothing is written.

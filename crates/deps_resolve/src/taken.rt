@@ -103,11 +103,7 @@ fn home_of(alloc: Global, name: &AppName, version: &Text) -> Result<RelPath, All
     }
 }
 
-fn entry_of(
-    alloc: Global,
-    name: &AppName,
-    found: Released<'_>,
-) -> Result<HexEntry, AllocError>
+fn entry_of(alloc: Global, name: &AppName, found: Released<'_>) -> Result<HexEntry, AllocError>
     requires offered { (repository : List ℕ)
         × IsOffer repository found.release.now found.offer.now }
     requires usable { IsTrue (is_usable_in (Some found.offer.now)) }

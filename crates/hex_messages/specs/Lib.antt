@@ -9,3 +9,4 @@ pub mod Reading
 pub mod Finding
 pub mod Checking
 pub mod Writing
+pub mod Said

@@ -9,6 +9,7 @@ mod laws;
 mod message;
 mod package;
 mod reader;
+mod said;
 mod schema;
 mod varint;
 mod wire;

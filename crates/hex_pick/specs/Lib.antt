@@ -4,3 +4,4 @@ pub mod Outcome
 pub mod Fitting
 pub mod Standing
 pub mod Walking
+pub mod Said

@@ -1,4 +1,7 @@
 // Why nothing is picked.
+ghost use Rattle.std.specs.Prelude.{◌≡◌, ◌++◌, OnOk};
+ghost use Rattle.hex_pick.specs.Said.{pick_said};
+
 use mx_base::AppName;
 use std::alloc::{AllocError, AllocFailed};
 
@@ -33,5 +36,21 @@ impl<T: Drop> From<AllocFailed<T>> for PickError {
 
     fn from(_: AllocFailed<T>) -> PickError {
         PickError::OutOfMemory
+    }
+}
+
+impl PickError {
+    /// Adds why nothing is picked, for people.
+    pub fn say(&self, text: &mut Vec<u8>) -> Result<(), AllocError>
+        ensures { OnOk result (text.new.items ≡ text.old.items ++ pick_said self.now) }
+    {
+        match self {
+            PickError::NoPick { package } => {
+                text.extend_from_slice(b"no pick: ")?;
+                text.extend_from_slice(package.as_str().as_bytes())
+            }
+            PickError::TooManyNodes => text.extend_from_slice(b"too many nodes"),
+            PickError::OutOfMemory => text.extend_from_slice(b"out of memory"),
+        }
     }
 }

@@ -9,3 +9,4 @@ pub mod Valid
 pub mod Breaches
 pub mod Missing
 pub mod Reach
+pub mod Said

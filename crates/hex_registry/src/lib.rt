@@ -13,6 +13,7 @@ mod offer;
 mod pick;
 mod reach;
 mod registry;
+mod said;
 mod shelf;
 mod unmet;
 mod wants;
