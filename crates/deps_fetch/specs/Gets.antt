@@ -11,7 +11,7 @@ use Rattle.project_file.specs.declared.project.Project.{Project}
 use Rattle.project_file.specs.Files.{IsLoaded, manifest_at}
 use Rattle.deps_resolve.specs.declared.error.GetError.{GetError}
 use Rattle.deps_resolve.specs.declared.error.GetError.TheVariants as refused
-use Rattle.deps_resolve.specs.declared.resolve.Resolved.{Resolved}
+use Rattle.deps_resolve.specs.declared.resolution.Resolved.{Resolved}
 use Rattle.deps_resolve.specs.declared.taken.Taken.{Taken}
 use Rattle.deps_resolve.specs.Resolves.{Resolution, Resolves}
 use Rattle.deps_resolve.specs.Versions.{AreVersions}

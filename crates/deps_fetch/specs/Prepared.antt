@@ -11,7 +11,7 @@ use Rattle.deps_resolve.specs.declared.error.GetError.{GetError}
 use Rattle.deps_resolve.specs.declared.error.GetError.TheVariants.{Write, OutOfMemory}
 use Rattle.deps_resolve.specs.Taken.{apps_in}
 use Rattle.deps_fetch.specs.declared.fetched.Fetched.{Fetched}
-use Rattle.deps_fetch.specs.declared.get.Prepared.{Prepared}
+use Rattle.deps_fetch.specs.declared.fetch.Prepared.{Prepared}
 use Rattle.deps_fetch.specs.declared.parcel.Parcel.{Parcel}
 use Rattle.deps_fetch.specs.Gets.{Got, Gets, IsGetOf, fetched_as}
 use Rattle.deps_fetch.specs.Parcels.{IsPacked}

@@ -8,13 +8,13 @@
 
 mod check;
 mod content;
+mod fetch;
 mod fetched;
-mod get;
 mod manager;
 mod new_lock;
 mod parcel;
 mod write;
 
 pub use deps_resolve::GetError;
+pub use fetch::{get, get_of};
 pub use fetched::{Fetched, FetchedApp, FetchedApps};
-pub use get::{get, get_of};

@@ -56,9 +56,10 @@ fn entry_with(alloc: Global, taken: Taken, parcel: &Parcel) -> Result<(AppName, 
 {
     let Taken {
         app,
-        home: _,
+        home,
         mut entry,
     } = taken;
+    drop(home);
     let manager = manager_name(alloc, manager_by_files(parcel.content.as_slice()))?;
     let mut managers = Names::new(alloc);
     managers.push(manager)?;

@@ -34,7 +34,7 @@ use Rattle.path_children.specs.Dependencies.{AreChildren}
 use Rattle.deps_resolve.specs.declared.error.GetError.{GetError}
 use Rattle.deps_resolve.specs.declared.error.GetError.TheVariants as refused
 use Rattle.deps_resolve.specs.declared.error.Never.{Never}
-use Rattle.deps_resolve.specs.declared.resolve.Resolved.{Resolved}
+use Rattle.deps_resolve.specs.declared.resolution.Resolved.{Resolved}
 use Rattle.deps_resolve.specs.declared.taken.Taken.{Taken}
 use Rattle.deps_resolve.specs.Blame.{get_blame}
 use Rattle.deps_resolve.specs.Knowing.{Choice, evidence, releases_declare}

@@ -25,8 +25,8 @@ use Rattle.path_children.specs.Dependencies.{AreChildren}
 use Rattle.deps_resolve.specs.declared.error.GetError.{GetError}
 use Rattle.deps_resolve.specs.declared.error.GetError.TheVariants as refused
 use Rattle.deps_resolve.specs.declared.taken.Taken.{Taken}
-use Rattle.deps_resolve.specs.declared.resolve.Resolved.{Resolved}
-use Rattle.deps_resolve.specs.declared.resolve.Wanting.{Wanting}
+use Rattle.deps_resolve.specs.declared.resolution.Resolved.{Resolved}
+use Rattle.deps_resolve.specs.declared.resolution.Wanting.{Wanting}
 use Rattle.deps_resolve.specs.Knowing.{Choice, evidence, releases_declare}
 use Rattle.deps_resolve.specs.Refusals.{of_folder}
 use Rattle.deps_resolve.specs.Taken.{takes}

@@ -10,12 +10,12 @@ mod error;
 mod knowing;
 mod locked;
 mod old_lock;
-mod resolve;
+mod resolution;
 mod said;
 mod taken;
 mod versions;
-mod wants;
+mod wanted;
 
 pub use error::GetError;
-pub use resolve::{Resolved, resolve, wants};
+pub use resolution::{Resolved, Wanting, resolve, wants};
 pub use taken::Taken;

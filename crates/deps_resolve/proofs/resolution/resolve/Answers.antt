@@ -4,7 +4,7 @@ use Rattle.mx_base.specs.declared.file.File.{File}
 use Rattle.path_children.proofs.ReadLemmas.{read_before, same_sources}
 use Rattle.deps_resolve.specs.Resolves.{Chooses, Takes, start_of}
 use Rattle.deps_resolve.proofs.ResolveLemmas.{if_diverges, if_resolves, if_unchosen, if_unwanted}
-use Rattle.deps_resolve.proofs.resolve.resolve.Goals as goal
+use Rattle.deps_resolve.proofs.resolution.resolve.Goals as goal
 
 pub returns-in_err-wanting-clause-answer : goal.returns-in_err-wanting-clause-answer
 returns-in_err-wanting-clause-answer g c =

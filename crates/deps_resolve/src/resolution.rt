@@ -13,7 +13,7 @@ use crate::knowing::Knowing;
 use crate::old_lock::old_lock;
 use crate::taken::{Taken, takes};
 use crate::versions::versions;
-use crate::wants::wants_by;
+use crate::wanted::wants_by;
 use converger::diverged_lines;
 use dep_options::Decl;
 use hex_pick::pick;
@@ -62,8 +62,10 @@ pub fn resolve<S: Store>(alloc: Global, store: &mut S, root: &[Decl]) -> Result<
     let wanting = wants(alloc, store, root)?;
     let chosen = choose(alloc, store, &wanting.wants)?;
     let taken = converged(alloc, store, root, &chosen)?;
-    let Wanting { old, wants: _ } = wanting;
-    Ok(Resolved { old, taken })
+    Ok(Resolved {
+        old: wanting.old,
+        taken,
+    })
 }
 
 /// What root declarations and the manifests of folders want of the registry, and the lock as it was.

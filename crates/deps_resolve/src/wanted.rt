@@ -40,7 +40,7 @@ pub(crate) fn wants_by(alloc: Global, rows: &Rows, old: &Lock) -> Result<Wants, 
 fn names_in(alloc: Global, names: IndexSet<AppName>) -> Result<Names, AllocError>
     ensures { IfOk result (λ list. list ≡ names.keys) }
 {
-    let list = names.into_iter().collect(alloc)?;
+    let list: Vec<AppName> = names.into_iter().collect(alloc)?;
     Ok(Names::from_vec(list))
 }
 
