@@ -40,7 +40,7 @@ pub asks_early : (question : Frame) (still : Channel) → (still.held ≡ [] →
 asks_early question still some = asks_silent question still (Err Died) (OtherCame (Early some))
 
 pub asks_memory : (question : Frame) (still : Channel) → Asks question still still (Err OutOfMemory)
-asks_memory question still = asks_silent question still (Err OutOfMemory) (record { open = refl; unfailed = refl })
+asks_memory question still = asks_silent question still (Err OutOfMemory) (record { unclosed = refl; unfailed = refl })
 
 -- ---- it was sent in part
 
@@ -68,24 +68,24 @@ sent_whole piece old new (Err e) sends is = absurd (cc is)
 verdict_case : (x : Exchange) (n status : ℕ) (text : List ℕ) (same : Bool) → (n == number_in x.asked) ≡ same → x.said.sent ≡ frame_text x.asked
     → x.old.held ≡ [] → x.said.closed ≡ false → x.new.link.faults ≡ x.old.link.faults → Stands x.said.came (frames.Verdict n status text) x.new.held
     → Ends x (if same then Ok (record { status = status; text = text }) else Err Died)
-verdict_case x n status text true is sent nothing open unfailed stands = record {
+verdict_case x n status text true is sent nothing unclosed unfailed stands = record {
   sent = sent;
   nothing_before = nothing;
   came = subst (λ m. Stands x.said.came (frames.Verdict m status text) x.new.held) (eqb-true n (number_in x.asked) is) stands;
-  open = open;
+  unclosed = unclosed;
   unfailed = unfailed;
 }
-verdict_case x n status text false is sent nothing open unfailed stands =
+verdict_case x n status text false is sent nothing unclosed unfailed stands =
     OtherCame (Another (frames.Verdict n status text) stands (eqb-false n (number_in x.asked) is))
 
 ends_frame : (x : Exchange) (frame : Frame) → x.said.sent ≡ frame_text x.asked → x.old.held ≡ [] → x.said.closed ≡ false
     → x.new.link.faults ≡ x.old.link.faults → Stands x.said.came frame x.new.held → Ends x (verdict_of_frame (number_in x.asked) frame)
-ends_frame x (frames.Hello cookie index) sent nothing open unfailed stands = OtherCame (Another (frames.Hello cookie index) stands (λ is. is))
-ends_frame x (frames.Job n env app options how system_env dir needs) sent nothing open unfailed stands =
+ends_frame x (frames.Hello cookie index) sent nothing unclosed unfailed stands = OtherCame (Another (frames.Hello cookie index) stands (λ is. is))
+ends_frame x (frames.Job n env app options how system_env dir needs) sent nothing unclosed unfailed stands =
     OtherCame (Another (frames.Job n env app options how system_env dir needs) stands (λ is. is))
-ends_frame x (frames.Verdict n status text) sent nothing open unfailed stands =
-    verdict_case x n status text (n == number_in x.asked) refl sent nothing open unfailed stands
-ends_frame x frames.Bye sent nothing open unfailed stands = OtherCame (Another frames.Bye stands (λ is. is))
+ends_frame x (frames.Verdict n status text) sent nothing unclosed unfailed stands =
+    verdict_case x n status text (n == number_in x.asked) refl sent nothing unclosed unfailed stands
+ends_frame x frames.Bye sent nothing unclosed unfailed stands = OtherCame (Another frames.Bye stands (λ is. is))
 
 module _ (question : Frame) (piece held left : List ℕ) (old mid new : LinkKnown) (nothing : held ≡ []) (spelled : Spells piece question) (sent : IsSent piece old mid) where
   abbrev exchange : List ℕ → Bool → Exchange
@@ -105,7 +105,7 @@ module _ (question : Frame) (piece held left : List ℕ) (old mid new : LinkKnow
   ends_heard (Err faults.Closed) h = PeerClosed refl
   ends_heard (Err (faults.Refused error)) h =
       OtherCame (NoFrame error (subst (λ front. IsRefused (front ++ h.came) error.cause error.at) nothing h.heard.1))
-  ends_heard (Err faults.OutOfMemory) h = record { open = refl; unfailed = h.cause.kept refl ∙ sent.faults }
+  ends_heard (Err faults.OutOfMemory) h = record { unclosed = refl; unfailed = h.cause.kept refl ∙ sent.faults }
 
   pub asks_heard : (heard : Result Frame HearFault) → Hears (channel_of mid held) (channel_of new left) heard
       → Asks question (channel_of old held) (channel_of new left) (verdict_on (number_in question) heard)

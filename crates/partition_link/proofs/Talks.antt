@@ -1,7 +1,7 @@
 -- Talks that go on, and what is heard on the way.
-use Rattle.std.proofs.Common.{◌≡◌, ℕ, Bool, true, false, ◌||◌, List, [], ◌++◌, take, Option, Some, None, option_map, refl, ap, sym, ◌∙◌, append_assoc, append-nil}
-use Rattle.partition_face.specs.Links.{Talk, closes, with_room, with_sent}
-use Rattle.partition_link.specs.Channel.{Channel, Fills, Waits, goes_on, hears}
+use Rattle.std.proofs.Common.{◌≡◌, ℕ, Bool, true, false, ◌||◌, List, [], ◌++◌, Option, Some, None, option_map, refl, ap, sym, ◌∙◌, append_assoc, append-nil}
+use Rattle.partition_face.specs.Links.{Talk, with_sent}
+use Rattle.partition_link.specs.Channel.{Channel, Fills, goes_on, hears}
 
 or_false : (b : Bool) → (b || false) ≡ b
 or_false true = refl
@@ -31,34 +31,13 @@ pub heard_after : (told : Option Talk) (sent came : List ℕ) (closed : Bool)
 heard_after None sent came closed = refl
 heard_after (Some talk) sent came closed = refl
 
-pub nothing_heard : (told : Option Talk) → told ≡ option_map (hears [] false) told
-nothing_heard None = refl
-nothing_heard (Some talk) = same_talk talk _ _ _ refl (sym (append-nil talk.came)) (sym (or_false talk.closed))
-
 pub heard_more : (told : Option Talk) (before after : List ℕ) (closed : Bool)
     → option_map (hears after closed) (option_map (hears before false) told) ≡ option_map (hears (before ++ after) closed) told
 heard_more None before after closed = refl
 heard_more (Some talk) before after closed =
     same_talk (hears after closed (hears before false talk)) _ _ _ refl (append_assoc talk.came before after) (ap (λ end. end || closed) (or_false talk.closed))
 
--- what came into a room
-pub received : (told : Option Talk) (room : List ℕ) (count : ℕ) → (closes room count ≡ false) → option_map (with_room room count) told ≡ option_map (hears (take count room) false) told
-received None room count open = refl
-received (Some talk) room count open = same_talk (with_room room count talk) _ _ _ refl refl (ap (λ end. talk.closed || end) open)
-
-pub ended : (told : Option Talk) (room : List ℕ) → (closes room 0 ≡ true) → option_map (with_room room 0) told ≡ option_map (hears [] true) told
-ended None room closed = refl
-ended (Some talk) room closed = same_talk (with_room room 0 talk) _ _ _ refl refl (ap (λ end. talk.closed || end) closed)
-
 -- ---- waiting
-
--- nothing was heard yet
-pub waits_first : (still : Channel) → Waits still still
-waits_first still = record {
-  came = [];
-  fills = record { told = nothing_heard still.link.talk; held = sym (append-nil still.held) };
-  unfailed = refl;
-}
 
 pub fills_more : (a b c : Channel) (before after : List ℕ) (closed : Bool) → Fills before false a b → Fills after closed b c → Fills (before ++ after) closed a c
 fills_more a b c before after closed first then = record {

@@ -63,7 +63,7 @@ pub record IsAnswered (x : Exchange) (verdict : Verdict) : Type 0 where
   pub sent : x.said.sent ≡ frame_text x.asked
   pub nothing_before : x.old.held ≡ []
   pub came : Stands x.said.came (frames.Verdict (number_in x.asked) verdict.status verdict.text) x.new.held
-  pub open : x.said.closed ≡ false
+  pub unclosed : x.said.closed ≡ false
   pub unfailed : x.new.link.faults ≡ x.old.link.faults
 
 -- the bytes that were held or came are no verdict on the job
@@ -85,7 +85,7 @@ pub data Dies (x : Exchange) : Type 0 where
 
 -- neither the link failed nor the peer closed
 pub record IsUndecided (x : Exchange) : Type 0 where
-  pub open : x.said.closed ≡ false
+  pub unclosed : x.said.closed ≡ false
   pub unfailed : x.new.link.faults ≡ x.old.link.faults
 
 abbrev pub Ends : Exchange → Result Verdict RunFault → Type 0

@@ -65,10 +65,10 @@ pub fn receive_frame<L: Link>(
 {
     let mut room = [0; ROOM];
     'frames: loop {
-        if let Some(frame) = reader.next(alloc)? {
-            return Ok(frame);
+        match reader.next(alloc)? {
+            Some(frame) => return Ok(frame),
+            None => receive_some(link, reader, &mut room)?,
         }
-        receive_some(link, reader, &mut room)?;
     }
 }
 

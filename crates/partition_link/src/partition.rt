@@ -1,5 +1,5 @@
 // A partition in another process.
-ghost use Rattle.std.specs.Prelude.{◌≡◌, ◌+◌, length};
+ghost use Rattle.std.specs.Prelude.{◌≡◌, ◌+◌, length, refl};
 ghost use Rattle.mx_base.specs.Causes.{Counted};
 ghost use Rattle.compile_model.specs.Content.{empty_outcome};
 ghost use Rattle.compile_model.specs.Planned.{IsNamed};
