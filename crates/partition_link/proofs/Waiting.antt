@@ -33,5 +33,5 @@ hears_end OutOfMemory old mid new waits more takes = absurd takes.taken.1
 -- .. where the reader has left all that it held
 pub hears_no_more : {T : Type 0} (fault : HearFault) (old new : Channel) (link : LinkKnown) (held left : List ℕ) → Waits old (channel_of link held)
     → NeedsMore held → left ≡ held → Takes {T = T} (channel_of link left) new (Err fault) → Hears old new (Err fault)
-hears_no_more fault old new link held left waits more same takes =
-    hears_end fault old (channel_of link held) new waits more (subst (λ bytes. Takes (channel_of link bytes) new (Err fault)) same takes)
+hears_no_more {T = T} fault old new link held left waits more same takes =
+    hears_end fault old (channel_of link held) new waits more (subst (λ bytes. Takes {T = T} (channel_of link bytes) new (Err fault)) same takes)

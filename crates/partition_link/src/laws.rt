@@ -7,7 +7,6 @@ ghost use Rattle.compile_model.specs.Planned.{IsSound};
 ghost use Rattle.partition_link.specs.Run.{MayBeWritten, asked};
 
 /// Each job of a plan can be sent.
-#[tactic(auto, using(crate::proofs::Sending::sound_is_sent))]
 pub fn planned_jobs_are_sent()
     ensures { (runs : ℕ) (env : List ℕ) (job : Job) → IsSound job → IsAppName env → IsAppName job.app
         → All IsAppName job.need_apps → MayBeWritten (asked runs env job) }
