@@ -9,8 +9,10 @@ mod files;
 mod host_folder;
 mod host_sink;
 mod host_store;
+mod host_words;
 mod walk;
 
 pub use host_folder::HostFolder;
 pub use host_sink::HostSink;
 pub use host_store::HostStore;
+pub use host_words::host_words;
