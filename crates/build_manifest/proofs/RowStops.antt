@@ -9,8 +9,8 @@ use Rattle.reading.proofs.Numbers.{number_tells}
 use Rattle.mx_base.specs.declared.row.FileRow.{FileRow}
 use Rattle.mx_base.specs.Digest.{IsDigest}
 use Rattle.mx_base.specs.Listing.{row_text}
-use Rattle.build_manifest.specs.declared.fields.Fault.{Fault}
-use Rattle.build_manifest.specs.declared.fields.Fault.TheVariants.{Stuck, OutOfMemory}
+use Rattle.reading.specs.declared.stuck.Fault.{Fault}
+use Rattle.reading.specs.declared.stuck.Fault.TheVariants.{Stuck, OutOfMemory}
 use Rattle.build_manifest.specs.Fields.{IsEarlier, NextPath, NextRow, StopsBy, ended, lead_text}
 use Rattle.build_manifest.specs.Mark.{limit}
 use Rattle.build_manifest.proofs.Lines.{line_tells, path_has_no_break}

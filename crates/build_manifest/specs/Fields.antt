@@ -7,8 +7,8 @@ use Rattle.mx_base.specs.declared.row.FileRow.{FileRow}
 use Rattle.mx_base.specs.Order.{text_cmp}
 use Rattle.mx_base.specs.Path.{is_path}
 use Rattle.reading.specs.Field.{FitInTurn, Stops}
-use Rattle.build_manifest.specs.declared.fields.Fault.{Fault}
-use Rattle.build_manifest.specs.declared.fields.Fault.TheVariants.{Stuck, OutOfMemory}
+use Rattle.reading.specs.declared.stuck.Fault.{Fault}
+use Rattle.reading.specs.declared.stuck.Fault.TheVariants.{Stuck, OutOfMemory}
 use Rattle.build_manifest.specs.declared.mark.MarkFormat.{MarkFormat}
 use Rattle.build_manifest.specs.Mark.{HasNoMore, IsMarkRow, LeadFits, Line, LineFits, has_diagnostics, limit, source_lines}
 

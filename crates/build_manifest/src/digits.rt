@@ -5,8 +5,9 @@ ghost use Rattle.reading.specs.Field.{Stops};
 ghost use Rattle.mx_base.specs.Digest.{IsDigest};
 ghost use Rattle.build_manifest.specs.Fields.{IsByte, byte_text, lead_text};
 
-use crate::fields::{Stuck, after_literal, stuck_at};
+use crate::fields::after_literal;
 use mx_base::Digest32;
+use reading::{Stuck, stuck_at};
 
 // The value of a digit, where letters are in lower case.
 fn digit_value(byte: u8) -> Option<u8>

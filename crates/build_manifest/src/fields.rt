@@ -7,25 +7,12 @@ ghost use Rattle.build_manifest.specs.Mark.{limit};
 ghost use Rattle.build_manifest.specs.Text.{block_text};
 ghost use Rattle.build_manifest.specs.Fields.{Block};
 
-use std::alloc::{AllocError, AllocFailed};
+use reading::{Stuck, stuck_at};
 
 // Numbers are below this.
 const LIMIT: u64 = 1 << 63;
 
-/// Where no text goes on.
-#[derive(Clone, Copy)]
-pub(crate) struct Stuck {
-    /// How many bytes are left there.
-    pub(crate) left: usize,
-}
-
-pub(crate) fn stuck_at(text: &[u8]) -> Stuck
-    ensures { result ≡ record { left = length text.now } }
-{
-    Stuck { left: text.len() }
-}
-
-/// What is left after these bytes, which have to stand here.
+//// What is left after these bytes, which have to stand here.
 pub(crate) fn after_literal<'a>(literal: &[u8], text: &'a [u8]) -> Result<&'a [u8], Stuck>
     ensures { MatchResult result (λ rest. text.now ≡ literal.now ++ rest.now)
         (λ stuck. Stops (literal_text literal.now) Always text.now stuck.left) }
@@ -131,44 +118,4 @@ pub(crate) fn read_block<'a>(word: &[u8], text: &'a [u8]) -> Result<(&'a [u8], &
     let (bytes, rest) = read_bytes(count, rest)?;
     let rest = after_literal(b"\n", rest)?;
     Ok((bytes, rest))
-}
-
-/// Why reading a mark ends early.
-#[derive(Clone, Copy)]
-pub(crate) enum Fault {
-    Stuck(Stuck),
-    OutOfMemory,
-}
-
-impl From<Stuck> for Fault {
-    ghost use Rattle.std.specs.Prelude.{◌≡◌};
-    ghost use Rattle.build_manifest.specs.declared.fields.Fault.TheVariants as faults;
-
-    ghost from_gives = { λ stuck fault. fault ≡ faults.Stuck stuck };
-
-    fn from(stuck: Stuck) -> Fault {
-        Fault::Stuck(stuck)
-    }
-}
-
-impl From<AllocError> for Fault {
-    ghost use Rattle.std.specs.Prelude.{◌≡◌};
-    ghost use Rattle.build_manifest.specs.declared.fields.Fault.TheVariants.{OutOfMemory};
-
-    ghost from_gives = { λ _ fault. fault ≡ OutOfMemory };
-
-    fn from(_: AllocError) -> Fault {
-        Fault::OutOfMemory
-    }
-}
-
-impl<T: Drop> From<AllocFailed<T>> for Fault {
-    ghost use Rattle.std.specs.Prelude.{◌≡◌};
-    ghost use Rattle.build_manifest.specs.declared.fields.Fault.TheVariants.{OutOfMemory};
-
-    ghost from_gives = { λ _ fault. fault ≡ OutOfMemory };
-
-    fn from(_: AllocFailed<T>) -> Fault {
-        Fault::OutOfMemory
-    }
 }

@@ -8,11 +8,11 @@ ghost use Rattle.build_manifest.specs.Names.{BeginsFree, HasApps, IsFreeFront, I
 ghost use Rattle.build_manifest.specs.Text.{need_text};
 
 use crate::digits::read_lead;
-use crate::fields::{Fault, stuck_at};
 use crate::mark::Need;
 use crate::names::{MAX_NAME_LEN, longer, may_stand, name_front, name_of};
 use indexmap::IndexSet;
 use mx_base::AppName;
+use reading::{Fault, stuck_at};
 use std::alloc::{AllocError, Global};
 
 /// Needs so far, and their apps.

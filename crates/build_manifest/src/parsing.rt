@@ -9,11 +9,12 @@ ghost use Rattle.build_manifest.specs.Refusal.{IsReading, blame_of};
 ghost use Rattle.build_manifest.specs.Text.{line_text, lines_text, mark_text, need_text};
 
 use crate::error::MarkError;
-use crate::fields::{Fault, Stuck, after_literal, read_block, read_number, stuck_at};
+use crate::fields::{after_literal, read_block, read_number};
 use crate::mark::{Mark, MarkFormat, Need};
 use crate::needs::{Needs, read_need};
 use crate::rows::{Rows, read_rows};
 use mx_base::{Bytes, ListOf, Listing};
+use reading::{Fault, Stuck, stuck_at};
 use std::alloc::Global;
 
 // Whether the digit of a first line is that of the second form.

@@ -8,8 +8,8 @@ ghost use Rattle.build_manifest.specs.Paths.{EndsCharacters, EndsOrder, EndsPath
 ghost use Rattle.build_manifest.specs.declared.paths.Order.TheVariants.{Same};
 ghost use Rattle.std.specs.Str.{IsUtf8};
 
-use crate::fields::{Fault, Stuck, stuck_at};
 use mx_base::RelPath;
+use reading::{Fault, Stuck, stuck_at};
 use std::alloc::Global;
 use std::str;
 

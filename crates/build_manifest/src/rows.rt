@@ -9,9 +9,10 @@ ghost use Rattle.build_manifest.specs.Mark.{LeadFits, LineFits};
 ghost use Rattle.build_manifest.specs.Text.{line_text, lines_text};
 
 use crate::digits::read_lead;
-use crate::fields::{Fault, Stuck, after_literal, read_number};
+use crate::fields::{after_literal, read_number};
 use crate::paths::read_path;
 use mx_base::{Digest32, FileRow, RelPath};
+use reading::{Fault, Stuck};
 use std::alloc::{AllocError, Global};
 
 /// Rows so far, and the digests in front of them where they have some.

@@ -3,8 +3,8 @@ use Rattle.std.proofs.Common.{◌≡◌, ℕ, ◌+◌, ◌<◌, List, ◌++◌, 
 use Rattle.std.specs.Prelude.{flat_map}
 use Rattle.std.specs.List.{AllByRecursion}
 use Rattle.reading.specs.Field.{PairFits}
-use Rattle.partition_frames.specs.declared.fields.Fault.{Fault}
-use Rattle.partition_frames.specs.declared.fields.Fault.TheVariants.{Stuck, OutOfMemory}
+use Rattle.reading.specs.declared.stuck.Fault.{Fault}
+use Rattle.reading.specs.declared.stuck.Fault.TheVariants.{Stuck, OutOfMemory}
 use Rattle.partition_frames.specs.Field.{together}
 use Rattle.partition_frames.specs.Pieces.{LacksBefore, LacksBy, SoMany}
 use Rattle.partition_frames.proofs.Lacking.{Tells, first_lacks, lacks_otherwise, pair_fields, second_lacks}

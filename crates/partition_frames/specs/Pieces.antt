@@ -3,8 +3,8 @@ use Rattle.std.specs.Prelude.{◌≡◌, ℕ, zero, suc, ◌+◌, ◌^◌, ◌<�
 use Rattle.std.specs.List.{AllByRecursion}
 use Rattle.compile_model.specs.declared.how.How.{How}
 use Rattle.compile_model.specs.declared.how.How.TheVariants.{Nothing, Unit as ByUnit, Program}
-use Rattle.partition_frames.specs.declared.fields.Fault.{Fault}
-use Rattle.partition_frames.specs.declared.fields.Fault.TheVariants.{Stuck, OutOfMemory}
+use Rattle.reading.specs.declared.stuck.Fault.{Fault}
+use Rattle.reading.specs.declared.stuck.Fault.TheVariants.{Stuck, OutOfMemory}
 use Rattle.partition_frames.specs.declared.job.Head.{Head}
 use Rattle.partition_frames.specs.declared.job.Work.{Work}
 use Rattle.partition_frames.specs.declared.job.Place.{Place}

@@ -7,60 +7,8 @@ ghost use Rattle.partition_frames.specs.Frame.{IsFolder, IsNumber, IsText, numbe
 ghost use Rattle.partition_frames.specs.Pieces.{IsHowByte, LacksBefore, LacksBy, byte_field};
 
 use mx_base::{AppName, NameError, PathError, RelPath};
-use std::alloc::{AllocError, AllocFailed, Global};
-
-/// Where a field is lacking.
-#[derive(Clone, Copy)]
-pub(crate) struct Stuck {
-    /// How many bytes are left there.
-    pub(crate) left: usize,
-}
-
-/// Why reading a frame ends early.
-#[derive(Clone, Copy)]
-pub(crate) enum Fault {
-    Stuck(Stuck),
-    OutOfMemory,
-}
-
-impl From<Stuck> for Fault {
-    ghost use Rattle.std.specs.Prelude.{◌≡◌};
-    ghost use Rattle.partition_frames.specs.declared.fields.Fault.TheVariants as faults;
-
-    ghost from_gives = { λ stuck fault. fault ≡ faults.Stuck stuck };
-
-    fn from(stuck: Stuck) -> Fault {
-        Fault::Stuck(stuck)
-    }
-}
-
-impl From<AllocError> for Fault {
-    ghost use Rattle.std.specs.Prelude.{◌≡◌};
-    ghost use Rattle.partition_frames.specs.declared.fields.Fault.TheVariants.{OutOfMemory};
-
-    ghost from_gives = { λ _ fault. fault ≡ OutOfMemory };
-
-    fn from(_: AllocError) -> Fault {
-        Fault::OutOfMemory
-    }
-}
-
-impl<T: Drop> From<AllocFailed<T>> for Fault {
-    ghost use Rattle.std.specs.Prelude.{◌≡◌};
-    ghost use Rattle.partition_frames.specs.declared.fields.Fault.TheVariants.{OutOfMemory};
-
-    ghost from_gives = { λ _ fault. fault ≡ OutOfMemory };
-
-    fn from(_: AllocFailed<T>) -> Fault {
-        Fault::OutOfMemory
-    }
-}
-
-pub(crate) fn stuck_at(text: &[u8]) -> Stuck
-    ensures { result ≡ record { left = length text.now } }
-{
-    Stuck { left: text.len() }
-}
+use reading::{Fault, Stuck, stuck_at};
+use std::alloc::{AllocError, Global};
 
 /// A number of 32 bits.
 pub(crate) fn read_number(text: &[u8]) -> Result<(u32, &[u8]), Stuck>

@@ -5,11 +5,12 @@ ghost use Rattle.partition_frames.specs.Frame.{fields_of};
 ghost use Rattle.partition_frames.specs.Pieces.{IsHeadOf, IsPlaceOf, IsWorkOf, LacksBy, head_of, place_of, work_of};
 ghost use Rattle.partition_frames.specs.Reading.{IsOfKind};
 
-use crate::fields::{Fault, read_folder, read_name, read_number, read_text};
+use crate::fields::{read_folder, read_name, read_number, read_text};
 use crate::frame::Frame;
 use crate::lists::{read_how, read_names, read_variables};
 use compile_model::How;
 use mx_base::{AppName, Bytes, Names, RelPath, Variables};
+use reading::Fault;
 use std::alloc::Global;
 
 /// Which job is meant.

@@ -5,9 +5,10 @@ ghost use Rattle.partition_frames.specs.Field.{together};
 ghost use Rattle.partition_frames.specs.Frame.{IsHow, IsList, IsText, IsVariable, how_fields, list_fields, text_field, variable_fields};
 ghost use Rattle.partition_frames.specs.Pieces.{IsShortList, LacksBy, SoMany, how_of, room};
 
-use crate::fields::{Fault, read_how_byte, read_name, read_number, read_text, stuck_at};
+use crate::fields::{read_how_byte, read_name, read_number, read_text};
 use compile_model::{How, Texts};
 use mx_base::{AppName, ListOf, Names, Text, Variable, Variables};
+use reading::{Fault, stuck_at};
 use std::alloc::Global;
 
 // So many texts.

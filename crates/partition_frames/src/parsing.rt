@@ -8,10 +8,11 @@ ghost use Rattle.partition_frames.specs.Pieces.{LacksBy};
 ghost use Rattle.partition_frames.specs.Reading.{HasBody, HasSize, IsInRange, IsKind, IsOfKind, IsReading, IsRefused, IsWhole, IsWholeReading, MayHaveKind, Opens, blame_of};
 
 use crate::error::{FrameCause, FrameError};
-use crate::fields::{Fault, read_number, read_text};
+use crate::fields::{read_number, read_text};
 use crate::frame::Frame;
 use crate::job::read_job;
 use mx_base::{Bytes, Text};
+use reading::Fault;
 use std::alloc::Global;
 
 /// How many bytes kind and body of a frame have at most.

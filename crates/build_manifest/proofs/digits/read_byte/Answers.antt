@@ -1,6 +1,6 @@
 use Rattle.std.proofs.Common.{ℕ, List, length, get_or, sym, ap, subst, arith}
 use Rattle.reading.specs.Field.{Stops}
-use Rattle.build_manifest.specs.declared.fields.Stuck.{Stuck}
+use Rattle.reading.specs.declared.stuck.Stuck.{Stuck}
 use Rattle.build_manifest.specs.Fields.{IsByte, byte_text}
 use Rattle.build_manifest.proofs.DigestLemmas.{IsNoHex, first_stops_byte, second_stuck, two_digits}
 use Rattle.build_manifest.proofs.digits.read_byte.Goals as goal

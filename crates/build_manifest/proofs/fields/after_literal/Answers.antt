@@ -2,7 +2,7 @@ use Rattle.std.proofs.Common.{◌≡◌, ℕ, length, drop, sym, ap, ◌∙◌, 
 use Rattle.std.proofs.lemmas.List.{take_rest}
 use Rattle.reading.specs.Field.{Stops}
 use Rattle.reading.specs.Plain.{Always, literal_text}
-use Rattle.build_manifest.specs.declared.fields.Stuck.{Stuck}
+use Rattle.reading.specs.declared.stuck.Stuck.{Stuck}
 use Rattle.build_manifest.proofs.FieldLemmas.{literal_stuck}
 use Rattle.build_manifest.proofs.fields.after_literal.Goals as goal
 

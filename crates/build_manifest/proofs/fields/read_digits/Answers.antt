@@ -3,7 +3,7 @@ use Rattle.std.proofs.lemmas.List.{take_rest}
 use Rattle.reading.specs.Field.{Stops}
 use Rattle.reading.specs.Plain.{IsBelow, number_text}
 use Rattle.build_manifest.specs.Mark.{limit}
-use Rattle.build_manifest.specs.declared.fields.Stuck.{Stuck}
+use Rattle.reading.specs.declared.stuck.Stuck.{Stuck}
 use Rattle.build_manifest.proofs.FieldLemmas.{digits_stuck, one_digit_more}
 use Rattle.build_manifest.proofs.fields.read_digits.Goals as goal
 

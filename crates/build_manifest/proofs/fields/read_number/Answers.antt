@@ -2,7 +2,7 @@ use Rattle.std.proofs.Common.{◌≡◌, ℕ, ◌+◌, ◌<◌, List, ◌++◌, 
 use Rattle.reading.specs.Field.{Stops}
 use Rattle.reading.specs.Plain.{IsBelow, IsNoDigit, number_text}
 use Rattle.build_manifest.specs.Mark.{limit}
-use Rattle.build_manifest.specs.declared.fields.Stuck.{Stuck}
+use Rattle.reading.specs.declared.stuck.Stuck.{Stuck}
 use Rattle.build_manifest.proofs.FieldLemmas.{first_digit, no_number}
 use Rattle.build_manifest.proofs.fields.read_number.Goals as goal
 

@@ -1,7 +1,7 @@
 use Rattle.std.proofs.Common.{ℕ, List, ◌≡◌, ◌<◌, ◌++◌, length, ap, sym, ◌∙◌, subst, true≢false}
 use Rattle.std.proofs.lemmas.Bool.{eqb-true}
 use Rattle.reading.specs.Field.{Stops}
-use Rattle.build_manifest.specs.declared.fields.Stuck.{Stuck}
+use Rattle.reading.specs.declared.stuck.Stuck.{Stuck}
 use Rattle.build_manifest.specs.Fields.{ended}
 use Rattle.build_manifest.specs.Names.{IsFreeName, NoneHas}
 use Rattle.build_manifest.proofs.FreeNames.{some_free}

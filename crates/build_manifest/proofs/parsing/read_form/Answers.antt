@@ -2,7 +2,7 @@ use Rattle.std.proofs.Common.{ℕ, List, Bool, ◌≡◌, ◌∷◌, length, get
 use Rattle.std.proofs.lemmas.Result.{err_from_is_err_and}
 use Rattle.reading.specs.Field.{Stops}
 use Rattle.reading.specs.Plain.{Always}
-use Rattle.build_manifest.specs.declared.fields.Stuck.{Stuck}
+use Rattle.reading.specs.declared.stuck.Stuck.{Stuck}
 use Rattle.build_manifest.specs.Fields.{form_text, tag_digit}
 use Rattle.build_manifest.proofs.FieldLemmas.{behind_first, first_and_rest}
 use Rattle.build_manifest.proofs.TagStops.{form_end_stops, form_read, no_digit_stops}

@@ -2,7 +2,7 @@ use Rattle.std.proofs.Common.{◌≡◌, ℕ, ◌+◌, List, ◌++◌, length, t
 use Rattle.std.specs.Option.{option_copied}
 use Rattle.std.proofs.lemmas.List.{take_rest}
 use Rattle.reading.specs.Field.{Stops}
-use Rattle.build_manifest.specs.declared.fields.Stuck.{Stuck}
+use Rattle.reading.specs.declared.stuck.Stuck.{Stuck}
 use Rattle.build_manifest.specs.Fields.{NextPath, ended}
 use Rattle.build_manifest.specs.Paths.{MayEnd}
 use Rattle.build_manifest.proofs.PathFronts.{get_at, led_further, led_nowhere, path_read, path_stuck_at}
