@@ -1,5 +1,5 @@
 // The first cause for which an event isn't legal.
-ghost use Rattle.std.specs.Prelude.{◌≡◌, ◌<◌, None, length};
+ghost use Rattle.std.specs.Prelude.{◌≡◌, ◌<◌, None, length, if◌then◌else◌};
 ghost use Rattle.std.specs.List.{All};
 ghost use Rattle.compile_model.specs.Planned.{IsNamed};
 ghost use Rattle.partition_core.specs.State.{standing, is_running, is_run};
@@ -105,8 +105,8 @@ fn refused_act(
         (state_of lots.now standings.now) event.now }
 {
     match event {
-        Event::Keep { place, by } => refused_keep(plan, lots, standings, *place, *by),
-        Event::Start { place, by } => refused_start(plan, lots, standings, *place, *by),
+        Event::Keep { place, by } => { refused_taking(plan, lots, standings, *place, *by, true) }
+        Event::Start { place, by } => { refused_taking(plan, lots, standings, *place, *by, false) }
         Event::Finish { place, by, outcome } => {
             refused_end(standings, *place, *by, outcome.get().status == 0)
         }
@@ -126,45 +126,21 @@ fn refused_act(
     }
 }
 
-fn refused_keep(
+// A place is kept where its mark stands, and started where it doesn't.
+fn refused_taking(
     plan: &Plan,
     lots: &[Lot],
     standings: &[Standing],
     place: u32,
     by: u32,
+    keeps: bool,
 ) -> Option<IllegalCause>
     requires named { All IsNamed plan.now.jobs }
     requires places { length lots.now ≡ length plan.now.jobs }
     requires within { place < length plan.now.jobs }
     ensures { result ≡ refused_act (opening_of plan.now lots.now standings.now)
-        (state_of lots.now standings.now) (Event.Keep place by) }
-{
-    if let Some(cause) = not_free(lots, standings, place, by) {
-        return Some(cause);
-    }
-    let job = &plan.jobs.as_slice()[place as usize];
-    if let Some(need) = missing(lots, job.needs.as_slice()) {
-        return Some(IllegalCause::NeedNotBuilt { need });
-    }
-    if stands(job, lots, &lots[place as usize]) {
-        None
-    } else {
-        Some(IllegalCause::MarkDiffers)
-    }
-}
-
-fn refused_start(
-    plan: &Plan,
-    lots: &[Lot],
-    standings: &[Standing],
-    place: u32,
-    by: u32,
-) -> Option<IllegalCause>
-    requires named { All IsNamed plan.now.jobs }
-    requires places { length lots.now ≡ length plan.now.jobs }
-    requires within { place < length plan.now.jobs }
-    ensures { result ≡ refused_act (opening_of plan.now lots.now standings.now)
-        (state_of lots.now standings.now) (Event.Start place by) }
+        (state_of lots.now standings.now)
+        (if keeps then Event.Keep place by else Event.Start place by) }
 {
     if let Some(cause) = not_free(lots, standings, place, by) {
         return Some(cause);
@@ -174,7 +150,14 @@ fn refused_start(
     if let Some(need) = open_need {
         return Some(IllegalCause::NeedNotBuilt { need });
     }
-    if stands(job, lots, &lots[place as usize]) {
+    let stands = stands(job, lots, &lots[place as usize]);
+    if keeps {
+        if stands {
+            None
+        } else {
+            Some(IllegalCause::MarkDiffers)
+        }
+    } else if stands {
         Some(IllegalCause::MarkMatches)
     } else {
         None
