@@ -26,30 +26,30 @@ module _ (nature : Nature) (o : Opening) (planned : ArePlanned o.plan.jobs) (fir
     (young : IsYoung first.counts) where
   -- ---- however it ended
 
-  pub ends_legal : (now : Station) (fault : Option BuildFault) → Ends nature o first now fault → Legal o now.events
+  ends_legal : (now : Station) (fault : Option BuildFault) → Ends nature o first now fault → Legal o now.events
   ends_legal now None ended = ended.0.legal
   ends_legal now (Some fault) (last, station, unmade place free same is) = subst (λ (n : Station). Legal o n.events) (sym same) station.legal
   ends_legal now (Some fault) (last, station, worked came w told) = legal_works nature o came last now w station.legal
 
-  pub ends_faithful : (now : Station) (fault : Option BuildFault) → Ends nature o first now fault → nature.honest → Faithful nature.compile o now.events
+  ends_faithful : (now : Station) (fault : Option BuildFault) → Ends nature o first now fault → nature.honest → Faithful nature.compile o now.events
   ends_faithful now None ended honest = ended.0.faithful honest
   ends_faithful now (Some fault) (last, station, unmade place free same is) honest = subst (λ (n : Station). Faithful nature.compile o n.events) (sym same)
       (station.faithful honest)
   ends_faithful now (Some fault) (last, station, worked came w told) honest = faithful_works nature o came last now w honest (station.faithful honest)
 
-  pub ends_agree : (now : Station) (fault : Option BuildFault) → Ends nature o first now fault → nature.honest → Sound nature.compile o
+  ends_agree : (now : Station) (fault : Option BuildFault) → Ends nature o first now fault → nature.honest → Sound nature.compile o
       → Agrees (replay o now.events).fates (seq nature.compile o.plan.jobs)
   ends_agree now fault ended honest sound = confluent nature.compile o now.events planned sound (ends_legal now fault ended)
       (ends_faithful now fault ended honest)
 
-  pub ends_left : (now : Station) (fault : Option BuildFault) → Ends nature o first now fault
+  ends_left : (now : Station) (fault : Option BuildFault) → Ends nature o first now fault
       → AreLeft o (replay o now.events).fates first.folders now.folders
   ends_left now None ended = station_left nature o planned first ready young now ended.0
   ends_left now (Some fault) (last, station, unmade place free same is) =
       subst (λ (n : Station). AreLeft o (replay o n.events).fates first.folders n.folders) (sym same) (station_left nature o planned first ready young last station)
   ends_left now (Some fault) (last, station, worked came w told) = cut_left nature o planned first ready young last now station came w fault told
 
-  pub ends_stay : (now : Station) (fault : Option BuildFault) → Ends nature o first now fault → nature.honest → Sound nature.compile o
+  ends_stay : (now : Station) (fault : Option BuildFault) → Ends nature o first now fault → nature.honest → Sound nature.compile o
       → StayFor nature.compile (inputs_of nature.compile o.plan.jobs) first.folders now.folders
   ends_stay now None ended honest sound = ended.0.stay honest sound
   ends_stay now (Some fault) (last, station, unmade place free same is) honest sound =
@@ -57,7 +57,7 @@ module _ (nature : Nature) (o : Opening) (planned : ArePlanned o.plan.jobs) (fir
   ends_stay now (Some fault) (last, station, worked came w told) honest sound =
       stay_worked nature o came first last now w (agrees_now nature o planned first last ready station honest sound) honest (station.stay honest sound)
 
-  pub ends_counts : (now : Station) (fault : Option BuildFault) → Ends nature o first now fault → CountsOf nature.lasting now.events first.counts now.counts
+  ends_counts : (now : Station) (fault : Option BuildFault) → Ends nature o first now fault → CountsOf nature.lasting now.events first.counts now.counts
   ends_counts now None ended = station_counts nature o planned first ready young now ended.0
   ends_counts now (Some fault) (last, station, unmade place free same is) =
       subst (λ (n : Station). CountsOf nature.lasting n.events first.counts n.counts) (sym same) (station_counts nature o planned first ready young last station)
@@ -92,11 +92,40 @@ module _ (nature : Nature) (o : Opening) (planned : ArePlanned o.plan.jobs) (fir
       ending_cut nature o planned first ready young one last now station came fault w told is
       (λ have. cut_open nature o planned first ready young last now station came w fault told (subst (HaveFates (length o.plan.jobs)) fates have))
 
-  pub ends_ending : (one : One) (now : Station) → one.fates.items ≡ (replay o now.events).fates → Ends nature o first now one.fault
-      → IsEnding one (length o.plan.jobs) now.counts.deaths now.folders
-  ends_ending one now fates ended = ending_at one now one.fault refl fates ended
-
-  pub ends_runs : (now : Station) (fault : Option BuildFault) → fault ≡ None → Ends nature o first now fault → nature.honest → Sound nature.compile o
+  ends_runs : (now : Station) (fault : Option BuildFault) → fault ≡ None → Ends nature o first now fault → nature.honest → Sound nature.compile o
       → now.counts.runs ≡ first.counts.runs + count_below (is_compiled nature.compile o) (length o.plan.jobs)
   ends_runs now None is ended honest sound = station_runs nature o planned first ready young now ended.0 ended.1 honest sound
   ends_runs now (Some fault) is ended honest sound = cc
+
+-- a build from its beginning to its end
+pub record Built (nature : Nature) (o : Opening) (first now : Station) (fault : Option BuildFault) : Type 0 where
+  pub planned : ArePlanned o.plan.jobs
+  pub ready : AreReady o first.folders
+  pub young : IsYoung first.counts
+  pub ends : Ends nature o first now fault
+
+module _ {nature : Nature} {o : Opening} {first now : Station} {fault : Option BuildFault} (b : Built nature o first now fault) where
+  pub built_legal : Legal o now.events
+  built_legal = ends_legal nature o b.planned first b.ready b.young now fault b.ends
+
+  pub built_faithful : nature.honest → Faithful nature.compile o now.events
+  built_faithful = ends_faithful nature o b.planned first b.ready b.young now fault b.ends
+
+  pub built_agree : nature.honest → Sound nature.compile o → Agrees (replay o now.events).fates (seq nature.compile o.plan.jobs)
+  built_agree = ends_agree nature o b.planned first b.ready b.young now fault b.ends
+
+  pub built_left : AreLeft o (replay o now.events).fates first.folders now.folders
+  built_left = ends_left nature o b.planned first b.ready b.young now fault b.ends
+
+  pub built_stay : nature.honest → Sound nature.compile o → StayFor nature.compile (inputs_of nature.compile o.plan.jobs) first.folders now.folders
+  built_stay = ends_stay nature o b.planned first b.ready b.young now fault b.ends
+
+  pub built_counts : CountsOf nature.lasting now.events first.counts now.counts
+  built_counts = ends_counts nature o b.planned first b.ready b.young now fault b.ends
+
+  pub built_ending : (one : One) → one.fault ≡ fault → one.fates.items ≡ (replay o now.events).fates → IsEnding one (length o.plan.jobs) now.counts.deaths now.folders
+  built_ending one is fates = ending_at nature o b.planned first b.ready b.young one now fault is fates b.ends
+
+  pub built_runs : fault ≡ None → nature.honest → Sound nature.compile o
+      → now.counts.runs ≡ first.counts.runs + count_below (is_compiled nature.compile o) (length o.plan.jobs)
+  built_runs none = ends_runs nature o b.planned first b.ready b.young now fault none b.ends

@@ -4,6 +4,7 @@ use Rattle.std.specs.List.{list_any}
 use Rattle.std.proofs.lemmas.List.{length-replicate, length-set, map-set}
 use Rattle.std.proofs.lemmas.Option.{slice_get-map, slice_get_read, slice_get_within}
 use Rattle.compile_model.specs.declared.job.Job.{Job}
+use Rattle.compile_model.specs.declared.job.Plan.{Plan}
 use Rattle.compile_model.specs.declared.outcome.Outcome.{Outcome}
 use Rattle.compile_model.specs.Content.{Content, content_of}
 use Rattle.partition_core.specs.declared.event.Event.{Event}
@@ -13,6 +14,7 @@ use Rattle.partition_core.specs.declared.event.Standing.TheVariants.{Idle, Runs,
 use Rattle.partition_core.specs.State.{Opening, State, first_open, is_run, is_running, missing, needs_at, needs_of, outcomes_now, start_of}
 use Rattle.partition_core.specs.Steps.{Holds, IsLegal, after}
 use Rattle.partition_core.specs.Histories.{IsFaithful, after_all, replay}
+use Rattle.partition_core.specs.Story.{Story, state_now}
 use Rattle.partition_core.proofs.Places.{set_same}
 use Rattle.partition_core.proofs.Tidy.{places_all, replay_more}
 use Rattle.honest_tree.specs.Given.{outcome_of}
@@ -23,6 +25,7 @@ use Rattle.partition_crew.specs.Station.Cuts.{worked}
 use Rattle.partition_crew.specs.Station.Moves.{works}
 use Rattle.partition_crew.specs.Work.{IsMeant, given_by}
 use Rattle.partition_crew.proofs.Growing.{one_each}
+use Rattle.partition_crew.proofs.Planning.{job_here}
 
 -- what holds where it is told holds of what tells
 pub told_must : (X P : Type 0) (told : Option X) → IsSome told → IfSome told (λ _. P) → P
@@ -46,6 +49,14 @@ pub start_within : (o : Opening) (events : List Event) (place : ℕ) → IsLegal
 start_within o events place legal =
     let below : place < length (replay o events).fates = slice_get_within (replay o events).fates place None legal.0.open_place in
     omega (arith, below, places_all o events)
+
+-- the job that is read there once it is started
+pub start_job : (core story : Story) (place : ℕ) (plan : Plan) (items : List Job) (job : Job) → IsLegal core.opening (state_now core) (Start place 1)
+    → story.opening ≡ core.opening → plan ≡ story.opening.plan → items ≡ plan.jobs → job ≡ get_or items place job
+    → slice_get core.opening.plan.jobs place ≡ Some job
+start_job core story place plan items job legal same is read found =
+    job_here items core.opening.plan.jobs place job
+    (read ∙ ap (λ (p : Plan). p.jobs) is ∙ ap (λ (o : Opening). o.plan.jobs) same) (start_within core.opening core.events place legal) found
 
 pub start_ready : (o : Opening) (s : State) (place : ℕ) (job : Job) → slice_get o.plan.jobs place ≡ Some job → missing o s place ≡ None
     → first_open s.fates job.needs ≡ None

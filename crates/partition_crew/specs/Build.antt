@@ -109,25 +109,14 @@ pub record StayFor (compile : Content → Outcome) (more : List Given) (old new 
 
 -- given back by a partition that died
 abbrev pub is_death : Event → Bool
-is_death (Keep place by) = false
-is_death (Start place by) = false
-is_death (Finish place by outcome) = false
-is_death (Fail place by outcome) = false
-is_death (Skip place need by) = false
 is_death (Back place by back.Died) = true
-is_death (Back place by back.Tree) = false
-is_death (Back place by back.Memory) = false
+is_death event = false
 
 -- given back because the folder failed or memory ran out, perhaps before the run
 abbrev pub is_undone : Event → Bool
-is_undone (Keep place by) = false
-is_undone (Start place by) = false
-is_undone (Finish place by outcome) = false
-is_undone (Fail place by outcome) = false
-is_undone (Skip place need by) = false
-is_undone (Back place by back.Died) = false
 is_undone (Back place by back.Tree) = true
 is_undone (Back place by back.Memory) = true
+is_undone event = false
 
 -- a run for each start, but perhaps none for those that were undone; a death for each that was given back by one that died
 pub record CountsOf (lasting : Type 0) (history : List Event) (old new : Counts) : Type 0 where

@@ -8,7 +8,8 @@ use Rattle.compile_model.specs.declared.outcome.Outcome.{Outcome}
 use Rattle.compile_model.specs.declared.outcome.Twin.{Twin}
 use Rattle.compile_model.specs.declared.outcome.Verdict.{Verdict}
 use Rattle.compile_model.specs.Content.{Content, outcome_with}
-use Rattle.build_manifest.specs.MarkOf.{mark_of}
+use Rattle.compile_model.specs.Planned.{IsNamed}
+use Rattle.build_manifest.specs.MarkOf.{AppsDiffer, mark_of}
 use Rattle.build_manifest.specs.Text.{Spells}
 use Rattle.tree_store.specs.declared.holding.Holding.{Holding}
 use Rattle.tree_store.specs.FolderKnown.{FolderKnown, StopsIn}
@@ -36,6 +37,12 @@ given_at plan place needs = option_map (λ job. given_by job needs) (slice_get p
 -- one outcome for each need
 abbrev pub HasNeeds : Given → Type 0
 HasNeeds given = length given.needs ≡ length given.job.needs
+
+-- an outcome of the job has a mark: its needs have names that differ, and each has its outcome
+pub record CanBeMarked (job : Job) (outcomes : List Outcome) : Type 0 where
+  pub named : IsNamed job
+  pub apart : AppsDiffer job.need_apps
+  pub needs : length outcomes ≡ length job.needs
 
 -- ---- what is written
 
@@ -131,27 +138,19 @@ pub record StaysHonest (compile : Content → Outcome) (given : Given) (old new 
 
 -- the partition died
 abbrev pub has_died : Worked → Bool
-has_died (Finished twin) = false
-has_died (Failed twin) = false
 has_died Died = true
-has_died TreeFault = false
-has_died NoMemory = false
+has_died worked = false
 
 -- the folder failed
 abbrev pub tree_failed : Worked → Bool
-tree_failed (Finished twin) = false
-tree_failed (Failed twin) = false
-tree_failed Died = false
 tree_failed TreeFault = true
-tree_failed NoMemory = false
+tree_failed worked = false
 
 -- the partition ran
 abbrev pub has_run : Worked → Bool
-has_run (Finished twin) = true
-has_run (Failed twin) = true
-has_run Died = true
 has_run TreeFault = false
 has_run NoMemory = false
+has_run worked = true
 
 -- one run at most, and a death exactly where it died
 pub record IsCounted (lasting : Type 0) (old new : Counts) (worked : Worked) : Type 0 where

@@ -13,7 +13,7 @@ ghost use Rattle.honest_tree.specs.Given.{Given, outcome_of};
 ghost use Rattle.honest_tree.specs.Honest.{IsHonest};
 ghost use Rattle.partition_face.specs.Counts.{CanRun};
 ghost use Rattle.partition_face.specs.Runs.{IsVerdictOf, NeverMarks};
-ghost use Rattle.partition_crew.specs.Work.{IsAsBefore, IsCompiled, IsCounted, IsDone, IsTwinOf, StaysHonest, Touches, Wrote, emptied, given_by, outcome_by, tree_failed, whole, worked_of};
+ghost use Rattle.partition_crew.specs.Work.{CanBeMarked, IsAsBefore, IsCompiled, IsCounted, IsDone, IsTwinOf, StaysHonest, Touches, Wrote, emptied, given_by, outcome_by, tree_failed, whole, worked_of};
 
 use build_manifest::{mark_of, write_mark};
 use compile_model::{Input, Job, Outcome, Twin, Verdict};
@@ -70,9 +70,7 @@ fn settle<F: Folder>(
     verdict: Verdict,
     folder: &mut F,
 ) -> Result<Twin, StoreFault>
-    requires named { IsNamed input.now.job.now }
-    requires apart { AppsDiffer input.now.job.now.need_apps }
-    requires needs { length input.now.needs.now ≡ length input.now.job.now.needs }
+    requires marked { CanBeMarked input.now.job.now input.now.needs.now }
     requires unmarked { IsUnmarked (F.known folder.old) }
     ensures compiled { IfOk result (λ twin. IsCompiled
         (given_by input.now.job.now input.now.needs.now) twin (F.known folder.old)
@@ -102,9 +100,7 @@ fn finish<F: Folder>(
     text: Bytes,
     folder: &mut F,
 ) -> Result<Twin, StoreFault>
-    requires named { IsNamed input.now.job.now }
-    requires apart { AppsDiffer input.now.job.now.need_apps }
-    requires needs { length input.now.needs.now ≡ length input.now.job.now.needs }
+    requires marked { CanBeMarked input.now.job.now input.now.needs.now }
     requires unmarked { IsUnmarked (F.known folder.old) }
     ensures compiled { IfOk result (λ twin. IsCompiled
         (given_by input.now.job.now input.now.needs.now) twin (F.known folder.old)
@@ -138,9 +134,7 @@ fn outcome_in<F: Folder>(alloc: Global, text: Bytes, folder: &mut F) -> Result<O
 
 // The text of the mark of an input and its outcome.
 fn mark_text(alloc: Global, input: &Input<'_>, outcome: &Outcome) -> Result<Bytes, AllocError>
-    requires named { IsNamed input.now.job.now }
-    requires apart { AppsDiffer input.now.job.now.need_apps }
-    requires needs { length input.now.needs.now ≡ length input.now.job.now.needs }
+    requires marked { CanBeMarked input.now.job.now input.now.needs.now }
     ensures { IfOk result (λ bytes. Spells bytes
         (mark_of input.now.job.now input.now.needs.now outcome.now)) }
 {

@@ -14,8 +14,8 @@ use Rattle.partition_core.proofs.Tidy.{replay_more}
 use Rattle.partition_crew.specs.Station.{WorksIn, WorksOn, event_by, nature_by, station_by}
 use Rattle.partition_crew.specs.Station.Cuts.{unmade}
 use Rattle.partition_crew.specs.Work.{given_by}
-use Rattle.partition_crew.proofs.Planning.{job_here, planned_differ, planned_named}
-use Rattle.partition_crew.proofs.Starting.{meant_event, start_each, start_holds, start_outcomes, start_within, advances_told}
+use Rattle.partition_crew.proofs.Planning.{planned_differ, planned_named}
+use Rattle.partition_crew.proofs.Starting.{advances_told, meant_event, start_each, start_holds, start_job, start_outcomes, start_within}
 use Rattle.partition_crew.proofs.advancing.start.Goals as goal
 
 pub outcomes-requires : goal.outcomes-requires
@@ -39,20 +39,16 @@ pub compile_at-worked-requires-clause-named : goal.compile_at-worked-requires-cl
 compile_at-worked-requires-clause-named g c κs within =
     let o = c.args.core.now.opening in
     let job : Job = c.index-as_slice-place.result in
-    let read : c.as_slice.result.now ≡ o.plan.jobs = c.as_slice.ensures ∙ ap (λ (plan : Plan). plan.jobs) c.plan.ensures.value
-    ∙ ap (λ (story : Story). story.opening.plan.jobs) c.make.ensures in
-    let here = job_here c.as_slice.result.now o.plan.jobs c.args.place job read
-    (start_within o c.args.core.now.events c.args.place c.requires.legal) c.index-as_slice-place.is in
+    let here = start_job c.args.core.now c.make.new.core c.args.place _ c.as_slice.result.now job c.requires.legal
+    (ap (λ (story : Story). story.opening) c.make.ensures) c.plan.ensures.value c.as_slice.ensures c.index-as_slice-place.is in
     planned_named o.plan.jobs c.args.place job (subst (λ (story : Story). ArePlanned story.opening.plan.jobs) c.make.ensures c.plan.ensures.planned) here
 
 pub compile_at-worked-requires-clause-apart : goal.compile_at-worked-requires-clause-apart
 compile_at-worked-requires-clause-apart g c κs within =
     let o = c.args.core.now.opening in
     let job : Job = c.index-as_slice-place.result in
-    let read : c.as_slice.result.now ≡ o.plan.jobs = c.as_slice.ensures ∙ ap (λ (plan : Plan). plan.jobs) c.plan.ensures.value
-    ∙ ap (λ (story : Story). story.opening.plan.jobs) c.make.ensures in
-    let here = job_here c.as_slice.result.now o.plan.jobs c.args.place job read
-    (start_within o c.args.core.now.events c.args.place c.requires.legal) c.index-as_slice-place.is in
+    let here = start_job c.args.core.now c.make.new.core c.args.place _ c.as_slice.result.now job c.requires.legal
+    (ap (λ (story : Story). story.opening) c.make.ensures) c.plan.ensures.value c.as_slice.ensures c.index-as_slice-place.is in
     planned_differ o.plan.jobs c.args.place job (subst (λ (story : Story). ArePlanned story.opening.plan.jobs) c.make.ensures c.plan.ensures.planned) here
 
 pub compile_at-worked-requires-clause-needs : goal.compile_at-worked-requires-clause-needs
@@ -60,10 +56,8 @@ compile_at-worked-requires-clause-needs g c κs within =
     let o = c.args.core.now.opening in
     let s : State = state_now c.args.core.now in
     let job : Job = c.index-as_slice-place.result in
-    let read : c.as_slice.result.now ≡ o.plan.jobs = c.as_slice.ensures ∙ ap (λ (plan : Plan). plan.jobs) c.plan.ensures.value
-    ∙ ap (λ (story : Story). story.opening.plan.jobs) c.make.ensures in
-    let here = job_here c.as_slice.result.now o.plan.jobs c.args.place job read
-    (start_within o c.args.core.now.events c.args.place c.requires.legal) c.index-as_slice-place.is in
+    let here = start_job c.args.core.now c.make.new.core c.args.place _ c.as_slice.result.now job c.requires.legal
+    (ap (λ (story : Story). story.opening) c.make.ensures) c.plan.ensures.value c.as_slice.ensures c.index-as_slice-place.is in
     ap length (c.as_slice-2.ensures.value ∙ c.in_ok-needs.ensures ∙ start_outcomes o s c.args.place job here)
     ∙ start_each o s c.args.place job here c.requires.legal.1
 
@@ -84,10 +78,8 @@ tell-requires-clause-meant g c = λ honest.
     let compile = g.P.Meaning.compile_of in
     let event : Event = event_by c.args.place c.compile_at-worked.result in
     let job : Job = c.index-as_slice-place.result in
-    let read : c.as_slice.result.now ≡ o.plan.jobs = c.as_slice.ensures ∙ ap (λ (plan : Plan). plan.jobs) c.plan.ensures.value
-    ∙ ap (λ (story : Story). story.opening.plan.jobs) c.make.ensures in
-    let here = job_here c.as_slice.result.now o.plan.jobs c.args.place job read
-    (start_within o c.args.core.now.events c.args.place c.requires.legal) c.index-as_slice-place.is in
+    let here = start_job c.args.core.now c.make.new.core c.args.place _ c.as_slice.result.now job c.requires.legal
+    (ap (λ (story : Story). story.opening) c.make.ensures) c.plan.ensures.value c.as_slice.ensures c.index-as_slice-place.is in
     let needs : c.as_slice-2.result.now ≡ outcomes_now s.fates job.needs = c.as_slice-2.ensures.value ∙ c.in_ok-needs.ensures
     ∙ start_outcomes o s c.args.place job here in
     let nature = nature_by (g.P.Meaning.honest × g.F.Folder.tells) g.P.Partition.lasting compile in
@@ -105,10 +97,8 @@ returns-clause-advances g c =
     let compile = g.P.Meaning.compile_of in
     let event : Event = event_by c.args.place c.compile_at-worked.result in
     let job : Job = c.index-as_slice-place.result in
-    let read : c.as_slice.result.now ≡ o.plan.jobs = c.as_slice.ensures ∙ ap (λ (plan : Plan). plan.jobs) c.plan.ensures.value
-    ∙ ap (λ (story : Story). story.opening.plan.jobs) c.make.ensures in
-    let here = job_here c.as_slice.result.now o.plan.jobs c.args.place job read
-    (start_within o c.args.core.now.events c.args.place c.requires.legal) c.index-as_slice-place.is in
+    let here = start_job c.args.core.now c.make.new.core c.args.place _ c.as_slice.result.now job c.requires.legal
+    (ap (λ (story : Story). story.opening) c.make.ensures) c.plan.ensures.value c.as_slice.ensures c.index-as_slice-place.is in
     let needs : c.as_slice-2.result.now ≡ outcomes_now s.fates job.needs = c.as_slice-2.ensures.value ∙ c.in_ok-needs.ensures
     ∙ start_outcomes o s c.args.place job here in
     let nature = nature_by (g.P.Meaning.honest × g.F.Folder.tells) g.P.Partition.lasting compile in

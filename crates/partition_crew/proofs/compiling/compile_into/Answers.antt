@@ -31,6 +31,9 @@ returns-in_err-verdict-clause-honest g c = λ honest.
     stays_then compile given (g.F.Folder.known c.args.folder.now) b ran c.in_ok-empty.ensures.stops
     (λ known. stops_never compile (given ∷ known) b ran c.run.ensures.unmarked)
 
+pub settle-requires-clause-marked : goal.settle-requires-clause-marked
+settle-requires-clause-marked g c = record { named = c.requires.named; apart = c.requires.apart; needs = c.requires.needs }
+
 pub settle-requires-clause-unmarked : goal.settle-requires-clause-unmarked
 settle-requires-clause-unmarked g c = stops_end (λ h. h.mark ≡ None) (g.F.Folder.known c.empty.new.folder)
     (g.F.Folder.known c.run.new.folder) c.run.ensures.unmarked
