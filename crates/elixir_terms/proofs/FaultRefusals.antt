@@ -27,7 +27,7 @@ use Rattle.elixir_terms.proofs.KeyTokens.{single_last}
 use Rattle.term_tokens.proofs.BlankLemmas.{blanks_stop}
 use Rattle.elixir_terms.proofs.SnagLemmas.{NotDone, HasRoomFor, fault_stop, fault_least}
 use Rattle.term_tokens.proofs.NameLemmas.{test_from_ends, colon_ends}
-use Rattle.term_tokens.proofs.TokenLemmas.{bare_named}
+use Rattle.term_tokens.proofs.BeginLemmas.{bare_named}
 use Rattle.elixir_terms.proofs.Meaning.{Wants}
 use Rattle.elixir_terms.proofs.OpenLemmas.{runs, start, passes, step_taken, key_expected, passed_back}
 use Rattle.term_tokens.proofs.OptionLemmas.{some_same}

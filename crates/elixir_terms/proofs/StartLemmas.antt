@@ -21,7 +21,7 @@ use Rattle.elixir_terms.proofs.PrefixLemmas.{AllSound, next_sound, takes_steps}
 use Rattle.elixir_terms.proofs.Runs.{first_wants}
 use Rattle.elixir_terms.proofs.SoundLemmas.{need}
 use Rattle.term_tokens.proofs.TokenLaws.{begins_one, begins_solid, begins_shorter}
-use Rattle.term_tokens.proofs.TokenLemmas.{begins_first}
+use Rattle.term_tokens.proofs.BeginLemmas.{begins_first}
 
 -- what begins with `~w(` begins with words, if it begins with a token
 pub words_only : {text : List ℕ} {tok : Token} {after : List ℕ} (more : List ℕ) → text ≡ 126 ∷ 119 ∷ 40 ∷ more → Begins text tok after → (kind : WordKind) × (ws : List (List ℕ)) × (tok ≡ Words kind ws)

@@ -23,7 +23,7 @@ use Rattle.term_tokens.proofs.OptionLemmas.{some_same}
 use Rattle.elixir_terms.proofs.PlaceLemmas.{there, behind}
 use Rattle.elixir_terms.proofs.PrefixLemmas.{AllSound, step_open}
 use Rattle.elixir_terms.proofs.ShutLemmas.{is_single, is_joint, joint_byte, IsPlaced, second_joint, placed_joins}
-use Rattle.term_tokens.proofs.TokenLemmas.{start_not}
+use Rattle.term_tokens.proofs.BeginLemmas.{start_not}
 use Rattle.elixir_terms.proofs.TrailLemmas.{Trail}
 
 -- what holds near a place between two tokens

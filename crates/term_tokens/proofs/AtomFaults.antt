@@ -16,11 +16,15 @@ use Rattle.term_tokens.specs.Local.{rank, takes, IsPart, IsShut, IsOpening, Loca
 use Rattle.term_tokens.specs.Names.{is_name_start}
 use Rattle.term_tokens.specs.Strings.{Quoted, opens_interpolation}
 use Rattle.term_tokens.specs.Tokens.{quoted_atom}
-use Rattle.term_tokens.proofs.FaultLemmas.{Right, IsNone, IsBroken, ColonMark, colon_broken, colon_utf8, first_by, unexpected_at, unclosed_at, at_once, shut_none, shut_taken, broken_by_slash, broken_by_opening, opens_found, broken_one, broken_some, broken_no_quote}
+use Rattle.term_tokens.proofs.FaultLemmas.{Right, first_by, unexpected_at, unclosed_at, at_once, shut_none, shut_taken, broken_by_slash, broken_by_opening, opens_found, broken_one, broken_some, broken_no_quote}
+use Rattle.term_tokens.proofs.FaultForms.{IsNone, IsBroken, ColonMark, colon_broken, colon_utf8}
 use Rattle.term_tokens.proofs.OptionLemmas.{none_some, some_same, map_some}
-use Rattle.term_tokens.proofs.StringLemmas.{spelt_sound, broken_stop, no_escape, utf8_found, utf8_kept, quoted_is_spelt, quoted_from_spelt}
-use Rattle.term_tokens.proofs.StuckLemmas.{Opens, Never, Stuck, Walked, walked, free_front}
-use Rattle.term_tokens.proofs.TokenLemmas.{begins_first, first_begins, name_atom_more}
+use Rattle.term_tokens.proofs.StringLemmas.{spelt_sound, broken_stop, no_escape, quoted_is_spelt, quoted_from_spelt}
+use Rattle.term_tokens.proofs.StringParts.{utf8_found, utf8_kept}
+use Rattle.term_tokens.proofs.StuckItems.{Opens, Never, Stuck}
+use Rattle.term_tokens.proofs.StuckLemmas.{Walked, walked, free_front}
+use Rattle.term_tokens.proofs.BeginLemmas.{begins_first, name_atom_more}
+use Rattle.term_tokens.proofs.TokenLemmas.{first_begins}
 
 -- the token is an atom
 

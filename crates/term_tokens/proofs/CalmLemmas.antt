@@ -19,9 +19,9 @@ use Rattle.term_tokens.specs.Tokens.{ends_name, is_colon, Begins, bare_atom, int
 use Rattle.term_tokens.specs.Words.{is_inside}
 use Rattle.term_tokens.proofs.NameLemmas.{ends_from_test, colon_ends}
 use Rattle.term_tokens.proofs.OptionLemmas.{none_some, some_same, cond_some, map_some}
-use Rattle.term_tokens.proofs.StringLemmas.{escape_complete, escape_sound, quoted_complete, quoted_drop, utf8_refused}
+use Rattle.term_tokens.proofs.StringParts.{escape_complete, escape_sound, quoted_complete, quoted_drop, utf8_refused}
 use Rattle.term_tokens.proofs.TokenLaws.{begins_one}
-use Rattle.term_tokens.proofs.TokenLemmas.{begins_first, name_first, start_is_name, name_more, colon_key, colon_none, bytes_same, bare_named}
+use Rattle.term_tokens.proofs.BeginLemmas.{begins_first, name_first, start_is_name, name_more, colon_key, colon_none, bytes_same, bare_named}
 
 -- what is refused although a token stands there
 pub data Marred : List ℕ → Token → List ℕ → ℕ → TermCause → Type 0 where

@@ -8,7 +8,7 @@ use Rattle.term_tokens.specs.Local.{starts_with, IsFree}
 use Rattle.term_tokens.specs.Names.{is_name, is_name_byte, is_bare_atom}
 use Rattle.term_tokens.specs.Tokens.{ends_name, ends_integer, ends_words, is_colon, opening, closing, Begins, bare_atom, atom, quoted_atom, integer, string, words, key, quoted_key, opens, closes, comma, arrow, Blanks, none, blank, comment, line_end}
 use Rattle.term_tokens.proofs.NameLemmas.{name_break}
-use Rattle.term_tokens.proofs.TokenLemmas.{bytes_same}
+use Rattle.term_tokens.proofs.BeginLemmas.{bytes_same}
 
 -- what goes on as the rest does, as far as what stands before it can see: nothing, a line feed, or the same byte
 pub data Like : List ℕ → List ℕ → Type 0 where

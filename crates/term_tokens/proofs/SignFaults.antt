@@ -15,9 +15,11 @@ use Rattle.term_tokens.specs.Lexed.{second_lexed, sign_lexed}
 use Rattle.term_tokens.specs.Lexing.{first_token, sign_or_name, IsNarrow}
 use Rattle.term_tokens.specs.Local.{starts_with, is_plain, is_closing, takes, IsShut, Locally, charlist, bits}
 use Rattle.term_tokens.specs.Names.{is_name_start}
-use Rattle.term_tokens.proofs.FaultLemmas.{Right, lead, at_sign, SignMark, sign_charlist, sign_bits, Marked, Least, first_by, unexpected_at, unclosed_at, at_once, shut_none, shut_taken}
+use Rattle.term_tokens.proofs.FaultLemmas.{Right, first_by, unexpected_at, unclosed_at, at_once, shut_none, shut_taken}
+use Rattle.term_tokens.proofs.FaultForms.{lead, SignMark, Marked, Least, at_sign, sign_charlist, sign_bits}
 use Rattle.term_tokens.proofs.OptionLemmas.{none_some, some_same}
-use Rattle.term_tokens.proofs.TokenLemmas.{begins_first, first_begins}
+use Rattle.term_tokens.proofs.BeginLemmas.{begins_first}
+use Rattle.term_tokens.proofs.TokenLemmas.{first_begins}
 
 -- no sign of what is not read begins so
 no_mark : (e : Expected) (byte : ℕ) (text : List ℕ) (place : ℕ) (why : TermCause) → eqb byte 39 ≡ false → eqb byte 60 ≡ false → SignMark e (byte ∷ text) place why → ⊥

@@ -15,14 +15,15 @@ use Rattle.term_tokens.specs.Names.{is_name_start}
 use Rattle.term_tokens.specs.Refused.{is_memory}
 use Rattle.term_tokens.specs.Tokens.{Begins}
 use Rattle.term_tokens.proofs.AtomFaults.{atom_right}
-use Rattle.term_tokens.proofs.FaultLemmas.{Right, Marked, lead, no_fault, unclosed_at}
+use Rattle.term_tokens.proofs.FaultLemmas.{Right, no_fault, unclosed_at}
+use Rattle.term_tokens.proofs.FaultForms.{Marked, lead}
 use Rattle.term_tokens.proofs.IntegerFaults.{integer_right}
 use Rattle.term_tokens.proofs.NameFaults.{name_right}
 use Rattle.term_tokens.proofs.OptionLemmas.{none_some}
 use Rattle.term_tokens.proofs.SignFaults.{sign_right}
 use Rattle.term_tokens.proofs.StringFaults.{string_right}
 use Rattle.term_tokens.proofs.TokenLaws.{begins_shorter}
-use Rattle.term_tokens.proofs.TokenLemmas.{begins_first}
+use Rattle.term_tokens.proofs.BeginLemmas.{begins_first}
 use Rattle.term_tokens.proofs.WordFaults.{words_right}
 
 -- the answer is right

@@ -12,7 +12,7 @@ use Rattle.term_tokens.specs.Lexing.{past_blank, first_token}
 use Rattle.term_tokens.proofs.BlankLemmas.{blanks_meet}
 use Rattle.term_tokens.proofs.IntegerLemmas.{numeral_first}
 use Rattle.term_tokens.proofs.OptionLemmas.{none_some, some_same}
-use Rattle.term_tokens.proofs.TokenLemmas.{begins_first}
+use Rattle.term_tokens.proofs.BeginLemmas.{begins_first}
 
 -- a text begins with one token at most
 pub begins_one : {text : List ℕ} {a b : Token} {r s : List ℕ} → Begins text a r → Begins text b s → (a ≡ b) × (r ≡ s)

@@ -17,11 +17,13 @@ use Rattle.term_tokens.specs.Local.{rank, starts_with, takes, IsPart, Locally, s
 use Rattle.term_tokens.specs.Strings.{opens_interpolation}
 use Rattle.term_tokens.specs.Tokens.{words}
 use Rattle.term_tokens.specs.Words.{is_inside, none}
-use Rattle.term_tokens.proofs.FaultLemmas.{Right, Least, IsBroken, TildeMark, tilde_sigil, tilde_broken, first_by, unclosed_at, at_once, shut_taken, broken_by_slash, broken_by_opening, broken_one, broken_some, broken_no_brace}
+use Rattle.term_tokens.proofs.FaultLemmas.{Right, first_by, unclosed_at, at_once, shut_taken, broken_by_slash, broken_by_opening, broken_one, broken_some, broken_no_brace}
+use Rattle.term_tokens.proofs.FaultForms.{Least, IsBroken, TildeMark, tilde_sigil, tilde_broken}
 use Rattle.term_tokens.proofs.OptionLemmas.{none_some, some_same, cond_some}
 use Rattle.term_tokens.proofs.StringLemmas.{opens_before}
-use Rattle.term_tokens.proofs.TokenLemmas.{begins_first, first_begins}
-use Rattle.term_tokens.proofs.WordLemmas.{inside_sound, cut_sound}
+use Rattle.term_tokens.proofs.BeginLemmas.{begins_first}
+use Rattle.term_tokens.proofs.TokenLemmas.{first_begins}
+use Rattle.term_tokens.proofs.ListedWords.{inside_sound, cut_sound}
 
 -- the token is a list of words
 words_token : (text : List ℕ) (found : Token × List ℕ) → words_at text ≡ Some found → (kind : WordKind) × (words : List (List ℕ)) × (found.0 ≡ Words kind words)

@@ -169,7 +169,7 @@ fn no_key<'a>(bytes: Bytes, rest: &'a [u8], expected: Expected) -> Result<(Token
 }
 
 /// The bytes as a text, where they are UTF-8.
-#[tactic(auto, using(crate::proofs::StringLemmas::utf8_kept, crate::proofs::StringLemmas::utf8_refused))]
+#[tactic(auto, using(crate::proofs::StringParts::utf8_kept, crate::proofs::StringParts::utf8_refused))]
 fn utf8_text(bytes: Bytes) -> Option<Text>
     ensures { option_map (λ text. text) result ≡ utf8_only bytes }
 {
@@ -274,7 +274,7 @@ fn byte_escape(text: &[u8]) -> Option<(Spelled, usize)>
 }
 
 /// The scalar value of one to six hexadecimal digits before `}`, after `u{`.
-#[tactic(auto, using(crate::proofs::StringLemmas::hex_digits))]
+#[tactic(auto, using(crate::proofs::StringParts::hex_digits))]
 fn scalar_escape(text: &[u8]) -> Option<(Spelled, usize)>
     ensures value { option_map (λ found. (spelled found.0, found.1)) result
         ≡ scalar_of (hex_len text.now) text.now }

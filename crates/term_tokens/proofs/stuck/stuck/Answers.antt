@@ -2,7 +2,7 @@ use Rattle.std.proofs.Common.{◌≡◌, true, false, List, ℕ, ◌++◌, Some,
 use Rattle.std.proofs.lemmas.List.{take_at}
 use Rattle.term_tokens.specs.Lexed.{can_become, kept, stuck_item, stuck_past}
 use Rattle.term_tokens.specs.Lexing.{spelled, next_at}
-use Rattle.term_tokens.proofs.StuckLemmas.{stuck_next}
+use Rattle.term_tokens.proofs.StuckItems.{stuck_next}
 use Rattle.term_tokens.proofs.stuck.stuck.Goals as goal
 
 goes_on : (text value after bytes more : List ℕ) → next_at text ≡ Some (value, after) → more ≡ bytes ++ value → can_become more ≡ true → stuck_past text 0 bytes ≡ stuck_past after 0 (kept more)

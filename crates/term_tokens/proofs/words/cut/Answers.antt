@@ -1,6 +1,6 @@
 use Rattle.std.proofs.Common.{◌∙◌, ◌-◌, [], sym, take, drop}
 use Rattle.term_tokens.specs.Lexing.{words_from}
-use Rattle.term_tokens.proofs.WordLemmas.{cut_blank, cut_more}
+use Rattle.term_tokens.proofs.ListedWords.{cut_blank, cut_more}
 use Rattle.term_tokens.proofs.words.cut.Goals as goal
 use Rattle.term_tokens.proofs.words.cut.Goals.{then-is_blank+in_ok-push_word, else-is_blank}
 
