@@ -47,3 +47,4 @@ pub mod SpellLemmas
 pub mod SpelledLemmas
 pub mod DecideLemmas
 pub mod SomeLemmas
+pub mod OneReading

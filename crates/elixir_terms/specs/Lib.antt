@@ -9,3 +9,4 @@ pub mod Refusals
 pub mod Said
 pub mod Codes
 pub mod Reading
+pub mod ReadAs

@@ -4,11 +4,8 @@ use Rattle.std.specs.List.Sorted.{IsPermutation}
 use Rattle.std.proofs.lemmas.Bool.{true≢false}
 use Rattle.std.proofs.lemmas.List.Sorted.{IsPermutation-sym, IsPermutation-trans}
 use Rattle.std.proofs.lemmas.Option.{same_Some, none-some}
+use Rattle.elixir_terms.proofs.OneReading.{OneReading, not_both, same_refusal}
 use Rattle.elixir_terms.specs.declared.error.TermError.{TermError}
-use Rattle.elixir_terms.specs.Refusals.{IsRefusal}
-use Rattle.elixir_terms.specs.Within.{Within}
-use Rattle.term_print.specs.Spells.{Spells}
-use Rattle.term_tokens.specs.declared.cause.TermCause.{TermCause}
 use Rattle.term_values.specs.declared.term.Term.{Term}
 use Rattle.term_values.specs.Views.{Pair, map_of}
 use Rattle.mx_base.proofs.KeyedOrder.{one_sorting}
@@ -18,19 +15,13 @@ use Rattle.mix_lock.specs.declared.entry.HexEntry.{HexEntry}
 use Rattle.mix_lock.specs.declared.error.LockError.{LockError}
 use Rattle.mix_lock.specs.declared.error.LockError.TheVariants as lock
 use Rattle.mix_lock.specs.Lock.{AppEntry}
-use Rattle.mix_lock.specs.Says.{AreRead, IsEntry, IsPair, AreEntries, TermSays, SaysLock, IsReadAs, IsRefusedText}
+use Rattle.mix_lock.specs.Says.{AreRead, IsEntry, IsPair, AreEntries, TermSays, SaysLock}
 use Rattle.mix_lock.specs.Says.IsEntry.{other, hex, shape, requirement}
 use Rattle.mix_lock.specs.Says.IsPair.{good as good_pair, nameless, entryless}
 use Rattle.mix_lock.specs.Says.AreEntries.{end, refused, later, more}
 use Rattle.mix_lock.specs.Says.TermSays.{no_map, refused as refused_term, good}
 use Rattle.mix_lock.specs.Says.SaysLock.{unread, read}
 use Rattle.mix_lock.specs.Terms.{hex_of}
-
--- no text spells two terms, is refused in two ways, or both spells a term within the limits and is refused
-pub record OneReading : Type 0 where
-  pub terms : (text : List ℕ) (t u : Term) → Spells text t → Spells text u → t ≡ u
-  pub refusals : (text : List ℕ) (at place : ℕ) (why other : TermCause) → IsRefusal text at why → IsRefusal text place other → (at ≡ place) × (why ≡ other)
-  pub apart : (text : List ℕ) (t : Term) (at : ℕ) (why : TermCause) → Spells text t → Within text t → IsRefusal text at why → ⊥
 
 some_one : {X : Type 0} (o : Option X) (a b : X) → o ≡ Some a → o ≡ Some b → a ≡ b
 some_one o a b e f = same_Some a b (sym e ∙ f)
@@ -117,19 +108,6 @@ term_one {t = t} (good {pairs = ps} {entries = xs} {sorted = us} is are same ord
     let was : IsPermutation ys us = subst (λ (es : List AppEntry). IsPermutation es us) entries same in
     let kept = IsPermutation-trans us ys vs (IsPermutation-sym ys us was) moved in
     ap (λ (es : List AppEntry). Ok es) (one_sorting (λ (entry : AppEntry). entry.0) us vs kept order row)
-
-same_error : (d e : TermError) → d.at ≡ e.at → d.cause ≡ e.cause → d ≡ e
-same_error d e places causes =
-    ap (λ (at : ℕ). record { at = at; cause = d.cause }) places
-    ∙ ap (λ (cause : TermCause). record { at = e.at; cause = cause }) causes
-
-same_refusal : OneReading → (text : List ℕ) (d e : TermError) → IsRefusedText text d → IsRefusedText text e → d ≡ e
-same_refusal reading text d e why also =
-    let same = reading.refusals text d.at e.at d.cause e.cause why.1 also.1 in
-    same_error d e same.0 same.1
-
-not_both : OneReading → (text : List ℕ) (error : TermError) (t : Term) → IsRefusedText text error → IsReadAs text t → ⊥
-not_both reading text error t why spelled = reading.apart text t error.at error.cause spelled.0 spelled.1 why.1
 
 -- a text says one lock, or is refused in one way
 pub lock_one : OneReading → (text : List ℕ) (a b : Result (List AppEntry) LockError) → SaysLock text a → SaysLock text b → a ≡ b

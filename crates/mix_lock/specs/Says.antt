@@ -1,15 +1,12 @@
 -- What a text says of a lock.
-use Rattle.std.specs.Prelude.{◌≡◌, ℕ, true, false, List, [], ◌∷◌, Option, Some, None, Result, Ok, Err, IsFalse}
+use Rattle.std.specs.Prelude.{◌≡◌, ℕ, true, false, List, [], ◌∷◌, Option, Some, None, Result, Ok, Err}
 use Rattle.std.specs.List.{AllByRecursion}
 use Rattle.std.specs.List.Sorted.{IsPermutation}
 use Rattle.elixir_terms.specs.declared.error.TermError.{TermError}
-use Rattle.elixir_terms.specs.Refusals.{IsRefusal}
-use Rattle.elixir_terms.specs.Within.{Within}
-use Rattle.term_print.specs.Spells.{Spells}
-use Rattle.term_tokens.specs.Refused.{is_memory}
 use Rattle.term_values.specs.declared.term.Term.{Term}
 use Rattle.term_values.specs.Views.{Pair, atom_of, map_of}
 use Rattle.version_req.specs.Grammar.{IsSpelled}
+use Rattle.elixir_terms.specs.ReadAs.{IsReadAs, IsRefusedText}
 use Rattle.mix_lock.specs.declared.entry.Entry.{Entry}
 use Rattle.mix_lock.specs.declared.entry.Entry.TheVariants.{Hex, Other}
 use Rattle.mix_lock.specs.declared.entry.HexEntry.{HexEntry}
@@ -61,14 +58,6 @@ pub data TermSays (t : Term) : Result (List AppEntry) LockError → Type 0 where
   refused : {pairs : List Pair} {e : LockError} → map_of t ≡ Some pairs → AreEntries pairs (Err e) → TermSays t (Err e)
   good : {pairs : List Pair} {entries sorted : List AppEntry} → map_of t ≡ Some pairs → AreEntries pairs (Ok entries)
       → IsPermutation entries sorted → AreInOrder sorted → TermSays t (Ok sorted)
-
--- the term is read from the text, within the limits
-abbrev pub IsReadAs : List ℕ → Term → Type 0
-IsReadAs text t = Spells text t × Within text t
-
--- the text is refused, and not for want of memory
-abbrev pub IsRefusedText : List ℕ → TermError → Type 0
-IsRefusedText text error = IsFalse (is_memory error.cause) × IsRefusal text error.at error.cause
 
 -- what the text of a lock says, or why it is refused
 pub data SaysLock (text : List ℕ) : Result (List AppEntry) LockError → Type 0 where

@@ -2,12 +2,10 @@
 use Rattle.std.proofs.Common.{◌≡◌, ℕ, List, [], Option, Some, None, Result, Ok, Err, IsTrue, refl, sym, ◌∙◌, ap, subst}
 use Rattle.std.proofs.Props.{props}
 use Rattle.mx_base.specs.declared.file.File.{File}
+use Rattle.elixir_terms.specs.ReadAs.{IsReadAs}
+use Rattle.elixir_terms.proofs.OneReading.{OneReading, not_both, same_refusal}
 use Rattle.elixir_terms.specs.declared.error.TermError.{TermError}
 use Rattle.term_values.specs.declared.term.Term.{Term}
-use Rattle.term_tokens.specs.declared.cause.TermCause.{TermCause}
-use Rattle.elixir_terms.specs.Refusals.{IsRefusal}
-use Rattle.term_print.specs.Spells.{Spells}
-use Rattle.elixir_terms.specs.Within.{Within}
 use Rattle.dep_options.specs.declared.decl.Decl.{Decl}
 use Rattle.dep_options.specs.declared.error.OptionError.{OptionError}
 use Rattle.dep_options.specs.Decls.{AreDecls}
@@ -19,18 +17,12 @@ use Rattle.project_file.specs.declared.project.Project.{Project}
 use Rattle.project_file.specs.declared.settings.Settings.{Settings}
 use Rattle.version_req.specs.Version.{is_version}
 use Rattle.project_file.specs.Compilers.{settings_of}
-use Rattle.project_file.specs.Files.{IsReadAs, IsRefusedText, IsManifest, SaysProject, IsLoaded, SaysSettings, AreSettings}
+use Rattle.project_file.specs.Files.{IsManifest, SaysProject, IsLoaded, SaysSettings, AreSettings}
 use Rattle.project_file.specs.Files.IsManifest.{unread, read}
 use Rattle.project_file.specs.Files.SaysProject.{absent, refused, loaded}
 use Rattle.project_file.specs.Files.SaysSettings.{absent as unset, unread as unread_settings, shape as no_settings, set}
 use Rattle.project_file.specs.Manifest.{Stated, stated_of, project_of, IsProject}
 use Rattle.project_file.specs.Manifest.IsProject.{shape, bare, options, whole}
-
--- no text spells two terms, is refused in two ways, or both spells a term within the limits and is refused
-pub record OneReading : Type 0 where
-  pub terms : (text : List ℕ) (t u : Term) → Spells text t → Spells text u → t ≡ u
-  pub refusals : (text : List ℕ) (at place : ℕ) (why other : TermCause) → IsRefusal text at why → IsRefusal text place other → (at ≡ place) × (why ≡ other)
-  pub apart : (text : List ℕ) (t : Term) (at : ℕ) (why : TermCause) → Spells text t → Within text t → IsRefusal text at why → ⊥
 
 -- no term declares two things
 abbrev pub OneAnswer : Type 0
@@ -94,17 +86,6 @@ project_one one {dir = dir} {t = t} (whole s b d {decls = xs} e some are) (whole
 
 terms_one : OneReading → (text : List ℕ) (t u : Term) → IsReadAs text t → IsReadAs text u → t ≡ u
 terms_one reading text t u spelled also = reading.terms text t u spelled.0 also.0
-
-same_error : (d e : TermError) → d.at ≡ e.at → d.cause ≡ e.cause → d ≡ e
-same_error d e places causes = ap (λ (at : ℕ). record { at = at; cause = d.cause }) places ∙ ap (λ (cause : TermCause). record { at = e.at; cause = cause }) causes
-
-same_refusal : OneReading → (text : List ℕ) (d e : TermError) → IsRefusedText text d → IsRefusedText text e → d ≡ e
-same_refusal reading text d e why also =
-    let same = reading.refusals text d.at e.at d.cause e.cause why.1 also.1 in
-    same_error d e same.0 same.1
-
-not_both : OneReading → (text : List ℕ) (error : TermError) (t : Term) → IsRefusedText text error → IsReadAs text t → ⊥
-not_both reading text error t why spelled = reading.apart text t error.at error.cause spelled.0 spelled.1 why.1
 
 -- the text of a manifest says one thing
 manifest_one : OneReading → OneAnswer → {dir text : List ℕ} {a b : Result Project ProjectError} → IsManifest dir text a → IsManifest dir text b → a ≡ b

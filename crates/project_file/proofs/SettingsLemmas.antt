@@ -9,7 +9,8 @@ use Rattle.project_file.specs.declared.error.SettingsError.{SettingsError}
 use Rattle.project_file.specs.declared.error.SettingsError.TheVariants as settings
 use Rattle.project_file.specs.declared.settings.Settings.{Settings}
 use Rattle.project_file.specs.Compilers.{settings_of, no_settings}
-use Rattle.project_file.specs.Files.{IsReadAs, SaysSettings}
+use Rattle.elixir_terms.specs.ReadAs.{IsReadAs}
+use Rattle.project_file.specs.Files.{SaysSettings}
 use Rattle.project_file.specs.Blame.{settings_blame}
 use Rattle.project_file.specs.Files.SaysSettings.{absent, unread, shape, set}
 use Rattle.project_file.specs.Refusals.{settings_term_refused}

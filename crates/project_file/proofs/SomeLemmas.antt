@@ -20,7 +20,8 @@ use Rattle.project_file.specs.declared.error.SettingsError.TheVariants as settin
 use Rattle.project_file.specs.declared.project.Project.{Project}
 use Rattle.project_file.specs.declared.settings.Settings.{Settings}
 use Rattle.project_file.specs.Compilers.{settings_of, no_settings}
-use Rattle.project_file.specs.Files.{IsReadAs, IsRefusedText, IsManifest, SaysProject, IsLoaded, SaysSettings, AreSettings, manifest_at, settings_path}
+use Rattle.elixir_terms.specs.ReadAs.{IsReadAs, IsRefusedText}
+use Rattle.project_file.specs.Files.{IsManifest, SaysProject, IsLoaded, SaysSettings, AreSettings, manifest_at, settings_path}
 use Rattle.project_file.specs.Files.IsManifest.{unread, read}
 use Rattle.project_file.specs.Files.SaysProject.{absent, loaded, refused}
 use Rattle.project_file.specs.Files.SaysSettings.{absent as unset, unread as unread_settings, shape as no_shape, set}

@@ -1,5 +1,5 @@
 -- What a project's files say.
-use Rattle.std.specs.Prelude.{◌≡◌, ℕ, Bool, ◌||◌, List, Option, Some, None, is_some, Result, Ok, Err, IsFalse, IfSome, if◌then◌else◌, codes}
+use Rattle.std.specs.Prelude.{◌≡◌, ℕ, Bool, ◌||◌, List, Option, Some, None, is_some, Result, Ok, Err, IfSome, if◌then◌else◌, codes}
 use Rattle.mx_base.specs.declared.file.File.{File}
 use Rattle.mx_base.specs.Layout.{manifest_name, settings_name}
 use Rattle.mx_base.specs.Order.{bytes_at}
@@ -7,10 +7,7 @@ use Rattle.mx_base.specs.Path.{child_of}
 use Rattle.tree_store.specs.Known.{Known}
 use Rattle.elixir_terms.specs.declared.error.TermError.{TermError}
 use Rattle.term_values.specs.declared.term.Term.{Term}
-use Rattle.elixir_terms.specs.Refusals.{IsRefusal}
-use Rattle.term_tokens.specs.Refused.{is_memory}
-use Rattle.term_print.specs.Spells.{Spells}
-use Rattle.elixir_terms.specs.Within.{Within}
+use Rattle.elixir_terms.specs.ReadAs.{IsReadAs, IsRefusedText}
 use Rattle.dep_options.specs.declared.decl.Manager.{Manager}
 use Rattle.dep_options.specs.declared.decl.Manager.TheVariants.{Mix, Rebar3, Make}
 use Rattle.project_file.specs.declared.error.ProjectError.{ProjectError}
@@ -21,14 +18,6 @@ use Rattle.project_file.specs.declared.project.Project.{Project}
 use Rattle.project_file.specs.declared.settings.Settings.{Settings}
 use Rattle.project_file.specs.Manifest.{IsProject}
 use Rattle.project_file.specs.Compilers.{settings_of, no_settings}
-
--- the term is read from the text, within the limits
-abbrev pub IsReadAs : List ℕ → Term → Type 0
-IsReadAs text t = Spells text t × Within text t
-
--- the text is refused, and not for want of memory
-abbrev pub IsRefusedText : List ℕ → TermError → Type 0
-IsRefusedText text error = IsFalse (is_memory error.cause) × IsRefusal text error.at error.cause
 
 -- what the text of a manifest in this folder says, or why it is refused
 pub data IsManifest (dir text : List ℕ) : Result Project ProjectError → Type 0 where
