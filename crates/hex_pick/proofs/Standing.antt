@@ -28,29 +28,10 @@ get_dropped (suc n) i at [] e = refl
 get_dropped (suc n) i zero (x ∷ xs) e = absurd (omega (arith, e))
 get_dropped (suc n) i (suc at) (x ∷ xs) e = get_dropped n i at xs (omega (arith, e))
 
-pub parts_preferred : {problem : Problem} (pick other end : List Picked) → IsPreferred problem pick other → Leads problem other end
-    → IsPreferred problem pick end
-parts_preferred pick other end k way =
-    record {
-      parting = k.parting;
-      name = k.name;
-      place = k.place;
-      other_place = k.other_place;
-      early = k.early;
-      late = k.late;
-      reached = k.reached;
-      next = k.next;
-      to_one = k.to_one;
-      to_other = then_leads k.parting other end k.to_other way;
-      takes = k.takes;
-      other_takes = led_within other end way (k.name, k.other_place) k.other_takes;
-      tried = k.tried;
-      other_tried = k.other_tried;
-      earlier = k.earlier;
-    }
-
-pub preferred_on : {problem : Problem} (one other end : List Picked) → IsPreferred problem one other → Leads problem one end → IsPreferred problem end other
-preferred_on one other end k way =
+-- what is preferred stays so on the ways that lead on from both
+pub preferred_past : {problem : Problem} (one other end other_end : List Picked) → IsPreferred problem one other → Leads problem one end
+    → Leads problem other other_end → IsPreferred problem end other_end
+preferred_past one other end other_end k way other_way =
     record {
       parting = k.parting;
       name = k.name;
@@ -61,13 +42,20 @@ preferred_on one other end k way =
       reached = k.reached;
       next = k.next;
       to_one = then_leads k.parting one end k.to_one way;
-      to_other = k.to_other;
+      to_other = then_leads k.parting other other_end k.to_other other_way;
       takes = led_within one end way (k.name, k.place) k.takes;
-      other_takes = k.other_takes;
+      other_takes = led_within other other_end other_way (k.name, k.other_place) k.other_takes;
       tried = k.tried;
       other_tried = k.other_tried;
       earlier = k.earlier;
     }
+
+pub parts_preferred : {problem : Problem} (pick other end : List Picked) → IsPreferred problem pick other → Leads problem other end
+    → IsPreferred problem pick end
+parts_preferred pick other end k way = preferred_past pick other pick end k stays way
+
+pub preferred_on : {problem : Problem} (one other end : List Picked) → IsPreferred problem one other → Leads problem one end → IsPreferred problem end other
+preferred_on one other end k way = preferred_past one other end other k way stays
 
 -- of two decisions of one package the one by an earlier candidate is preferred
 pub sibling_preferred : (problem : Problem) (pick : List Picked) (name : List ℕ) (at place from : ℕ) (other : List Picked) → Leads problem [] pick
