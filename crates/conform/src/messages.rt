@@ -1,6 +1,5 @@
 // Cases of registry messages.
-use crate::fields::Fault;
-use crate::shown::{push_after, refused};
+use case_texts::{Fault, push_after, refused};
 use crate::writable::is_writable;
 use hex_messages::{
     Dependencies, Dependency, FieldName, Package, Reason, Release, Releases, Retired, WireCause,

@@ -3,13 +3,13 @@ ghost use Rattle.std.specs.Prelude.{IfOk};
 ghost use Rattle.tree_store.specs.Slot.{AllHere};
 
 use crate::fields::{Fault, word};
-use crate::terms::folder;
+use crate::names::folder;
 use mx_base::{Bytes, FaultPlan};
 use std::alloc::Global;
 use tree_store::{Contents, MemStore, Store};
 
 /// The numbers that stand with a comma between two.
-pub(crate) fn calls_of(alloc: Global, calls: &[u8]) -> Result<Vec<u64>, Fault> {
+pub fn calls_of(alloc: Global, calls: &[u8]) -> Result<Vec<u64>, Fault> {
     let mut numbers = Vec::new(alloc);
     if calls.is_empty() {
         return Ok(numbers);
@@ -24,7 +24,7 @@ pub(crate) fn calls_of(alloc: Global, calls: &[u8]) -> Result<Vec<u64>, Fault> {
 }
 
 /// Files: for each its path and its bytes.
-pub(crate) fn contents_of(alloc: Global, files: &[Vec<u8>]) -> Result<Contents, Fault> {
+pub fn contents_of(alloc: Global, files: &[Vec<u8>]) -> Result<Contents, Fault> {
     let mut contents = Contents::new(alloc);
     for two in files.chunks(2) {
         let [path, bytes] = two else {
@@ -39,7 +39,7 @@ pub(crate) fn contents_of(alloc: Global, files: &[Vec<u8>]) -> Result<Contents, 
 }
 
 /// A project of these files, of which these calls of the store, and of each folder, fail.
-pub(crate) fn store_of(
+pub fn store_of(
     alloc: Global,
     calls: &[u8],
     folder_calls: &[u8],

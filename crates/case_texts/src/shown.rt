@@ -20,7 +20,7 @@ fn push_text(alloc: Global, out: &mut String, text: &[u8]) -> Result<(), AllocEr
 }
 
 /// Adds what is written before a text and then the text.
-pub(crate) fn push_after(
+pub fn push_after(
     alloc: Global,
     out: &mut String,
     before: &str,
@@ -32,13 +32,13 @@ pub(crate) fn push_after(
 }
 
 /// Adds what needs no digits.
-pub(crate) fn say(out: &mut String, text: &str) -> Result<(), Fault> {
+pub fn say(out: &mut String, text: &str) -> Result<(), Fault> {
     out.push_str(text)?;
     Ok(())
 }
 
 /// The answer is that a text is refused at a place, for a cause.
-pub(crate) fn refused(out: &mut String, at: u64, cause: &str) -> Result<(), Fault> {
+pub fn refused(out: &mut String, at: u64, cause: &str) -> Result<(), Fault> {
     write!(out, "refused {at} {cause}")?;
     Ok(())
 }

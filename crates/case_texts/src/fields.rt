@@ -6,7 +6,7 @@ use std::str;
 
 /// Why a case has no answer.
 #[derive(Drop)]
-pub(crate) enum Fault {
+pub enum Fault {
     /// The line is no case.
     Form,
     Memory,
@@ -71,7 +71,7 @@ fn push_piece(alloc: Global, text: &mut Vec<u8>, piece: &str) -> Result<(), Faul
 }
 
 /// A number that is written in decimal digits.
-pub(crate) fn number_of(text: &str) -> Result<u32, Fault> {
+pub fn number_of(text: &str) -> Result<u32, Fault> {
     match text.parse::<u32>() {
         Ok(number) => Ok(number),
         Err(_) => Err(Fault::Form),
@@ -79,7 +79,7 @@ pub(crate) fn number_of(text: &str) -> Result<u32, Fault> {
 }
 
 /// A text of a case that is UTF-8.
-pub(crate) fn word(text: &[u8]) -> Result<&str, Fault> {
+pub fn word(text: &[u8]) -> Result<&str, Fault> {
     match str::from_utf8(text) {
         Ok(word) => Ok(word),
         Err(_) => Err(Fault::Form),

@@ -3,14 +3,8 @@ ghost use Rattle.std.specs.Prelude.{IfOk};
 ghost use Rattle.compile_model.specs.Planned.{ArePlanned};
 ghost use Rattle.tree_store.specs.Slot.{AllHere};
 
-use crate::compilers::refused_settings;
-use crate::fields::{Fault, word};
-use crate::manifests::refused_project;
+use case_texts::{Fault, app_name, calls_of, folder, push_after, refused_project, refused_settings, rule_name, say, store_of, word};
 use crate::mortal::MortalCompiler;
-use crate::rows::rule_name;
-use crate::shown::{push_after, say};
-use crate::stores::{calls_of, store_of};
-use crate::terms::app_name;
 use build_plan::{DivergedLine, PlanError, plan};
 use compile_model::{Compiler, Plan};
 use mix_main::run;

@@ -2,10 +2,8 @@
 ghost use Rattle.std.specs.Prelude.{◌≡◌, length, IfOk};
 ghost use Rattle.compile_model.specs.Planned.{ArePlanned};
 
-use crate::fields::Fault;
+use case_texts::{Fault, app_name, store_of};
 use crate::projects::planned;
-use crate::stores::store_of;
-use crate::terms::app_name;
 use build_manifest::read_mark;
 use build_plan::PlanError;
 use compile_model::{Job, Outcome, Plan};

@@ -3,11 +3,8 @@ ghost use Rattle.std.specs.Prelude.{◌≡◌, None, IfOk};
 ghost use Rattle.compile_model.specs.Echo.{echo_of, echo_failed_is_bare, echo_files_in_order, echo_nothing_is_empty};
 ghost use Rattle.partition_core.specs.Refusals.{outcome_of};
 
-use crate::fields::{Fault, number_of, word};
-use crate::graphs::graph_of;
+use case_texts::{Fault, contents_of, graph_of, number_of, push_after, say, word};
 use crate::openings::{kept_of, plan_of};
-use crate::shown::{push_after, say};
-use crate::stores::contents_of;
 use compile_model::{Fate, Meaning, Outcome, Twin};
 use dep_order::Graph;
 use mix_report::trace;

@@ -2,7 +2,7 @@ use Rattle.std.proofs.Common.{ap, ◌∙◌}
 use Rattle.tree_store.specs.FolderKnown.{FolderKnown}
 use Rattle.tree_store.specs.Slot.Slot.{Out}
 use Rattle.tree_store.proofs.StoreLemmas.{slot_after_set}
-use Rattle.conform.proofs.projects.files_of.Goals as goal
+use Rattle.conform_calls.proofs.projects.files_of.Goals as goal
 
 pub give_back-requires : goal.give_back-requires
 give_back-requires g c =
