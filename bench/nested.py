@@ -1,5 +1,5 @@
 #!/usr/bin/env python3
-"""Times `mixc deps.compile` over N nested dependencies of two sources of 1 KiB each, in groups of four: each declares
+"""Times `mixc deps.compile` over N nested dependencies of two sources of 1 KiB and a unit file each, in groups of four: each declares
 those before it in its group, so that it has up to three needs. The root declares the last of each group.
 
 Usage: bench/nested.py MIXC [N ..]   (MIXC: the built program; N: 100 1000 4000 where none is given)
@@ -22,9 +22,13 @@ def project(folder, count):
         write(folder, name + "/project.exs", manifest.encode())
         for source in range(2):
             write(folder, "%s/s%d" % (name, source), bytes([97 + source]) * 1024)
+        unit = ["unit %s\n" % name] + ["use %s.%s\n" % (need, need) for need in names[place - place % 4 : place]]
+        terms = ["1"] + ["%s.base" % need for need in names[place - place % 4 : place]]
+        unit += ["let base = %s\n" % " + ".join(terms), "export base\n"]
+        write(folder, name + "/main.unit", "".join(unit).encode())
     last = [name for place, name in enumerate(names) if place % 4 == 3 or place == count - 1]
     root = '[app: :demo, version: "0.1.0", deps: [%s]]\n' % declared(last, "")
     write(folder, "project.exs", root.encode())
 
 
-table(project)
+table(project, lambda count: "d%04d/s0" % count)

@@ -27,4 +27,4 @@ mod versions;
 
 pub use error::{DivergedLine, DivergedLines, PlanError};
 pub use laws::{one_plan, one_plan_of, some_plan, some_plan_of};
-pub use planning::{plan, plan_of};
+pub use planning::{name_of, plan, plan_of};

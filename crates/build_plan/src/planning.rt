@@ -113,7 +113,7 @@ fn planned<S: Store>(
 }
 
 /// The name of the build, which has one.
-fn name_of(alloc: Global, env: &AppName, target: &AppName) -> Result<AppName, AllocError>
+pub fn name_of(alloc: Global, env: &AppName, target: &AppName) -> Result<AppName, AllocError>
     requires { HasBuildName env.now target.now }
     ensures { IfOk result (λ name. name ≡ build_name env.now target.now) }
 {

@@ -1,8 +1,6 @@
 // Cases of jobs that the built-in compiler compiles.
 
-use crate::fields::{Fault, word};
-use crate::shown::{push_after, say};
-use crate::terms::{app_name, folder};
+use case_texts::{Fault, app_name, folder, push_after, say, word};
 use compile_model::{How, Input, Job, Origin, Outcome, Places, Texts};
 use mx_base::{Bytes, Files, Names, RelPath, Shared, Text, Variables, listing_of};
 use std::alloc::Global;

@@ -1,10 +1,7 @@
 // Cases of settings, managers and compilers.
 
-use crate::fields::Fault;
 use crate::manifests::manager_name;
-use crate::shown::{push_after, say};
-use crate::stores::{contents_of, store_of};
-use crate::terms::refused_term;
+use case_texts::{Fault, contents_of, push_after, refused_settings, refused_term, say, store_of};
 use compile_model::How;
 use compiler_drive::command;
 use dep_options::{CompileBy, Manager};
@@ -45,15 +42,6 @@ fn push_how(alloc: Global, out: &mut String, how: &How) -> Result<(), Fault> {
             }
             Ok(())
         }
-    }
-}
-
-pub(crate) fn refused_settings(out: &mut String, error: &SettingsError) -> Result<(), Fault> {
-    match error {
-        SettingsError::Read => say(out, "refused - Read"),
-        SettingsError::Term(error) => refused_term(out, *error),
-        SettingsError::Shape => say(out, "refused - Shape"),
-        SettingsError::OutOfMemory => Err(Fault::Memory),
     }
 }
 

@@ -1,8 +1,7 @@
 // Cases of frames.
 ghost use Rattle.partition_frames.specs.Frame.{IsFrame};
 
-use crate::fields::{Fault, number_of, word};
-use crate::shown::{push_after, refused, say};
+use case_texts::{Fault, number_of, push_after, refused, say, word};
 use partition_frames::{Frame, FrameCause, FrameError, FrameReader, read_frame, write_frame};
 use std::alloc::Global;
 

@@ -1,8 +1,6 @@
 // Cases of locks.
 
-use crate::fields::Fault;
-use crate::shown::push_after;
-use crate::terms::refused_term;
+use case_texts::{Fault, push_after, refused_term};
 use mix_lock::{Lock, LockError, read_lock, write_lock};
 use std::alloc::Global;
 

@@ -7,30 +7,23 @@
 
 mod compiled;
 mod compilers;
-mod cores;
-mod fields;
 mod frames;
 mod graphs;
 mod locks;
 mod manifests;
 mod marks;
 mod messages;
-mod mortal;
-mod openings;
 mod picks;
-mod projects;
 mod rows;
-mod shown;
-mod stores;
 mod terms;
 mod units;
 mod wanted;
+mod words;
 mod writable;
 
+use case_texts::{Cases, Fault, told};
 use compiled::compiled_case;
 use compilers::{command_case, manager_case, settings_case};
-use cores::core_case;
-use fields::{Fault, fields_of};
 use frames::{frame_case, frames_case};
 use graphs::{closure_case, order_case};
 use locks::lock_case;
@@ -38,9 +31,8 @@ use manifests::{decls_case, manifest_case, project_case};
 use marks::{listing_case, mark_case};
 use messages::{message_case, write_case};
 use picks::{breach_case, pick_case, registry_case};
-use projects::{plan_case, plan_for_case, run_case};
 use rows::{converge_case, reach_case, reach_for_case, rows_case};
-use std::alloc::{AllocError, Global};
+use std::alloc::Global;
 use std::io;
 use std::io::{BufRead, BufReader, BufWriter, Write};
 use terms::{
@@ -48,36 +40,32 @@ use terms::{
     version_case,
 };
 use units::unit_case;
+use words::words_case;
+
+/// The cases of texts, and of calls over values.
+struct Texts {}
+
+impl Cases for Texts {
+    fn answer(
+        &self,
+        alloc: Global,
+        out: &mut String,
+        kind: &str,
+        texts: &[Vec<u8>],
+    ) -> Result<(), Fault> {
+        text_answer(alloc, out, kind, texts)
+    }
+}
 
 fn main(rt: HostRuntime) -> io::Result<()> {
     let alloc = rt.alloc();
     let mut out = BufWriter::new(alloc, io::writer(&rt))?;
     for line in BufReader::new(alloc, rt.reader())?.lines(alloc) {
         let line = line?;
-        let told = told(alloc, line.as_str())?;
+        let told = told(alloc, &Texts {}, line.as_str())?;
         writeln!(out, "{}", told.as_str())?;
     }
     out.flush()
-}
-
-/// What is printed for a line.
-fn told(alloc: Global, line: &str) -> Result<String, AllocError> {
-    if line.starts_with('#') {
-        return String::from_str(alloc, line);
-    }
-    let mut out = String::new(alloc);
-    match answer(alloc, &mut out, line) {
-        Ok(()) => Ok(out),
-        Err(Fault::Form) => String::from_str(alloc, "refused"),
-        Err(Fault::Memory) => Err(AllocError),
-    }
-}
-
-/// Answers a case.
-fn answer(alloc: Global, out: &mut String, line: &str) -> Result<(), Fault> {
-    let (kind, rest) = line.split_once(' ').ok_or(Fault::Form)?;
-    let texts = fields_of(alloc, rest)?;
-    text_answer(alloc, out, kind, texts.as_slice())
 }
 
 /// Answers a case about texts: what they say, and how it is written.
@@ -106,11 +94,12 @@ fn text_answer(
         "mark" => mark_case(alloc, out, texts),
         "frame" => frame_case(alloc, out, texts),
         "frames" => frames_case(alloc, out, texts),
+        "words" => words_case(alloc, out, texts),
         _ => call_answer(alloc, out, kind, texts),
     }
 }
 
-/// Answers a case about projects, registries, graphs and builds.
+/// Answers a case about projects, registries and graphs.
 fn call_answer(
     alloc: Global,
     out: &mut String,
@@ -132,10 +121,6 @@ fn call_answer(
         "converge" => converge_case(alloc, out, texts),
         "reach" => reach_case(alloc, out, texts),
         "reach_for" => reach_for_case(alloc, out, texts),
-        "plan" => plan_case(alloc, out, texts),
-        "plan_for" => plan_for_case(alloc, out, texts),
-        "core" => core_case(alloc, out, texts),
-        "run" => run_case(alloc, out, texts),
         _ => Err(Fault::Form),
     }
 }

@@ -1,9 +1,8 @@
 // Cases of declarations and manifests.
 
-use crate::fields::Fault;
-use crate::shown::{push_after, refused, say};
-use crate::stores::store_of;
-use crate::terms::{folder, refused_term};
+use case_texts::{
+    Fault, folder, push_after, refused, refused_decls, refused_project, refused_term, say, store_of,
+};
 use dep_options::{CompileBy, Decl, DepSource, Manager, OptionCause, OptionError, decls};
 use elixir_terms::read;
 use mx_base::{AppName, Text};
@@ -116,38 +115,7 @@ pub(crate) fn manager_name(manager: Manager) -> &'static str {
     }
 }
 
-fn refused_decls(alloc: Global, out: &mut String, error: &OptionError) -> Result<(), Fault> {
-    match &error.cause {
-        OptionCause::Shape => refused(out, error.index, "Shape"),
-        OptionCause::BadRequirement => refused(out, error.index, "BadRequirement"),
-        OptionCause::UnknownOption(name) => refused_option(
-            alloc,
-            out,
-            error,
-            "UnknownOption",
-            name,
-        ),
-        OptionCause::UnsupportedSource(name) => {
-            refused_option(alloc, out, error, "UnsupportedSource", name)
-        }
-        OptionCause::BadValue(name) => refused_option(alloc, out, error, "BadValue", name),
-        OptionCause::NoSource => refused(out, error.index, "NoSource"),
-        OptionCause::OutOfMemory => Err(Fault::Memory),
-    }
-}
-
 /// A refusal for the option of this name, which stands behind the cause.
-fn refused_option(
-    alloc: Global,
-    out: &mut String,
-    error: &OptionError,
-    cause: &str,
-    name: &Text,
-) -> Result<(), Fault> {
-    refused(out, error.index, cause)?;
-    push_after(alloc, out, " ", name.as_slice())
-}
-
 /// A text: the project that it is as the manifest of the root.
 pub(crate) fn project_case(
     alloc: Global,
@@ -207,18 +175,4 @@ fn push_project(alloc: Global, out: &mut String, project: &Project) -> Result<()
     push_after(alloc, out, " ", project.version.as_slice())?;
     say(out, ";")?;
     push_decls(alloc, out, project.decls.as_slice())
-}
-
-pub(crate) fn refused_project(
-    alloc: Global,
-    out: &mut String,
-    error: &ProjectError,
-) -> Result<(), Fault> {
-    match error {
-        ProjectError::Read => say(out, "refused - Read"),
-        ProjectError::Term(error) => refused_term(out, *error),
-        ProjectError::Shape => say(out, "refused - Shape"),
-        ProjectError::Options(error) => refused_decls(alloc, out, error),
-        ProjectError::OutOfMemory => Err(Fault::Memory),
-    }
 }

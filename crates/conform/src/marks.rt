@@ -1,9 +1,7 @@
 // Cases of listings and marks.
 
-use crate::fields::Fault;
-use crate::shown::{push_after, refused};
-use crate::stores::contents_of;
 use build_manifest::{Mark, MarkError, read_mark, upgrade, write_mark};
+use case_texts::{Fault, contents_of, push_after, refused};
 use mx_base::{listing_digest, listing_of, listing_text};
 use std::alloc::Global;
 

@@ -1,7 +1,6 @@
 // Cases of registry messages.
-use crate::fields::Fault;
-use crate::shown::{push_after, refused};
 use crate::writable::is_writable;
+use case_texts::{Fault, push_after, refused};
 use hex_messages::{
     Dependencies, Dependency, FieldName, Package, Reason, Release, Releases, Retired, WireCause,
     WireError, read_package, write_package,

@@ -1,11 +1,8 @@
 // Cases of registries, of their picks, and of why a pick isn't valid.
 
-use crate::fields::{Fault, number_of, word};
 use crate::messages::refused_message;
-use crate::shown::{push_after, say};
-use crate::stores::store_of;
-use crate::terms::app_name;
 use crate::wanted::{two, wants_of};
+use case_texts::{Fault, app_name, number_of, push_after, say, store_of, word};
 use hex_pick::{PickError, pick, pick_within};
 use hex_registry::{Breach, By, Pick, Registry, RegistryError, Wants, first_breach, is_valid_pick};
 use mx_base::{AppName, Text};

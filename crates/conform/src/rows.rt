@@ -1,9 +1,6 @@
 // Cases of rows, of what can't live together, and of what an environment reaches.
 
-use crate::fields::{Fault, word};
-use crate::shown::{refused, say};
-use crate::stores::calls_of;
-use crate::terms::{app_name, folder, version};
+use case_texts::{Fault, app_name, calls_of, folder, refused, rule_name, say, version, word};
 use converger::{ConvergeError, Converged, Divergence, Rule, Versions, converge, for_env};
 use dep_options::{Decl, decls};
 use dep_rows::{ListAnswer, ListAnswers, ListChildren, ListFault, Rows, RowsError, rows};
@@ -162,15 +159,6 @@ fn versions_of(alloc: Global, text: &str) -> Result<Versions, Fault> {
         }
     }
     Ok(versions)
-}
-
-pub(crate) fn rule_name(rule: Rule) -> &'static str {
-    match rule {
-        Rule::V1 => "V1",
-        Rule::V2 => "V2",
-        Rule::V3 => "V3",
-        Rule::V4 => "V4",
-    }
 }
 
 /// An environment, the root's declarations, and for some apps the app and its declarations: the winners' places that the

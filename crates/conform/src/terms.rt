@@ -1,7 +1,6 @@
 // Cases of terms, names, paths, versions and requirements.
 
-use crate::fields::{Fault, word};
-use crate::shown::{push_after, refused, say};
+use case_texts::{Fault, app_name, folder, push_after, refused, refused_term, say, version, word};
 use elixir_terms::{Feature, Term, TermCause, TermError, print, read};
 use mx_base::{AppName, NameError, PathError, RelPath, build_name};
 use semver::Version;
@@ -27,32 +26,6 @@ fn push_read(alloc: Global, out: &mut String, text: &[u8]) -> Result<(), Fault> 
 fn push_printed(alloc: Global, out: &mut String, term: &Term) -> Result<(), Fault> {
     let printed = print(alloc, term)?;
     push_after(alloc, out, "ok ", printed.as_slice())
-}
-
-pub(crate) fn refused_term(out: &mut String, error: TermError) -> Result<(), Fault> {
-    refused(out, error.at, term_cause(error.cause))
-}
-
-fn term_cause(cause: TermCause) -> &'static str {
-    match cause {
-        TermCause::Unsupported(Feature::Charlist) => "Unsupported(Charlist)",
-        TermCause::Unsupported(Feature::Sigil) => "Unsupported(Sigil)",
-        TermCause::Unsupported(Feature::Heredoc) => "Unsupported(Heredoc)",
-        TermCause::Unsupported(Feature::Interpolation) => "Unsupported(Interpolation)",
-        TermCause::Unsupported(Feature::Float) => "Unsupported(Float)",
-        TermCause::Unsupported(Feature::Alias) => "Unsupported(Alias)",
-        TermCause::Unsupported(Feature::Bits) => "Unsupported(Bits)",
-        TermCause::BadEscape => "BadEscape",
-        TermCause::BadUtf8 => "BadUtf8",
-        TermCause::NumberTooBig => "NumberTooBig",
-        TermCause::TooDeep => "TooDeep",
-        TermCause::DuplicateKey => "DuplicateKey",
-        TermCause::TrailingText => "TrailingText",
-        TermCause::Unclosed => "Unclosed",
-        TermCause::Unexpected => "Unexpected",
-        TermCause::TooLong => "TooLong",
-        TermCause::OutOfMemory => "OutOfMemory",
-    }
 }
 
 /// A text: what is printed of the term that is read back from its printing.
@@ -122,27 +95,6 @@ fn push_joined(
     }
 }
 
-/// The folder of this path, where the empty text is the root.
-pub(crate) fn folder(alloc: Global, text: &[u8]) -> Result<RelPath, Fault> {
-    let root = RelPath::root(alloc);
-    if text.is_empty() {
-        return Ok(root);
-    }
-    match RelPath::join(alloc, &root, text) {
-        Ok(path) => Ok(path),
-        Err(PathError::OutOfMemory) => Err(Fault::Memory),
-        Err(_) => Err(Fault::Form),
-    }
-}
-
-pub(crate) fn app_name(alloc: Global, text: &[u8]) -> Result<AppName, Fault> {
-    match AppName::of(alloc, text) {
-        Ok(name) => Ok(name),
-        Err(NameError::OutOfMemory) => Err(Fault::Memory),
-        Err(_) => Err(Fault::Form),
-    }
-}
-
 /// Two versions: how the first stands to the second.
 pub(crate) fn version_case(
     alloc: Global,
@@ -158,13 +110,6 @@ pub(crate) fn version_case(
         Ordering::Less => say(out, "ok less"),
         Ordering::Equal => say(out, "ok equal"),
         Ordering::Greater => say(out, "ok greater"),
-    }
-}
-
-pub(crate) fn version(alloc: Global, text: &[u8]) -> Result<Version, Fault> {
-    match Version::parse(alloc, word(text)?) {
-        Ok(version) => Ok(version),
-        Err(_) => Err(Fault::Form),
     }
 }
 

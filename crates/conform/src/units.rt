@@ -1,7 +1,6 @@
 // Cases of unit files.
 
-use crate::fields::Fault;
-use crate::shown::{push_after, refused, say};
+use case_texts::{Fault, push_after, refused, say};
 use mx_base::Text;
 use std::alloc::Global;
 use unit_lang::{Expression, Statement, Unit, UnitCause, parse_unit};

@@ -1,7 +1,6 @@
 // What a case wants of a registry.
 
-use crate::fields::{Fault, word};
-use crate::terms::app_name;
+use case_texts::{Fault, app_name, word};
 use hex_registry::{LockedList, Want, WantList, Wants};
 use mx_base::{Names, Text};
 use std::alloc::Global;

@@ -7,7 +7,11 @@ use Rattle.mx_base.specs.Listing.{listing_digest, rows_of}
 use Rattle.compile_model.specs.declared.outcome.Outcome.{Outcome}
 use Rattle.compile_model.specs.Content.{Content, outcome_with}
 use Rattle.build_manifest.specs.Description.{need_digests, said_by}
+use Rattle.build_manifest.specs.declared.description.Description.{Description}
+use Rattle.build_manifest.specs.declared.mark.MarkFormat.TheVariants.{One, Two}
+use Rattle.build_manifest.specs.Diagnostics.{diagnostics_of}
 use Rattle.build_manifest.specs.Mark.{MarkView, Need}
+use Rattle.build_manifest.specs.MarkOf.{mark_in, mark_of, upgraded}
 use Rattle.build_manifest.specs.Text.{Spells}
 use Rattle.build_manifest.proofs.Whole.{one_mark}
 use Rattle.staleness.specs.declared.kept.Kept.{Kept}
@@ -105,3 +109,36 @@ honest_kept compile known held bytes mark honest marked read = some_kept held by
   where
     at : (made : Given) × Contains known made × IsMadeFrom compile made held mark → mark.outputs ≡ rows_of held.files
     at (made, among, from) = mark_lists made (outcome_of compile made) mark from.own ∙ ap rows_of (sym from.files)
+
+-- ---- in the second form
+
+-- a mark in the second form is made of what it says, its outputs and its text
+abbrev newer_of : Description → List FileRow → List ℕ → MarkView
+newer_of said rows text = mark_in (Two (diagnostics_of said.sources text)) said rows text
+
+-- the mark of an honest folder that matches an input is, in the second form, the input's mark; and so it is already where it is in that form
+pub kept_mark : (compile : Content → Outcome) (known : List Given) (held : Holding) (bytes : List ℕ) (mark : MarkView) (given : Given) →
+    IsHonest compile known held → held.mark ≡ Some bytes → Spells bytes mark → NoClash (given ∷ known) →
+    length given.needs ≡ length given.job.need_apps → matches mark given.job given.needs ≡ true →
+    (upgraded mark ≡ mark_of given.job given.needs (outcome_of compile given)) ×
+    ((mark.format ≡ One → ⊥) → mark ≡ mark_of given.job given.needs (outcome_of compile given))
+kept_mark compile known held bytes mark given honest stands reads apart many match = at (honest bytes mark stands reads)
+  where
+    goal : Type 0
+    goal = (upgraded mark ≡ mark_of given.job given.needs (outcome_of compile given)) ×
+        ((mark.format ≡ One → ⊥) → mark ≡ mark_of given.job given.needs (outcome_of compile given))
+
+    at : (made : Given) × Contains known made × IsMadeFrom compile made held mark → goal
+    at (made, among, from) =
+        let o : Outcome = outcome_of compile made in
+        let says = mark_says made o mark from.own in
+        let said : said_by mark ≡ description given = says_description mark given ((described mark given.job given.needs many).0 match) in
+        let same : description given ≡ description made = sym said ∙ says.0 in
+        let one : content given ≡ content made = apart given made (0, omega arith, refl) (contains_more given known made among) same in
+        let own : o ≡ outcome_of compile given = ap compile (sym one) in
+        let by : newer_of (description made) o.rows o.text ≡ newer_of (description given) (outcome_of compile given).rows (outcome_of compile given).text =
+        ap (λ (d : Description). newer_of d o.rows o.text) (sym same) ∙ ap (λ (x : Outcome). newer_of (description given) x.rows x.text) own in
+        elim from.own [
+          | inl older ↦ (ap upgraded older ∙ by, λ new. absurd (new (ap (λ (m : MarkView). m.format) older)))
+          | inr newer ↦ (ap upgraded newer ∙ by, λ new. newer ∙ by)
+        ]

@@ -3,3 +3,4 @@ pub mod Clearing
 pub mod Faults
 pub mod Reading
 pub mod Rewriting
+pub mod Tree

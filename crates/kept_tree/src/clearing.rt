@@ -117,7 +117,12 @@ fn clear_each<S: Store>(
     Ok(())
 }
 
-fn clear_app<S: Store>(
+/// Empties the build of an app. An app without a build is no fault.
+///
+/// # Errors
+///
+/// Those of `clean`.
+pub fn clear_app<S: Store>(
     alloc: Global,
     store: &mut S,
     env: &AppName,

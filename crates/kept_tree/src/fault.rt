@@ -17,7 +17,7 @@ pub enum KeptFault {
 
 impl KeptFault {
     /// What the fault of a call that writes into a folder comes to.
-    pub(crate) fn of_write(fault: StoreFault) -> KeptFault
+    pub fn of_write(fault: StoreFault) -> KeptFault
         ensures { result ≡ of_write fault }
     {
         match fault {

@@ -11,7 +11,7 @@ mod kept;
 mod laws;
 mod rewriting;
 
-pub use clearing::{clean, clear_apart, empty};
+pub use clearing::{clean, clear_apart, clear_app, empty};
 pub use fault::KeptFault;
 pub use kept::read_kept;
 pub use laws::{clearing_is_honest, rewriting_is_honest};

@@ -70,7 +70,6 @@ goes_env state v lives may name has = record {
   };
   lives = record {
     takes = record {
-      optioned = lives.takes.optioned;
       env = (may.taken, name);
       target = lives.takes.target;
       partitions = lives.takes.partitions;
@@ -110,7 +109,6 @@ goes_target state v lives may name has = record {
   };
   lives = record {
     takes = record {
-      optioned = lives.takes.optioned;
       env = lives.takes.env;
       target = (may.taken, name);
       partitions = lives.takes.partitions;
@@ -146,7 +144,6 @@ goes_count state n lives may count = record {
   };
   lives = record {
     takes = record {
-      optioned = lives.takes.optioned;
       env = lives.takes.env;
       target = lives.takes.target;
       partitions = (may.taken, count, may.apart refl);
@@ -201,7 +198,6 @@ goes_plain state lives taken plain trace count = record {
   };
   lives = record {
     takes = record {
-      optioned = lives.takes.optioned;
       env = lives.takes.env;
       target = lives.takes.target;
       partitions = nothing_at _ state.settings.partitions count;
@@ -225,7 +221,6 @@ goes_trace state lives taken plain trace = record {
   };
   lives = record {
     takes = record {
-      optioned = lives.takes.optioned;
       env = lives.takes.env;
       target = lives.takes.target;
       partitions = lives.takes.partitions;
@@ -292,7 +287,6 @@ goes_app state word lives fits = record {
   };
   lives = record {
     takes = record {
-      optioned = lives.takes.optioned;
       env = lives.takes.env;
       target = lives.takes.target;
       partitions = lives.takes.partitions;

@@ -10,27 +10,24 @@ use Rattle.mix_words.specs.declared.option.Valued.TheVariants.{Env, Target, Part
 use Rattle.mix_words.specs.declared.option.Flag.{Flag}
 use Rattle.mix_words.specs.declared.settings.Settings.{Settings}
 use Rattle.mix_words.specs.declared.verb.Verb.{Verb}
-use Rattle.mix_words.specs.declared.verb.Verb.TheVariants.{Get, Help, Deps, Stale, Compile, Clean, Gen, Batch}
+use Rattle.mix_words.specs.declared.verb.Verb.TheVariants.{Help, Deps, Stale, Compile, Clean}
 use Rattle.mix_words.specs.Choice.{HasBuild, Takes, dev, env_of, given_in, raised_in, target_of, word_in}
 use Rattle.mix_words.specs.Live.{Adds, Goes, HasEnv, HasTarget, Leads, Lives, MayGive, State}
 use Rattle.mix_words.specs.Meaning.{choice_of, made_of}
 use Rattle.mix_words.specs.Numbers.{IsPartitionCount}
 use Rattle.mix_words.specs.Piece.{Joint, Piece, Spaced, Stands, Word, flags_of, others_of, valued_word, values_of, words_in, words_of}
-use Rattle.mix_words.specs.Table.{is_optioned, takes_build}
+use Rattle.mix_words.specs.Table.{takes_build}
 use Rattle.mix_words.proofs.ChoiceLemmas.{dev_for_host, dev_name, host_name}
 use Rattle.mix_words.proofs.GoesLemmas.{goes_count, goes_env, goes_target, set_count, set_env, set_target, with_settings}
 use Rattle.mix_words.proofs.PieceLemmas.{no_piece}
 use Rattle.mix_words.proofs.StateLemmas.{adds_back, spaced_adds}
 
-pub makes_some : (verb : Verb) (s : Settings) (apps : List Word) → is_optioned verb ≡ true → (c : Command) × (made_of verb s apps ≡ Some c)
-makes_some Get s apps e = (commands.Get, refl)
-makes_some Help s apps e = (commands.Help, refl)
-makes_some Deps s apps e = (commands.Deps (choice_of s), refl)
-makes_some Stale s apps e = (commands.Stale (choice_of s), refl)
-makes_some Compile s apps e = (commands.Compile (choice_of s) s.partitions s.plain s.trace, refl)
-makes_some Clean s apps e = (commands.Clean (choice_of s) apps, refl)
-makes_some Gen s apps e = cc
-makes_some Batch s apps e = cc
+pub makes_some : (verb : Verb) (s : Settings) (apps : List Word) → (c : Command) × (made_of verb s apps ≡ Some c)
+makes_some Help s apps = (commands.Help, refl)
+makes_some Deps s apps = (commands.Deps (choice_of s), refl)
+makes_some Stale s apps = (commands.Stale (choice_of s), refl)
+makes_some Compile s apps = (commands.Compile (choice_of s) s.partitions s.plain s.trace, refl)
+makes_some Clean s apps = (commands.Clean (choice_of s) apps, refl)
 
 -- ---- where the words end
 
@@ -71,7 +68,7 @@ LeadsSomewhere state = (left : List Word) × ((command : Command) × Leads state
 
 at_its_end : (state : State) → Lives state → HasBuild state.settings → LeadsSomewhere state
 at_its_end state lives build =
-    let made = makes_some state.verb state.settings state.others lives.takes.optioned in
+    let made = makes_some state.verb state.settings state.others in
     ([], (made.0, ends_here state made.0 lives.takes build made.1))
 
 -- with one piece more, which gives both a name

@@ -7,7 +7,6 @@ pub mod LiveLemmas
 pub mod MeaningLemmas
 pub mod NamedLemmas
 pub mod NumberLemmas
-pub mod OperandLemmas
 pub mod PieceLemmas
 pub mod ReadLemmas
 pub mod RefusedLemmas

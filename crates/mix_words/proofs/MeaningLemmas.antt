@@ -8,9 +8,9 @@ use Rattle.mix_words.specs.declared.option.Flag.{Flag}
 use Rattle.mix_words.specs.declared.option.Flag.TheVariants.{Plain, Trace}
 use Rattle.mix_words.specs.declared.settings.Settings.{Settings}
 use Rattle.mix_words.specs.declared.verb.Verb.{Verb}
-use Rattle.mix_words.specs.declared.verb.Verb.TheVariants.{Get, Help, Deps, Stale, Compile, Clean, Gen, Batch}
+use Rattle.mix_words.specs.declared.verb.Verb.TheVariants.{Help, Deps, Stale, Compile, Clean}
 use Rattle.mix_words.specs.Choice.{Takes, flag_if, number_in, word_in}
-use Rattle.mix_words.specs.Meaning.{Asks, AsksScript, AsksUnits, Means, Orders, made_of}
+use Rattle.mix_words.specs.Meaning.{Asks, Means, Orders, made_of}
 use Rattle.mix_words.specs.Numbers.{IsPartitionCount}
 use Rattle.mix_words.specs.Piece.{Piece, Stand, Word, others_of, values_of, flags_of, words_in, words_of}
 use Rattle.mix_words.specs.Said.{Says}
@@ -69,31 +69,12 @@ one_order verb words a b x y =
     let made : Some a ≡ Some b =
     sym x.makes ∙ ap (λ (s : Settings). made_of verb s x.apps) settings ∙ ap (made_of verb y.settings) apps ∙ y.makes in cc
 
-one_units : (words : List Word) (a b : Command) → AsksUnits words a → AsksUnits words b → a ≡ b
-one_units words a b x y =
-    let words : x.first ∷ x.second ∷ [] ≡ y.first ∷ y.second ∷ [] = sym x.two ∙ y.two in
-    let first : x.first ≡ y.first = cc in
-    let second : x.second ≡ y.second = cc in
-    let count : x.count ≡ y.count = decimal_injective x.count y.count (omega (arith, x.counts.most)) (omega (arith, y.counts.most))
-    (sym x.counts.bytes ∙ first ∙ y.counts.bytes) in
-    let start : x.start ≡ y.start = decimal_injective x.start y.start (omega (arith, x.starts.most)) (omega (arith, y.starts.most))
-    (sym x.starts.bytes ∙ second ∙ y.starts.bytes) in
-    cc (x.makes, y.makes)
-
-one_script : (words : List Word) (a b : Command) → AsksScript words a → AsksScript words b → a ≡ b
-one_script words a b x y =
-    let words : x.word ∷ [] ≡ y.word ∷ [] = sym x.one ∙ y.one in
-    cc (x.makes, y.makes, x.script.joins, y.script.joins)
-
 one_asked : (verb : Verb) (words : List Word) (a b : Command) → Asks verb words a → Asks verb words b → a ≡ b
-one_asked Get words a b x y = one_order Get words a b x y
 one_asked Help words a b x y = one_order Help words a b x y
 one_asked Deps words a b x y = one_order Deps words a b x y
 one_asked Stale words a b x y = one_order Stale words a b x y
 one_asked Compile words a b x y = one_order Compile words a b x y
 one_asked Clean words a b x y = one_order Clean words a b x y
-one_asked Gen words a b x y = one_units words a b x y
-one_asked Batch words a b x y = one_script words a b x y
 
 pub one_meaning : (words : List Word) (a b : Command) → Means words a → Means words b → a ≡ b
 one_meaning words a b x y =

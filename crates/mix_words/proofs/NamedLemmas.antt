@@ -4,7 +4,7 @@ use Rattle.std.specs.Prelude.{if◌then◌else◌, codes, bytes_eq}
 use Rattle.reading.specs.Refusal.{Begins, IsRefusedAt}
 use Rattle.mix_words.specs.declared.command.Command.{Command}
 use Rattle.mix_words.specs.declared.verb.Verb.{Verb}
-use Rattle.mix_words.specs.declared.verb.Verb.TheVariants.{Get, Help, Deps, Stale, Compile, Clean, Gen, Batch}
+use Rattle.mix_words.specs.declared.verb.Verb.TheVariants.{Help, Deps, Stale, Compile, Clean}
 use Rattle.mix_words.specs.Live.{start_of}
 use Rattle.mix_words.specs.Meaning.{Asks, IsMeant, Means}
 use Rattle.mix_words.specs.Piece.{Word}
@@ -15,25 +15,19 @@ use Rattle.mix_words.proofs.RefusedLemmas.{led_start}
 
 abbrev verb_at : Word → Option Verb
 verb_at word =
-    if bytes_eq word (codes "deps.get") then Some Get
-    else if bytes_eq word (codes "help") then Some Help
+    if bytes_eq word (codes "help") then Some Help
     else if bytes_eq word (codes "deps") then Some Deps
     else if bytes_eq word (codes "deps.stale") then Some Stale
     else if bytes_eq word (codes "deps.compile") then Some Compile
     else if bytes_eq word (codes "deps.clean") then Some Clean
-    else if bytes_eq word (codes "gen") then Some Gen
-    else if bytes_eq word (codes "batch") then Some Batch
     else None
 
 verb_of_name : (verb : Verb) → verb_at (name_of verb) ≡ Some verb
-verb_of_name Get = refl
 verb_of_name Help = refl
 verb_of_name Deps = refl
 verb_of_name Stale = refl
 verb_of_name Compile = refl
 verb_of_name Clean = refl
-verb_of_name Gen = refl
-verb_of_name Batch = refl
 
 -- a name is one command's
 pub one_name : (v w : Verb) → name_of v ≡ name_of w → v ≡ w
@@ -67,7 +61,7 @@ refused_named verb rest at refused = record {
 -- some words are a command's
 some_words : Begins IsMeant []
 some_words =
-    let led = led_start Help refl in
+    let led = led_start Help in
     let on = lives_leads (start_of Help).state led.lives.state in
     (name_of Help ∷ on.0, (on.1.0, means_behind Help on.0 on.1.0 (led.back on.0 on.1.0 on.1.1)))
 

@@ -1,6 +1,6 @@
 -- Reading the words behind a command's name, place by place.
 use Rattle.std.proofs.Common.{◌≡◌, ℕ, zero, suc, ◌+◌, ◌<◌, ◌≤◌, List, [], ◌∷◌, ◌++◌, length, map, take, drop, get_or, refl, sym, ap, ◌∙◌, subst, arith, add-one, append-nil}
-use Rattle.std.specs.Prelude.{IsTrue, Err}
+use Rattle.std.specs.Prelude.{Err}
 use Rattle.reading.specs.Refusal.{IsRefusedAt}
 use Rattle.mix_words.specs.declared.command.Command.{Command}
 use Rattle.mix_words.specs.declared.verb.Verb.{Verb}
@@ -12,7 +12,6 @@ use Rattle.mix_words.specs.declared.error.Stop.{Stop}
 use Rattle.mix_words.specs.declared.error.Stop.TheVariants as stops
 use Rattle.mix_words.specs.declared.error.WordsError.{WordsError}
 use Rattle.mix_words.specs.Reading.{IsAsked, IsBehind, blame_of, refused_at}
-use Rattle.mix_words.specs.Table.{is_optioned}
 use Rattle.mix_words.proofs.RefusedLemmas.{IsOrdered, Led, led_more, orders_ask, refused_at_end, refused_at_word, refused_behind}
 
 one_taken : {A : Type 0} (f : A → Word) (xs : List A) (i : ℕ) (x : A) → i < length xs → x ≡ get_or xs i x
@@ -48,31 +47,31 @@ module _ {A : Type 0} (f : A → Word) (verb : Verb) (xs : List A) (i : ℕ) whe
       (led_more verb (take i (map f xs)) old new (f x) led follows)
 
   -- the word is refused
-  pub refused_there : IsTrue (is_optioned verb) → (x : A) (place : Place) → i < length xs → x ≡ get_or xs i x → Led verb (take i (map f xs)) place
+  pub refused_there : (x : A) (place : Place) → i < length xs → x ≡ get_or xs i x → Led verb (take i (map f xs)) place
       → Dies place (f x)
       → IsRefusedAt (IsAsked verb) (map f xs) i
-  refused_there optioned x place within is led dies =
+  refused_there x place within is led dies =
       let cut = cut_at f xs i x within is in
-      refused_behind verb optioned (map f xs) i
+      refused_behind verb (map f xs) i
       (subst (IsRefusedAt (IsOrdered verb) (map f xs)) (so_long f xs i (omega arith))
       (subst (λ (t : List Word). IsRefusedAt (IsOrdered verb) t (length (take i (map f xs)))) (sym cut.1)
       (refused_at_word verb (take i (map f xs)) cut.0 place (f x) led dies)))
 
   -- the words end, and some are wanting
-  pub refused_in_the_end : IsTrue (is_optioned verb) → (place : Place) → length xs ≤ i → i ≤ length xs → Led verb (take i (map f xs)) place
+  pub refused_in_the_end : (place : Place) → length xs ≤ i → i ≤ length xs → Led verb (take i (map f xs)) place
       → ((command : Command) → LeadsOn place [] command → ⊥) → IsRefusedAt (IsAsked verb) (map f xs) (length xs)
-  refused_in_the_end optioned place all within led ends =
+  refused_in_the_end place all within led ends =
       let same : i ≡ length xs = omega arith in
-      refused_behind verb optioned (map f xs) (length xs)
+      refused_behind verb (map f xs) (length xs)
       (subst (IsRefusedAt (IsOrdered verb) (map f xs)) (so_long f xs i within ∙ same)
       (subst (λ (t : List Word). IsRefusedAt (IsOrdered verb) t (length (take i (map f xs)))) (taken_whole f xs i all)
       (refused_at_end verb (take i (map f xs)) place led ends)))
 
   -- the words end, and are a command's
-  pub asked_in_the_end : IsTrue (is_optioned verb) → (place : Place) (command : Command) → length xs ≤ i → Led verb (take i (map f xs)) place
+  pub asked_in_the_end : (place : Place) (command : Command) → length xs ≤ i → Led verb (take i (map f xs)) place
       → LeadsOn place [] command → Asks verb (map f xs) command
-  asked_in_the_end optioned place command all led leads =
-      orders_ask verb optioned (map f xs) command
+  asked_in_the_end place command all led leads =
+      orders_ask verb (map f xs) command
       (subst (λ (t : List Word). Orders verb t command) (append-nil (take i (map f xs)) ∙ taken_whole f xs i all) (led.back [] command leads))
 
 -- what stopped the reader is no command's, or says nothing

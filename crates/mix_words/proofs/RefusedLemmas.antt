@@ -10,13 +10,12 @@ use Rattle.mix_words.specs.declared.option.Flag.{Flag}
 use Rattle.mix_words.specs.declared.option.Flag.TheVariants.{Plain, Trace}
 use Rattle.mix_words.specs.declared.settings.Settings.{Settings}
 use Rattle.mix_words.specs.declared.verb.Verb.{Verb}
-use Rattle.mix_words.specs.declared.verb.Verb.TheVariants.{Get, Help, Deps, Stale, Compile, Clean, Gen, Batch}
+use Rattle.mix_words.specs.declared.verb.Verb.TheVariants.{Help, Deps, Stale, Compile, Clean}
 use Rattle.mix_words.specs.Choice.{Takes, given_in, raised_in, unset}
 use Rattle.mix_words.specs.Live.{Bars, BarsOption, Dies, Follows, Goes, Leads, LeadsOn, Lives, LivesOn, MayGive, Place, State, ready_at, start_of, waiting_word}
 use Rattle.mix_words.specs.Meaning.{Asks, Orders, made_of}
 use Rattle.mix_words.specs.Piece.{Joint, Piece, Spaced, Stands, Word, flags_of, others_of, valued_word, values_of, words_in}
 use Rattle.mix_words.specs.Reading.{IsAsked}
-use Rattle.mix_words.specs.Table.{is_optioned}
 use Rattle.mix_words.proofs.LeadLemmas.{lives_leads, waits_leads}
 use Rattle.mix_words.proofs.PieceLemmas.{IsUnknown}
 use Rattle.mix_words.proofs.StateLemmas.{adds_back, adds_on, barred, option_barred, spaced_adds, spaced_bars, unknown_barred, value_wanted}
@@ -127,14 +126,13 @@ leads_order verb words command l = record {
   makes = l.makes;
 }
 
-pub led_start : (verb : Verb) → IsTrue (is_optioned verb) → Led verb [] (start_of verb)
-led_start verb optioned = record {
+pub led_start : (verb : Verb) → Led verb [] (start_of verb)
+led_start verb = record {
   on = orders_lead verb;
   back = leads_order verb;
   lives = record {
     state = record {
       takes = record {
-        optioned = optioned;
         env = tt;
         target = tt;
         partitions = tt;
@@ -193,31 +191,25 @@ refused_at_end verb words place led ends =
 
 -- ---- the same by the table
 
-pub orders_ask : (verb : Verb) → IsTrue (is_optioned verb) → (words : List Word) (command : Command) → Orders verb words command → Asks verb words command
-orders_ask Get e words command o = o
-orders_ask Help e words command o = o
-orders_ask Deps e words command o = o
-orders_ask Stale e words command o = o
-orders_ask Compile e words command o = o
-orders_ask Clean e words command o = o
-orders_ask Gen e words command o = cc
-orders_ask Batch e words command o = cc
+pub orders_ask : (verb : Verb) → (words : List Word) (command : Command) → Orders verb words command → Asks verb words command
+orders_ask Help words command o = o
+orders_ask Deps words command o = o
+orders_ask Stale words command o = o
+orders_ask Compile words command o = o
+orders_ask Clean words command o = o
 
-pub asks_order : (verb : Verb) → IsTrue (is_optioned verb) → (words : List Word) (command : Command) → Asks verb words command → Orders verb words command
-asks_order Get e words command o = o
-asks_order Help e words command o = o
-asks_order Deps e words command o = o
-asks_order Stale e words command o = o
-asks_order Compile e words command o = o
-asks_order Clean e words command o = o
-asks_order Gen e words command o = cc
-asks_order Batch e words command o = cc
+pub asks_order : (verb : Verb) → (words : List Word) (command : Command) → Asks verb words command → Orders verb words command
+asks_order Help words command o = o
+asks_order Deps words command o = o
+asks_order Stale words command o = o
+asks_order Compile words command o = o
+asks_order Clean words command o = o
 
-pub refused_behind : (verb : Verb) → IsTrue (is_optioned verb) → (words : List Word) (at : ℕ) → IsRefusedAt (IsOrdered verb) words at
+pub refused_behind : (verb : Verb) → (words : List Word) (at : ℕ) → IsRefusedAt (IsOrdered verb) words at
     → IsRefusedAt (IsAsked verb) words at
-refused_behind verb e words at refused =
+refused_behind verb words at refused =
     refused_same (IsOrdered verb) (IsAsked verb)
-    (λ text o. (o.0, orders_ask verb e text o.0 o.1)) (λ text o. (o.0, asks_order verb e text o.0 o.1)) words at refused
+    (λ text o. (o.0, orders_ask verb text o.0 o.1)) (λ text o. (o.0, asks_order verb text o.0 o.1)) words at refused
 
 -- ---- the same at a place whose state is told
 

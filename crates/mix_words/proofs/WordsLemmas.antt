@@ -1,5 +1,5 @@
 -- Reading all words.
-use Rattle.std.proofs.Common.{◌≡◌, ℕ, ◌+◌, List, [], ◌∷◌, length, map, refl, subst}
+use Rattle.std.proofs.Common.{◌≡◌, ℕ, ◌+◌, List, [], ◌∷◌, length, map, refl, sym, ap, subst, arith}
 use Rattle.std.specs.Prelude.{Err}
 use Rattle.mx_base.specs.Blame.{Computes}
 use Rattle.reading.specs.Refusal.{IsRefusedAt}
@@ -10,12 +10,18 @@ use Rattle.mix_words.specs.Piece.{Word}
 use Rattle.mix_words.specs.Reading.{IsAsked, IsReading, blame_of}
 use Rattle.mix_words.specs.Table.{name_of}
 use Rattle.mix_words.proofs.NamedLemmas.{refused_empty, refused_later, refused_unnamed}
-use Rattle.mix_words.proofs.OperandLemmas.{first_words, no_words}
 
 pub computes_reading : (words : List Word) (at : ℕ) → IsRefusedAt IsMeant words at → Computes blame_of (Err (Refused at)) (IsReading words)
 computes_reading words at refused = record { answer = λ _. refused; alone = refl }
 
 module _ {A : Type 0} (f : A → Word) where
+  no_words : (xs : List A) → length xs ≡ 0 → [] ≡ map f xs
+  no_words [] e = refl
+  no_words (x ∷ xs) e = absurd (omega arith)
+
+  first_words : (xs rest : List A) (x : A) → xs ≡ x ∷ rest → f x ∷ map f rest ≡ map f xs
+  first_words xs rest x e = sym (ap (map f) e)
+
   pub refused_no_words : (xs : List A) → length xs ≡ 0 → IsRefusedAt IsMeant (map f xs) 0
   refused_no_words xs e = subst (λ (t : List Word). IsRefusedAt IsMeant t 0) (no_words f xs e) refused_empty
 

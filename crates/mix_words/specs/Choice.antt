@@ -12,7 +12,7 @@ use Rattle.mix_words.specs.declared.option.Flag.{Flag}
 use Rattle.mix_words.specs.declared.option.Flag.TheVariants.{Plain, Trace}
 use Rattle.mix_words.specs.Piece.{Word}
 use Rattle.mix_words.specs.Numbers.{IsPartitionCount}
-use Rattle.mix_words.specs.Table.{is_optioned, takes_build, takes_run, takes_apps}
+use Rattle.mix_words.specs.Table.{takes_build, takes_run, takes_apps}
 
 -- no option is given
 abbrev pub unset : Settings
@@ -62,7 +62,6 @@ pub record IsApp (verb : Verb) (before : List Word) (app : Word) : Type 0 where
 
 -- what a command takes of options and of other words
 pub record Takes (verb : Verb) (settings : Settings) (others : List Word) : Type 0 where
-  pub optioned : IsTrue (is_optioned verb)
   pub env : IfSome settings.env (λ env. IsTrue (takes_build verb) × IsAppName env)
   pub target : IfSome settings.target (λ target. IsTrue (takes_build verb) × IsAppName target)
   pub partitions : IfSome settings.partitions (λ n. IsTrue (takes_run verb) × IsPartitionCount n × IsFalse settings.plain)

@@ -1,16 +1,13 @@
 -- Which words are which command.
-use Rattle.std.specs.Prelude.{◌≡◌, ℕ, List, [], ◌∷◌, IsFalse, Option, Some, None, Result, Ok, Err}
-use Rattle.mx_base.specs.Join.{joined}
-use Rattle.mx_base.specs.Layout.{is_in_build}
+use Rattle.std.specs.Prelude.{◌≡◌, List, ◌∷◌, Option, Some, None}
 use Rattle.mix_words.specs.declared.command.Command.{Command}
 use Rattle.mix_words.specs.declared.command.Command.TheVariants as commands
 use Rattle.mix_words.specs.declared.settings.Settings.{Settings}
 use Rattle.mix_words.specs.declared.verb.Verb.{Verb}
-use Rattle.mix_words.specs.declared.verb.Verb.TheVariants.{Get, Help, Deps, Stale, Compile, Clean, Gen, Batch}
+use Rattle.mix_words.specs.declared.verb.Verb.TheVariants.{Help, Deps, Stale, Compile, Clean}
 use Rattle.mix_words.specs.Chosen.{Chosen}
 use Rattle.mix_words.specs.Choice.{HasBuild, Takes, env_of, target_of}
-use Rattle.mix_words.specs.Numbers.{IsNumber, most_units, most_start}
-use Rattle.mix_words.specs.Piece.{Word, is_dashed}
+use Rattle.mix_words.specs.Piece.{Word}
 use Rattle.mix_words.specs.Said.{Says}
 use Rattle.mix_words.specs.Table.{name_of}
 
@@ -19,7 +16,6 @@ choice_of settings = record { env = env_of settings; target = target_of settings
 
 -- the command that a name, settings and apps make
 abbrev pub made_of : Verb → Settings → List Word → Option Command
-made_of Get settings apps = Some commands.Get
 made_of Help settings apps = Some commands.Help
 made_of Deps settings apps = Some (commands.Deps (choice_of settings))
 made_of Stale settings apps = Some (commands.Stale (choice_of settings))
@@ -36,35 +32,8 @@ pub record Orders (verb : Verb) (words : List Word) (command : Command) : Type 0
   pub build : HasBuild settings
   pub makes : made_of verb settings apps ≡ Some command
 
--- the words are how many units, and the number to start from
-pub record AsksUnits (words : List Word) (command : Command) : Type 0 where
-  pub first : Word
-  pub second : Word
-  pub count : ℕ
-  pub start : ℕ
-  pub two : words ≡ first ∷ second ∷ []
-  pub counts : IsNumber 0 most_units first count
-  pub starts : IsNumber 0 most_start second start
-  pub makes : command ≡ commands.Gen count start
-
--- the word names a path outside of the builds
-pub record IsScript (word : Word) (path : List ℕ) : Type 0 where
-  pub no_option : IsFalse (is_dashed word)
-  pub joins : joined [] word ≡ Ok path
-  pub outside : IsFalse (is_in_build path)
-
--- the words are the one of a script's path
-pub record AsksScript (words : List Word) (command : Command) : Type 0 where
-  pub word : Word
-  pub path : List ℕ
-  pub one : words ≡ word ∷ []
-  pub script : IsScript word path
-  pub makes : command ≡ commands.Batch path
-
 -- the words behind a command's name, and the command that they make of it
 abbrev pub Asks : Verb → List Word → Command → Type 0
-Asks Gen words command = AsksUnits words command
-Asks Batch words command = AsksScript words command
 Asks verb words command = Orders verb words command
 
 -- the words are this command's: its name, and what it takes behind it

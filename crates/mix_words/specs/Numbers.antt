@@ -17,9 +17,3 @@ pub record IsNumber (low high : ℕ) (text : List ℕ) (number : ℕ) : Type 0 w
 pub record IsPartitionCount (count : ℕ) : Type 0 where
   pub least : 1 ≤ count
   pub most : count ≤ 64
-
-abbrev pub most_units : ℕ
-most_units = 4000
-
-abbrev pub most_start : ℕ
-most_start = 2147483647

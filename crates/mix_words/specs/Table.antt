@@ -1,30 +1,21 @@
 -- The table of the commands: their names, and which options and other words each takes.
 use Rattle.std.specs.Prelude.{ℕ, Bool, true, false, List, [], ◌∷◌, ◌++◌, codes, flat_map, map}
 use Rattle.mix_words.specs.declared.verb.Verb.{Verb}
-use Rattle.mix_words.specs.declared.verb.Verb.TheVariants.{Get, Help, Deps, Stale, Compile, Clean, Gen, Batch}
+use Rattle.mix_words.specs.declared.verb.Verb.TheVariants.{Help, Deps, Stale, Compile, Clean}
 use Rattle.mix_words.specs.declared.option.Valued.{Valued}
 use Rattle.mix_words.specs.declared.option.Valued.TheVariants.{Env, Target, Partitions}
 
 -- the word that names a command
 abbrev pub name_of : Verb → List ℕ
-name_of Get = codes "deps.get"
 name_of Help = codes "help"
 name_of Deps = codes "deps"
 name_of Stale = codes "deps.stale"
 name_of Compile = codes "deps.compile"
 name_of Clean = codes "deps.clean"
-name_of Gen = codes "gen"
-name_of Batch = codes "batch"
 
 -- in the order in which they are listed
 abbrev pub verbs : List Verb
-verbs = Get ∷ Help ∷ Deps ∷ Stale ∷ Compile ∷ Clean ∷ Gen ∷ Batch ∷ []
-
--- the words behind it are options and apps; behind the others they are what stands at each place
-abbrev pub is_optioned : Verb → Bool
-is_optioned Gen = false
-is_optioned Batch = false
-is_optioned verb = true
+verbs = Help ∷ Deps ∷ Stale ∷ Compile ∷ Clean ∷ []
 
 -- it takes `--env` and `--target`
 abbrev pub takes_build : Verb → Bool

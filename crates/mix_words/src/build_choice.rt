@@ -25,7 +25,7 @@ impl Model for BuildChoice {
 
 impl BuildChoice {
     /// The choice of both.
-    pub(crate) fn new(env: AppName, target: AppName) -> BuildChoice
+    pub fn new(env: AppName, target: AppName) -> BuildChoice
         requires { HasBuildName env target }
         ensures { result ≡ record { env = env; target = target } }
     {

@@ -1,13 +1,11 @@
 // What the program can be asked for.
 
 use crate::build_choice::BuildChoice;
-use mx_base::{Names, RelPath};
+use mx_base::Names;
 
 /// What the program can be asked for.
 #[derive(Drop)]
 pub enum Command {
-    /// Fetches what the registry has of the project's dependencies.
-    Get,
     /// The names of the commands.
     Help,
     /// Lists the dependencies.
@@ -32,14 +30,5 @@ pub enum Command {
     Clean {
         build: BuildChoice,
         apps: Names,
-    },
-    /// Generates a project of so many units, from 0 to 4000, by a number from 0 to 2147483647.
-    Gen {
-        count: u32,
-        start: u32,
-    },
-    /// Runs the script at a path outside of the builds.
-    Batch {
-        path: RelPath,
     },
 }

@@ -52,7 +52,7 @@ fn begins_tagged(name: &str) -> bool
 }
 
 /// Whether an environment has the name of a build for a target, which is told without making it.
-pub(crate) fn has_build_name(env: &str, target: &str) -> bool
+pub fn has_build_name(env: &str, target: &str) -> bool
     requires env { length env.now < 256 }
     requires target { length target.now < 256 }
     ensures { IsTrue result ↔ HasBuildName env.now target.now }

@@ -1,12 +1,10 @@
 // Reading the words of the command line.
-ghost use Rattle.std.specs.Prelude.{◌≡◌, map, string_bytes, IsTrue};
+ghost use Rattle.std.specs.Prelude.{◌≡◌, map, string_bytes};
 ghost use Rattle.mx_base.specs.Blame.{Computes};
 ghost use Rattle.mix_words.specs.Reading.{IsBehind, IsReading, blame_of, refused_at};
-ghost use Rattle.mix_words.specs.Table.{is_optioned};
 
 use crate::command::Command;
 use crate::error::{Stop, WordsError};
-use crate::operands::{read_script, read_units};
 use crate::reader::Reader;
 use crate::verb::Verb;
 use std::alloc::Global;
@@ -26,7 +24,7 @@ pub fn read_words(alloc: Global, words: &[String]) -> Result<Command, WordsError
     let Some(verb) = Verb::named(first.as_str()) else {
         return Err(WordsError::Refused { at: 0 });
     };
-    match read_behind(alloc, verb, rest) {
+    match read_pieces(alloc, verb, rest) {
         Ok(command) => Ok(command),
         Err(WordsError::Refused { at }) => Err(WordsError::Refused { at: at + 1 }),
         Err(WordsError::OutOfMemory) => Err(WordsError::OutOfMemory),
@@ -34,19 +32,7 @@ pub fn read_words(alloc: Global, words: &[String]) -> Result<Command, WordsError
 }
 
 // What the words behind a command's name make of it.
-fn read_behind(alloc: Global, verb: Verb, words: &[String]) -> Result<Command, WordsError>
-    ensures { Computes blame_of result (IsBehind verb (map (λ word. string_bytes word) words.now)) }
-{
-    match verb {
-        Verb::Gen => read_units(words),
-        Verb::Batch => read_script(alloc, words),
-        _ => read_pieces(alloc, verb, words),
-    }
-}
-
-// The command of options and apps.
 fn read_pieces(alloc: Global, verb: Verb, words: &[String]) -> Result<Command, WordsError>
-    requires { IsTrue (is_optioned verb) }
     ensures { Computes blame_of result (IsBehind verb (map (λ word. string_bytes word) words.now)) }
 {
     let mut reader = Reader::new(alloc, verb);

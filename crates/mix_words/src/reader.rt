@@ -110,7 +110,6 @@ fn command_of(alloc: Global, sofar: Sofar<'_>) -> Result<Command, Stop>
         (λ stop. stop ≡ stops.Refused → (command : IsCommand) → Leads (state_of sofar.entry) [] command → ⊥) }
 {
     match sofar.verb {
-        Verb::Get => Ok(Command::Get),
         Verb::Help => Ok(Command::Help),
         _ => built(alloc, sofar),
     }

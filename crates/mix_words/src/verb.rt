@@ -7,26 +7,20 @@ use crate::option::Valued;
 /// The name of a command.
 #[derive(Clone, Copy, Drop)]
 pub(crate) enum Verb {
-    Get,
     Help,
     Deps,
     Stale,
     Compile,
     Clean,
-    Gen,
-    Batch,
 }
 
 /// The commands, in the order in which they are listed.
-pub(crate) const VERBS: [Verb; 8] = [
-    Verb::Get,
+pub(crate) const VERBS: [Verb; 5] = [
     Verb::Help,
     Verb::Deps,
     Verb::Stale,
     Verb::Compile,
     Verb::Clean,
-    Verb::Gen,
-    Verb::Batch,
 ];
 
 impl Verb {
@@ -35,14 +29,11 @@ impl Verb {
         ensures { result.now ≡ name_of self }
     {
         match self {
-            Verb::Get => "deps.get",
             Verb::Help => "help",
             Verb::Deps => "deps",
             Verb::Stale => "deps.stale",
             Verb::Compile => "deps.compile",
             Verb::Clean => "deps.clean",
-            Verb::Gen => "gen",
-            Verb::Batch => "batch",
         }
     }
 
@@ -52,14 +43,11 @@ impl Verb {
         ensures none { IfNone result ((verb : Verb) → word.now ≡ name_of verb → ⊥) }
     {
         match word {
-            "deps.get" => Some(Verb::Get),
             "help" => Some(Verb::Help),
             "deps" => Some(Verb::Deps),
             "deps.stale" => Some(Verb::Stale),
             "deps.compile" => Some(Verb::Compile),
             "deps.clean" => Some(Verb::Clean),
-            "gen" => Some(Verb::Gen),
-            "batch" => Some(Verb::Batch),
             _ => None,
         }
     }

@@ -9,22 +9,11 @@ ghost use Rattle.mix_main.specs.Status.{code_of};
 use compile_model::EchoCompiler;
 use mix_main::{Status, run};
 use std::alloc::AllocError;
-use std::env;
-use std::io::ErrorKind;
 use std::process::ExitCode;
-use tree_host::{HostSink, HostStore};
-
-// The words of the command line. Words that aren't UTF-8 are none, so that the first of them is refused.
-fn words(rt: &HostRuntime) -> Result<Vec<String>, AllocError> {
-    match env::args(rt) {
-        Ok(words) => words.skip(1).collect(rt.alloc()),
-        Err(error) if error.kind() == ErrorKind::OutOfMemory => Err(AllocError),
-        Err(_) => Ok(Vec::new(rt.alloc())),
-    }
-}
+use tree_host::{HostSink, HostStore, host_words};
 
 fn status(rt: &HostRuntime) -> Result<Status, AllocError> {
-    let words = words(rt)?;
+    let words = host_words(rt)?;
     let mut store = HostStore::new(rt.clone()?, rt.alloc(), ".")?;
     let mut out = HostSink::new(rt.clone()?);
     Ok(run(rt.alloc(), &words, &mut store, &mut EchoCompiler, &mut out))

@@ -1,5 +1,5 @@
 -- What folders hold, while fates are added.
-use Rattle.std.proofs.Common.{◌≡◌, ℕ, ◌⊎◌, inl, inr, List, Option, Some, None, IfSome, slice_get, refl, sym, ◌∙◌, ap}
+use Rattle.std.proofs.Common.{◌≡◌, ℕ, true, ◌⊎◌, inl, inr, List, Option, Some, None, IfSome, slice_get, refl, sym, ◌∙◌, ap}
 use Rattle.compile_model.specs.declared.job.Job.{Job}
 use Rattle.compile_model.specs.declared.outcome.Outcome.{Outcome}
 use Rattle.compile_model.specs.declared.outcome.Fate.{Fate}
@@ -9,7 +9,7 @@ use Rattle.build_manifest.specs.MarkOf.{mark_of}
 use Rattle.staleness.specs.declared.kept.Kept.{Kept}
 use Rattle.tree_store.specs.declared.holding.Holding.{Holding}
 use Rattle.tree_store.proofs.MomentLemmas.{if_told, told_has}
-use Rattle.partition_core.specs.State.{Opening, State, at, kept_matches, needs_at}
+use Rattle.partition_core.specs.State.{Opening, State, at, kept_matches, missing, needs_at, outcomes_now, stands}
 use Rattle.partition_board.specs.Holds.{HoldsBuilt, HoldsBy, HoldsKept, WasKept, WasMade}
 use Rattle.partition_board.specs.Homes.{Fits, IsStale}
 use Rattle.partition_board.proofs.Growing.{Grows, first_grow, outcomes_grow}
@@ -19,12 +19,22 @@ pub if_weaker : (P Q : Holding → Type 0) (told : Option Holding) → ((held : 
 if_weaker P Q told weaker has = if_told told (λ held is. weaker held (told_has P told held is has))
 
 abbrev Owns : Opening → List (Option Fate) → ℕ → Outcome → MarkView → Type 0
-Owns o fates place outcome mark = WasKept o place outcome mark ⊎ ((job : Job) × (slice_get o.plan.jobs place ≡ Some job) × WasMade job fates outcome mark)
+Owns o fates place outcome mark =
+    WasKept o fates place (record { mark = mark; outcome = outcome }) ⊎ ((job : Job) × (slice_get o.plan.jobs place ≡ Some job) × WasMade job fates outcome mark)
+
+pub kept_grow : (o : Opening) (fates next : List (Option Fate)) → Grows fates next → (place : ℕ) (kept : Kept) → WasKept o fates place kept
+    → WasKept o next place kept
+kept_grow o fates next grows place kept was = record {
+  entry = was.entry;
+  ready = first_grow fates next grows (needs_at o place) was.ready;
+  fits = ap (kept_matches (Some kept) (slice_get o.plan.jobs place)) (sym (outcomes_grow fates next grows (needs_at o place) was.ready)) ∙ was.fits;
+}
 
 owns_grow : (o : Opening) (fates next : List (Option Fate)) → Grows fates next → (place : ℕ) (outcome : Outcome) (mark : MarkView)
     → Owns o fates place outcome mark
     → Owns o next place outcome mark
-owns_grow o fates next grows place outcome mark (inl kept) = inl kept
+owns_grow o fates next grows place outcome mark (inl kept) =
+    inl (kept_grow o fates next grows place (record { mark = mark; outcome = outcome }) kept)
 owns_grow o fates next grows place outcome mark (inr (job, here, made)) = inr (
   job,
   here,
@@ -46,15 +56,25 @@ holds_grow o fates next grows place outcome held holds = record {
   own = owns_grow o fates next grows place outcome holds.mark holds.own;
 }
 
-pub kept_holds : (o : Opening) (fates : List (Option Fate)) (place : ℕ) (kept : Kept) (held : Holding) → at o.kept place ≡ Some kept → HoldsKept kept held
+-- a kept mark that stands is that of the job and of what its needs have come to
+pub was_kept : (o : Opening) (s : State) (place : ℕ) (kept : Kept) → at o.kept place ≡ Some kept → missing o s place ≡ None → stands o s place ≡ true
+    → WasKept o s.fates place kept
+was_kept o s place kept is ready stood = record {
+  entry = is;
+  ready = ready;
+  fits = ap (λ (k : Option Kept). kept_matches k (slice_get o.plan.jobs place) (outcomes_now s.fates (needs_at o place))) (sym is) ∙ stood;
+}
+
+pub kept_holds : (o : Opening) (fates : List (Option Fate)) (place : ℕ) (kept : Kept) (held : Holding) → WasKept o fates place kept
+    → HoldsKept kept held
     → HoldsBuilt o fates place kept.outcome held
-kept_holds o fates place kept held is holds = record {
+kept_holds o fates place kept held was holds = record {
   files = holds.files;
   bytes = holds.bytes;
   mark = kept.mark;
   stands = holds.stands;
   reads = holds.reads;
-  own = inl (record { entry = kept; kept = is; same = refl; own = refl });
+  own = inl was;
 }
 
 -- where a place has a fate, what suits it suits it later

@@ -19,10 +19,10 @@ use Rattle.partition_core.specs.State.{Opening, State, at, stands, outcomes_now,
 use Rattle.partition_core.specs.Steps.{IsLegal, Holds, after}
 use Rattle.partition_core.proofs.Tidy.{Tidy, not_run}
 use Rattle.partition_core.proofs.Places.{get_set, kept_parts, set_other, set_same, standing_get}
-use Rattle.partition_board.specs.Holds.{HoldsBuilt, HoldsKept}
+use Rattle.partition_board.specs.Holds.{HoldsBuilt, HoldsKept, WasKept}
 use Rattle.partition_board.specs.Homes.{AreHome, Fits, IsAtHome, IsStale, RunsAt}
 use Rattle.partition_board.proofs.Growing.{Grows, at_open, at_set, grows_step}
-use Rattle.partition_board.proofs.Holding.{fits_grow, holds_grow, if_weaker, kept_holds, stale_grow}
+use Rattle.partition_board.proofs.Holding.{fits_grow, holds_grow, if_weaker, kept_grow, kept_holds, stale_grow, was_kept}
 
 -- what one partition does changes nothing of who runs a place that it runs neither before nor after
 runs_set : (standings : List Standing) (b : ℕ) (was now : Standing) (i p : ℕ) → slice_get standings b ≡ Some was → (was ≡ Runs p → ⊥) → (now ≡ Runs p → ⊥)
@@ -141,12 +141,14 @@ module _ {F : Type 0} (known : F → FolderKnown) (Is Next : ℕ → F → Type 
       let is : fate ≡ Some (Built kept.outcome) = ap (option_map (λ (k : Kept). Built k.outcome)) parts.2 in
       let now : State = after o s (Keep place by) in
       settled place fate (grows_step o s tidy (Keep place by) legal) keeps legal.0.open_place (not_run s place by legal.0)
-      (λ held fits. subst (λ (f : Option Fate). Fits o now place f held) (sym is) (suits now kept held parts.2 (fits kept parts.2) legal.2))
+      (λ held fits. subst (λ (f : Option Fate). Fits o now place f held) (sym is)
+      (suits now kept held (kept_grow o s.fates now.fates (grows_step o s tidy (Keep place by) legal) place kept (was_kept o s place kept parts.2 legal.1 legal.2))
+      (fits kept parts.2) legal.2))
     where
-      suits : (now : State) (kept : Kept) (held : Holding) → at o.kept place ≡ Some kept → HoldsKept kept held ⊎ IsStale o s place → stands o s place ≡ true
+      suits : (now : State) (kept : Kept) (held : Holding) → WasKept o now.fates place kept → HoldsKept kept held ⊎ IsStale o s place → stands o s place ≡ true
           → HoldsBuilt o now.fates place kept.outcome held
-      suits now kept held is (inr stale) stood = absurd (let no : stands o s place ≡ false = stale.1 in cc)
-      suits now kept held is (inl holds) stood = kept_holds o now.fates place kept held is holds
+      suits now kept held was (inr stale) stood = absurd (let no : stands o s place ≡ false = stale.1 in cc)
+      suits now kept held was (inl holds) stood = kept_holds o now.fates place kept held was holds
 
   pub skip_home : (place need by : ℕ) → IsLegal o s (Skip place need by) → ((p : ℕ) (folder : F) → Is p folder → Next p folder)
       → AreHome known Next o (after o s (Skip place need by)) homes

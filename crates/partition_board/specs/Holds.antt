@@ -1,5 +1,5 @@
 -- What the folder of a place holds, before a build and after it.
-use Rattle.std.specs.Prelude.{◌≡◌, ◌⊎◌, ℕ, List, length, map, slice_get, Option, Some, None, IfSome}
+use Rattle.std.specs.Prelude.{◌≡◌, ◌⊎◌, ℕ, List, length, map, slice_get, Option, Some, None, IfSome, IsTrue}
 use Rattle.compile_model.specs.declared.job.Job.{Job}
 use Rattle.compile_model.specs.declared.outcome.Outcome.{Outcome}
 use Rattle.compile_model.specs.declared.outcome.Fate.{Fate}
@@ -11,7 +11,7 @@ use Rattle.staleness.specs.declared.kept.Kept.{Kept}
 use Rattle.tree_store.specs.declared.holding.Holding.{Holding}
 use Rattle.tree_store.specs.FolderKnown.{FolderKnown}
 use Rattle.tree_store.specs.Holding.{nothing}
-use Rattle.partition_core.specs.State.{Opening, at, first_open, outcomes_now}
+use Rattle.partition_core.specs.State.{Opening, at, first_open, kept_matches, needs_at, outcomes_now}
 
 -- ---- before
 
@@ -31,12 +31,11 @@ pub record AreReady (o : Opening) (folders : List FolderKnown) : Type 0 where
 
 -- ---- after
 
--- the mark is the one that was kept with the outcome
-pub record WasKept (o : Opening) (place : ℕ) (outcome : Outcome) (mark : MarkView) : Type 0 where
-  pub entry : Kept
-  pub kept : at o.kept place ≡ Some entry
-  pub same : entry.outcome ≡ outcome
-  pub own : entry.mark ≡ mark
+-- this was kept of the place, and its mark is that of the job and of what its needs have come to
+pub record WasKept (o : Opening) (fates : List (Option Fate)) (place : ℕ) (kept : Kept) : Type 0 where
+  pub entry : at o.kept place ≡ Some kept
+  pub ready : first_open fates (needs_at o place) ≡ None
+  pub fits : IsTrue (kept_matches (Some kept) (slice_get o.plan.jobs place) (outcomes_now fates (needs_at o place)))
 
 -- the mark is that of the job, of what its needs have come to, and of the outcome
 pub record WasMade (job : Job) (fates : List (Option Fate)) (outcome : Outcome) (mark : MarkView) : Type 0 where
@@ -50,7 +49,7 @@ pub record HoldsBuilt (o : Opening) (fates : List (Option Fate)) (place : ℕ) (
   pub mark : MarkView
   pub stands : held.mark ≡ Some bytes
   pub reads : Spells bytes mark
-  pub own : WasKept o place outcome mark ⊎ ((job : Job) × (slice_get o.plan.jobs place ≡ Some job) × WasMade job fates outcome mark)
+  pub own : WasKept o fates place (record { mark = mark; outcome = outcome }) ⊎ ((job : Job) × (slice_get o.plan.jobs place ≡ Some job) × WasMade job fates outcome mark)
 
 -- what the folder of a place holds by its fate, where it tells
 abbrev pub HoldsBy : Opening → List (Option Fate) → ℕ → Option Fate → Holding → Type 0

@@ -13,14 +13,14 @@ use Rattle.tree_store.specs.FolderKnown.{FolderKnown}
 use Rattle.tree_store.specs.Holding.{marked, nothing, only_files}
 use Rattle.tree_store.specs.Moment.{Write}
 use Rattle.tree_store.proofs.MomentLemmas.{if_told, told_has}
-use Rattle.partition_core.specs.State.{Opening, at, first_open, outcomes_now}
+use Rattle.partition_core.specs.State.{Opening, at, first_open, kept_matches, needs_at, outcomes_now}
 use Rattle.partition_core.proofs.Places.{also_there}
 use Rattle.honest_tree.specs.Given.{Given}
-use Rattle.partition_board.specs.Holds.{HoldsBuilt, HoldsKept}
+use Rattle.partition_board.specs.Holds.{HoldsBuilt, HoldsKept, WasKept}
 use Rattle.partition_crew.specs.Station.{AreHome, IsHome, IsLeftNow}
 use Rattle.partition_crew.specs.Work.{Settles, Touches, given_by}
 use Rattle.partition_crew.specs.Work.Settles.{built, failed}
-use Rattle.partition_board.proofs.Holding.{holds_grow, kept_holds}
+use Rattle.partition_board.proofs.Holding.{holds_grow, kept_grow, kept_holds}
 use Rattle.partition_board.proofs.Growing.{Grows, at_open, at_other, at_set, first_grow, grows_set, outcomes_grow}
 
 -- ---- what holds stays, while fates are added
@@ -76,15 +76,16 @@ homes_settled o fates place fate first last now is homes long others here = reco
 
 -- its outcome was kept
 pub kept_home : (o : Opening) (fates : List (Option Fate)) (place : ℕ) (kept : Kept) (folder : FolderKnown) → slice_get fates place ≡ Some None
-    → at o.kept place ≡ Some kept
+    → WasKept o fates place kept
     → IfSome folder.held (HoldsKept kept) → IsHome o (slice_set fates place (Some (Built kept.outcome))) place folder folder
-kept_home o fates place kept folder open_place is holds =
+kept_home o fates place kept folder open_place was holds =
     let next = slice_set fates place (Some (Built kept.outcome)) in
+    let still = kept_grow o fates next (grows_set fates place (Some (Built kept.outcome)) open_place) place kept was in
     record {
       key = refl;
       faults = refl;
       left = subst (λ (fate : Option Fate). IsLeftNow o next place fate folder folder) (sym (at_set fates place (Some (Built kept.outcome)) open_place))
-          (if_told folder.held (λ held told. kept_holds o next place kept held is (told_has (HoldsKept kept) folder.held held told holds)));
+          (if_told folder.held (λ held told. kept_holds o next place kept held still (told_has (HoldsKept kept) folder.held held told holds)));
     }
 
 pub skipped_home : (o : Opening) (fates : List (Option Fate)) (place need : ℕ) (folder : FolderKnown) → slice_get fates place ≡ Some None

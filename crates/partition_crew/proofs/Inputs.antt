@@ -22,15 +22,15 @@ use Rattle.partition_crew.specs.Station.{Nature, Station, WorksOn, given_now}
 use Rattle.partition_crew.specs.Work.{StaysHonest, given_by}
 use Rattle.partition_crew.proofs.Stopping.{stops_wider}
 
-among_more : (one : Given) (known : List Given) (given : Given) → Contains known given → Contains (one ∷ known) given
+pub among_more : (one : Given) (known : List Given) (given : Given) → Contains known given → Contains (one ∷ known) given
 among_more one known given c = (suc c.0, omega (arith, c.1), c.2)
 
 -- what is among the later ones is among all
-among_later : (known more : List Given) (given : Given) → Contains more given → Contains (known ++ more) given
+pub among_later : (known more : List Given) (given : Given) → Contains more given → Contains (known ++ more) given
 among_later [] more given c = c
 among_later (one ∷ known) more given c = among_more one (known ++ more) given (among_later known more given c)
 
-among_filtered : (find : Job → Option Given) (jobs : List Job) (place : ℕ) (job : Job) (given : Given) → slice_get jobs place ≡ Some job
+pub among_filtered : (find : Job → Option Given) (jobs : List Job) (place : ℕ) (job : Job) (given : Given) → slice_get jobs place ≡ Some job
     → find job ≡ Some given → Contains (filter_map find jobs) given
 among_filtered find [] place job given is found = cc
 among_filtered find (one ∷ jobs) zero job given is found =

@@ -11,7 +11,7 @@ use Rattle.tree_store.specs.FolderKnown.{FolderKnown}
 use Rattle.partition_core.specs.declared.event.Event.{Event}
 use Rattle.partition_core.specs.declared.event.Event.TheVariants.{Keep, Skip}
 use Rattle.partition_core.specs.declared.event.Standing.TheVariants.{Idle, Runs}
-use Rattle.partition_core.specs.State.{Opening, State, at, needs_at, outcomes_now, standing}
+use Rattle.partition_core.specs.State.{Opening, State, at, kept_matches, needs_at, outcomes_now, standing}
 use Rattle.partition_core.specs.Steps.{IsLegal, after}
 use Rattle.partition_core.specs.Histories.{Agrees, IsFaithful, Sound, replay}
 use Rattle.partition_core.specs.Counts.{count_below, is_back, is_compiled, is_start}
@@ -94,7 +94,9 @@ module _ (nature : Nature) (o : Opening) (planned : ArePlanned o.plan.jobs) (fir
         standings = now.standings;
       }) is) refl refl
       (λ honest sound. kept_uncompiled nature.compile o now place (agrees_now honest sound) legal.1 legal.2)
-      (λ folder was. kept_home o now.fates place kept folder legal.0.open_place is (ready.kept place folder kept was is))
+      (λ folder was. kept_home o now.fates place kept folder legal.0.open_place
+      (record { entry = is; ready = legal.1; fits = ap (λ (k : Option Kept). kept_matches k (slice_get o.plan.jobs place) (outcomes_now now.fates (needs_at o place))) (sym is) ∙ legal.2 })
+      (ready.kept place folder kept was is))
 
   skip_station : (place need : ℕ) → IsLegal o now (Skip place need 1) → IsStation nature o first
       (record old { events = old.events ++ Skip place need 1 ∷ [] })

@@ -1,5 +1,5 @@
 -- What partitions and their makers count.
-use Rattle.std.specs.Prelude.{◌≡◌, ℕ, ◌+◌, ◌-◌, ◌^◌, ◌<◌, min, List, [], ◌∷◌}
+use Rattle.std.specs.Prelude.{◌≡◌, ℕ, ◌+◌, ◌-◌, ◌^◌, ◌<◌, max, min, List, [], ◌∷◌}
 use Rattle.partition_face.specs.declared.counts.Counts.{Counts}
 
 -- nothing counted
@@ -11,9 +11,9 @@ pub record CanRun (counts : Counts) : Type 0 where
   pub lives : counts.deaths ≡ 0
   pub few : counts.runs < 2 ^ 63
 
--- a count that stands still at its last value
+-- a count that stands still at its last value, and never falls
 abbrev pub raised_by : ℕ → ℕ → ℕ
-raised_by more count = min (count + more) (2 ^ 64 - 1)
+raised_by more count = max count (min (count + more) (2 ^ 64 - 1))
 
 -- two counts together
 abbrev pub both : Counts → Counts → Counts

@@ -3,6 +3,7 @@ pub mod Bodies
 pub mod Counted
 pub mod Folders
 pub mod Lacking
+pub mod Lengths
 pub mod Pushes
 pub mod Sequences
 pub mod Singles

@@ -13,7 +13,7 @@ use Rattle.partition_frames.proofs.Lacking.{together_append}
 abbrev IsShort : List (List ℕ) → Type 0
 IsShort fields = length (together fields) ≤ most
 
-both_long : (a b : List (List ℕ)) → length (together (a ++ b)) ≡ length (together a) + length (together b)
+pub both_long : (a b : List (List ℕ)) → length (together (a ++ b)) ≡ length (together a) + length (together b)
 both_long a b = ap length (together_append a b) ∙ length-append (together a) (together b)
 
 left_short : (a b : List (List ℕ)) → IsShort (a ++ b) → IsShort a
@@ -22,7 +22,7 @@ left_short a b small = omega (arith, small, both_long a b)
 right_short : (a b : List (List ℕ)) → IsShort (a ++ b) → IsShort b
 right_short a b small = omega (arith, small, both_long a b)
 
-text_long : (text : List ℕ) → length (together (text_field text)) ≡ 4 + length text
+pub text_long : (text : List ℕ) → length (together (text_field text)) ≡ 4 + length text
 text_long text = length-append (number (length text) ++ text) [] ∙ omega (arith, length-append (number (length text)) text)
 
 text_short : (text : List ℕ) → IsShort (text_field text) → IsText text

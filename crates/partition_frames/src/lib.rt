@@ -10,6 +10,7 @@ mod fields;
 mod frame;
 mod job;
 mod laws;
+mod limits;
 mod lists;
 mod parsing;
 mod reader;
@@ -21,6 +22,7 @@ pub use laws::{
     cutting_changes_nothing, no_frame_begins_another, none_stands_in_part,
     none_stands_where_refused, one_frame, refusals_stay, streams_go_on,
 };
+pub use limits::may_be_written;
 pub use parsing::read_frame;
-pub use reader::FrameReader;
+pub use reader::{FrameReader, MOST_HELD};
 pub use writing::write_frame;

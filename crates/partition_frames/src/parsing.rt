@@ -16,7 +16,7 @@ use reading::Fault;
 use std::alloc::Global;
 
 /// How many bytes kind and body of a frame have at most.
-const MOST: u32 = 16_777_216;
+pub(crate) const MOST: u32 = 16_777_216;
 
 /// How many bytes the length of a frame has.
 pub(crate) const LENGTH: usize = 4;

@@ -12,7 +12,7 @@ use std::alloc::{AllocError, Global};
 use std::marker::Model;
 
 /// How many bytes a reader holds: those of the longest frame.
-const MOST_HELD: usize = 16_777_220;
+pub const MOST_HELD: usize = 16_777_220;
 
 // How many bytes a frame opens with: its length and its kind.
 const OPENING: usize = LENGTH + 1;
@@ -43,6 +43,14 @@ impl FrameReader {
         Ok(FrameReader {
             held: HeapCircularBuffer::with_capacity(alloc, MOST_HELD)?,
         })
+    }
+
+    /// How many bytes it holds. It takes no memory.
+    pub fn len(&self) -> usize
+        ensures count { result ≡ length self.now }
+        ensures few { result ≤ most_held }
+    {
+        self.held.len()
     }
 
     /// Takes as many bytes of a piece as there is room for, the first ones, and answers how many. It takes no memory.

@@ -10,7 +10,9 @@ mod host_folder;
 mod host_sink;
 mod host_store;
 mod walk;
+mod words;
 
 pub use host_folder::HostFolder;
 pub use host_sink::HostSink;
 pub use host_store::HostStore;
+pub use words::host_words;

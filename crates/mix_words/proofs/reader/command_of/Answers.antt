@@ -6,11 +6,6 @@ use Rattle.mix_words.specs.Table.{takes_build}
 use Rattle.mix_words.proofs.LeadLemmas.{bare_build, built_here}
 use Rattle.mix_words.proofs.reader.command_of.Goals as goal
 
-pub returns-in-Get : goal.returns-in-Get
-returns-in-Get c =
-    built_here (state_of c.args.sofar) verbs.Get commands.Get c.requires c.in-Get.is (bare_build (state_of c.args.sofar) c.requires (ap takes_build
-    c.in-Get.is)) refl
-
 pub returns-in-Help : goal.returns-in-Help
 returns-in-Help c =
     built_here (state_of c.args.sofar) verbs.Help commands.Help c.requires c.in-Help.is (bare_build (state_of c.args.sofar) c.requires (ap takes_build

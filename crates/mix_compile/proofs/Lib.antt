@@ -1,0 +1,16 @@
+pub mod AppLemmas
+pub mod BuiltLemmas
+pub mod ComeLemmas
+pub mod FinishLemmas
+pub mod GiveLemmas
+pub mod KeepLemmas
+pub mod LendLemmas
+pub mod Lone
+pub mod MadeLemmas
+pub mod RefuseLemmas
+pub mod SoundLemmas
+pub mod StartLemmas
+pub mod TakeLemmas
+pub mod TreeLemmas
+pub mod WholeLemmas
+pub mod WorkLemmas

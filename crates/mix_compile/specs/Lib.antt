@@ -1,0 +1,11 @@
+pub mod Asked
+pub mod Building
+pub mod Compiles
+pub mod Finishing
+pub mod History
+pub mod Lending
+pub mod Making
+pub mod Right
+pub mod Settling
+pub mod Site
+pub mod Stopping

@@ -1,0 +1,4 @@
+pub mod Questions
+pub mod Sending
+pub mod Talks
+pub mod Waiting
