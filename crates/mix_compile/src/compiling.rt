@@ -86,8 +86,8 @@ pub fn build_tree<S: Store, M: Maker>(
     }
 }
 
-// What a plan comes to.
-fn build_planned<S: Store, M: Maker>(
+/// The same for a plan that stands: what a compile of it comes to.
+pub fn build_planned<S: Store, M: Maker>(
     alloc: Global,
     plan: Plan,
     trace: bool,

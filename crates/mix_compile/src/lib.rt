@@ -12,7 +12,7 @@ mod made;
 mod settling;
 mod tidying;
 
-pub use compiling::{build_tree, compile};
+pub use compiling::{build_planned, build_tree, compile};
 pub use ended::{Compiled, Ended};
 pub use made::died_text;
 pub use settling::status_by;
