@@ -18,9 +18,9 @@ use std::io;
 use std::io::{BufRead, BufReader, BufWriter, Write};
 
 /// The cases of whole projects.
-struct Projects {}
+struct ProjectCases {}
 
-impl Cases for Projects {
+impl Cases for ProjectCases {
     fn answer(
         &self,
         alloc: Global,
@@ -43,7 +43,7 @@ fn main(rt: HostRuntime) -> io::Result<()> {
     let mut out = BufWriter::new(alloc, io::writer(&rt))?;
     for line in BufReader::new(alloc, rt.reader())?.lines(alloc) {
         let line = line?;
-        let told = told(alloc, &Projects {}, line.as_str())?;
+        let told = told(alloc, &ProjectCases {}, line.as_str())?;
         writeln!(out, "{}", told.as_str())?;
     }
     out.flush()
