@@ -43,7 +43,7 @@ pub built_needs : (slots : BuildKey → Slot) (env : List ℕ) (apps : List (Lis
 built_needs slots env [] [] built = tt
 built_needs slots env [] (o ∷ os) built = absurd built
 built_needs slots env (app ∷ apps) [] built = absurd built
-built_needs slots env (app ∷ apps) (o ∷ os) built = (record { app = refl; files = built.0 }, built_needs slots env apps os built.1)
+built_needs slots env (app ∷ apps) (o ∷ os) built = (record { named = refl; files = built.0 }, built_needs slots env apps os built.1)
 
 -- there is one for each app
 pub built_length : (slots : BuildKey → Slot) (env : List ℕ) (apps : List (List ℕ)) (outcomes : List Outcome) → AreBuilt slots env apps outcomes →

@@ -30,7 +30,7 @@ AreFilesAt Out files = Unit {0}
 
 -- the need of an app, with the files that its build has
 pub record IsNeedIn (slots : BuildKey → Slot) (env app : List ℕ) (need : Need) : Type 0 where
-  pub app : need.app ≡ app
+  pub named : need.app ≡ app
   pub files : AreFilesAt (slots (record { env = env; app = app })) need.files
 
 -- a content by what is compiled: its options text isn't known here, and says nothing to the compiler
