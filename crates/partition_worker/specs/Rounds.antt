@@ -1,6 +1,6 @@
 -- What a worker does on the way: a frame is heard, its job is served, and the verdict is sent.
-use Rattle.std.specs.Prelude.{◌≡◌, ℕ, nat_eq, List, length, take, option_map, Result, Ok, Err, if◌then◌else◌}
-use Rattle.mx_base.specs.Causes.{Rose}
+use Rattle.std.specs.Prelude.{◌≡◌, ℕ, true, nat_eq, List, length, take, option_map, Result, Ok, Err, if◌then◌else◌}
+use Rattle.mx_base.specs.Causes.{Counted}
 use Rattle.compile_model.specs.declared.outcome.Verdict.{Verdict}
 use Rattle.partition_face.specs.Links.{LinkKnown, with_sent}
 use Rattle.partition_frames.specs.declared.error.FrameError.{FrameError}
@@ -26,7 +26,7 @@ pub record IsTold (bytes : List ℕ) (old new : LinkKnown) : Type 0 where
 pub record IsToldInPart (bytes : List ℕ) (old new : LinkKnown) : Type 0 where
   pub count : ℕ
   pub talk : new.talk ≡ option_map (with_sent (take count bytes)) old.talk
-  pub rose : Rose old.faults new.faults
+  pub cause : Counted old.faults new.faults true
 
 abbrev pub Tells : {T : Type 0} → Frame → LinkKnown → LinkKnown → Result T WorkerEnd → Type 0
 Tells frame old new (Ok x) = IsTold (frame_text frame) old new

@@ -6,9 +6,11 @@
 #![tactic(auto)]
 
 mod end;
+mod laws;
 mod serving;
 mod talking;
 mod working;
 
 pub use end::WorkerEnd;
+pub use laws::only_asked_builds_change;
 pub use working::worker;

@@ -1,0 +1,6 @@
+pub mod Serves
+pub mod Talks
+pub mod Goings
+pub mod Endings
+pub mod Untold
+pub mod Alone
