@@ -5,3 +5,5 @@
 mod drive_tests;
 #[cfg(test)]
 mod partition_tests;
+#[cfg(test)]
+mod worker_tests;

@@ -2,7 +2,6 @@
 ghost use Rattle.partition_worker.specs.Worked.{OnlyAskedChange};
 
 /// A worker writes into the builds of the apps that it was asked for, and into no other.
-#[tactic(auto, using(crate::proofs::Alone::only_asked))]
 pub fn only_asked_builds_change()
     ensures { OnlyAskedChange }
 {}
