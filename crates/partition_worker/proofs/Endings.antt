@@ -141,22 +141,19 @@ pub unanswered : (hello : Frame) (old : Scene) (mid new : Desk) → Talks hello 
     → Hears mid.channel new.channel (Ok frame) → IsUnanswered frame mid.site new.site end → Ended hello old (end_scene new) end
 unanswered hello old mid new t frame end h u = record { worked = worked_by hello old mid new t h.came false h.told end (ends u); counts = counts u }
   where
-    abbrev c : Course
-    c = course hello old mid new t h.came false h.told
-
-    says : SaysAll c
+    says : SaysAll (course hello old mid new t h.came false h.told)
     says = says_all hello old mid new t h.came false h.told
 
-    unclosed : IsOpen c
+    unclosed : IsOpen (course hello old mid new t h.came false h.told)
     unclosed = closed_is hello old mid new t h.came false h.told
 
     quiet : new.channel.link.faults ≡ old.link.faults
     quiet = h.cause.kept refl ∙ t.faults
 
-    ends : IsUnanswered frame mid.site new.site end → Ends c end
+    ends : IsUnanswered frame mid.site new.site end → Ends (course hello old mid new t h.came false h.told) end
     ends (Unserved un) = JobBrokeOff frame new.channel.held h.heard un says unclosed
     ends (Last bye same is) =
-        SaidBye new.channel.held (subst (λ (f : Frame). Stands c.rest f new.channel.held) bye h.heard) (record { said = says; still = same }) unclosed is
+        SaidBye new.channel.held (subst (λ (f : Frame). Stands (mid.channel.held ++ h.came) f new.channel.held) bye h.heard) (record { said = says; still = same }) unclosed is
     ends (Other those same is) =
         Refused at_kind (OfWorkers frame new.channel.held h.heard those refl) (record { said = says; still = same }) unclosed is
 

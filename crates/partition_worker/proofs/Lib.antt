@@ -4,3 +4,4 @@ pub mod Goings
 pub mod Endings
 pub mod Untold
 pub mod Alone
+pub mod Wholes

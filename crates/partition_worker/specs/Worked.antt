@@ -1,5 +1,5 @@
 -- What a worker did, from its first word to its end.
-use Rattle.std.specs.Prelude.{◌≡◌, ℕ, Bool, true, false, List, option_map}
+use Rattle.std.specs.Prelude.{◌≡◌, ℕ, Bool, true, false, List, [], ◌++◌, flat_map, option_map}
 use Rattle.std.specs.List.{AllByRecursion}
 use Rattle.mx_base.specs.Causes.{Counted}
 use Rattle.tree_store.specs.declared.key.BuildKey.{BuildKey}
@@ -9,9 +9,10 @@ use Rattle.kept_tree.specs.Faults.{IsCalm}
 use Rattle.partition_face.specs.Links.{LinkKnown}
 use Rattle.partition_frames.specs.declared.frame.Frame.{Frame}
 use Rattle.partition_frames.specs.declared.frame.Frame.TheVariants as frames
-use Rattle.partition_frames.specs.Frame.{Stands}
+use Rattle.partition_frames.specs.Frame.{IsFrame, Stands, frame_text}
 use Rattle.partition_link.specs.Channel.{goes_on}
 use Rattle.partition_worker.specs.declared.end.WorkerEnd.{WorkerEnd}
+use Rattle.partition_worker.specs.declared.end.WorkerEnd.TheVariants.{BadFrame}
 use Rattle.partition_worker.specs.Ends.{Ends, is_link_fault, is_spawn_fault, is_store_fault}
 use Rattle.partition_worker.specs.Jobs.{AreServed}
 use Rattle.partition_worker.specs.Serving.{IsJob, Site, StoreRose, build_in}
@@ -59,3 +60,17 @@ pub record IsUnasked (q : BuildKey) (c : Course) : Type 0 where
 abbrev pub OnlyAskedChange : Type 0
 OnlyAskedChange = (hello : Frame) (old new : Scene) (end : WorkerEnd) (worked : Worked hello old new end) (q : BuildKey)
     → IsUnasked q worked.course → new.site.store.slot q ≡ old.site.store.slot q
+
+-- nothing more comes, or a frame that says so
+pub data IsGoodEnd (tail : List ℕ) : Type 0 where
+  Nothing : tail ≡ [] → IsGoodEnd tail
+  SaysBye : (left : List ℕ) → Stands tail frames.Bye left → IsGoodEnd tail
+
+-- the frame of a job, with what may be said in it
+abbrev pub IsWholeJob : Frame → Type 0
+IsWholeJob frame = IsJob frame × IsFrame frame
+
+-- where whole jobs came and then nothing more, or a frame that says so, the end blames no frame
+abbrev pub WholeJobsAreGood : Type 0
+WholeJobsAreGood = (hello : Frame) (old new : Scene) (end : WorkerEnd) (worked : Worked hello old new end) (sent : List Frame) (tail : List ℕ)
+    → AllByRecursion IsWholeJob sent → worked.course.said.came ≡ flat_map frame_text sent ++ tail → IsGoodEnd tail → (at : ℕ) → end ≡ BadFrame at → ⊥

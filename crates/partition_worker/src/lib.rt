@@ -12,5 +12,5 @@ mod talking;
 mod working;
 
 pub use end::WorkerEnd;
-pub use laws::only_asked_builds_change;
+pub use laws::{only_asked_builds_change, whole_jobs_are_good};
 pub use working::worker;
