@@ -32,7 +32,7 @@ all_alone : (q : BuildKey) (jobs : List Served) (old new : Site) → AreServed j
     → slot_in q new ≡ slot_in q old
 all_alone q [] old new same others = ap (slot_in q) same
 all_alone q (one ∷ jobs) old new served others =
-    all_alone q jobs served.0 new served.1.1 others.1 ∙ one_alone q one.job old served.0 one.verdict served.1.0 others.0
+    all_alone q jobs served.0 new served.2 others.1 ∙ one_alone q one.job old served.0 one.verdict served.1 others.0
 
 last_alone : (q : BuildKey) (c : Course) (end : WorkerEnd) → Ends c end → IsUnasked q c → slot_in q c.ended ≡ slot_in q c.served
 last_alone q c end (SaidBye left stands even unclosed is) un = ap (slot_in q) even.still

@@ -101,4 +101,4 @@ no_words hello = append-nil (frame_text hello)
 pub served_more : (jobs : List Served) (one : Served) (old mid new : Site) → AreServed jobs old mid → IsServed one.job mid new one.verdict
     → AreServed (jobs ++ one ∷ []) old new
 served_more [] one old mid new same served = (new, subst (λ (s : Site). IsServed one.job s new one.verdict) same served, refl)
-served_more (first ∷ jobs) one old mid new before served = (before.0, before.1.0, served_more jobs one before.0 mid new before.1.1 served)
+served_more (first ∷ jobs) one old mid new before served = (before.0, before.1, served_more jobs one before.0 mid new before.2 served)
