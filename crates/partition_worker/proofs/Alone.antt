@@ -16,7 +16,7 @@ use Rattle.partition_worker.specs.Serving.IsServed.{Bare, Compiled, Driven}
 use Rattle.partition_worker.specs.Talking.{Course}
 use Rattle.partition_worker.specs.Worked.{IsUnasked, OnlyAskedChange}
 
-slot_in : BuildKey → Site → Slot
+abbrev slot_in : BuildKey → Site → Slot
 slot_in q site = site.store.slot q
 
 one_alone : (q : BuildKey) (job : Frame) (old new : Site) (verdict : Verdict) → IsServed job old new verdict → is_same_build (build_in job) q ≡ false

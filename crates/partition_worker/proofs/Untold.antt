@@ -1,5 +1,5 @@
 -- How a worker ends where a frame of its own isn't sent whole, and all ways together.
-use Rattle.std.proofs.Common.{◌≡◌, ℕ, Bool, true, false, ◌||◌, List, [], ◌∷◌, ◌++◌, take, length, option_map, Ok, Err, refl, sym, ap, ◌∙◌, subst}
+use Rattle.std.proofs.Common.{◌≡◌, ℕ, ◌+◌, Bool, true, false, ◌||◌, List, [], ◌∷◌, ◌++◌, take, length, option_map, Result, Ok, Err, refl, sym, ap, ◌∙◌, subst}
 use Rattle.mx_base.specs.Causes.{Counted}
 use Rattle.partition_face.specs.Links.{LinkKnown, Talk, with_sent}
 use Rattle.partition_frames.specs.declared.frame.Frame.{Frame}
@@ -94,15 +94,15 @@ untold hello old mid new t frame answer link h a (BadFrame at) T tells = absurd 
 untold hello old mid new t frame answer link h a StoreFault T tells = absurd tells
 untold hello old mid new t frame answer link h a SpawnFault T tells = absurd tells
 
-err_is : {T : Type 0} (a b : WorkerEnd) → Err {T = T} a ≡ Err b → a ≡ b
-err_is a b is = cc
+same_end : (T : Type 0) (a b : WorkerEnd) (result : Result T WorkerEnd) → result ≡ Err a → result ≡ Err b → a ≡ b
+same_end T a b result is_a is_b = cc
 
 pub round_ends : (T : Type 0) (hello : Frame) (old : Scene) (mid new : Desk) (end : WorkerEnd) → Talks hello old mid → Round {T = T} mid new (Err end)
     → Ended hello old (end_scene new) end
 round_ends T hello old mid new end t (Unheard fault h same is) =
-    subst (Ended hello old (end_scene new)) (sym (err_is end (end_of fault (length new.channel.held)) is)) (unheard hello old mid new t fault h same)
+    subst (Ended hello old (end_scene new)) (sym (same_end T end (end_of fault (length new.channel.held)) (Err end) refl is)) (unheard hello old mid new t fault h same)
 round_ends T hello old mid new end t (Unanswered frame e h u is) =
-    subst (Ended hello old (end_scene new)) (sym (err_is end e is)) (unanswered hello old mid new t frame e h u)
+    subst (Ended hello old (end_scene new)) (sym (same_end T end e (Err end) refl is)) (unanswered hello old mid new t frame e h u)
 round_ends T hello old mid new end t (Answered frame answer link h a tells) = untold hello old mid new t frame answer link h a end T tells
 
 -- ---- nothing was heard

@@ -1,4 +1,5 @@
 use Rattle.std.proofs.Common.{rules, refl, sym, ◌∙◌, subst}
+use Rattle.partition_frames.specs.declared.reader.FrameReader.{FrameReader}
 use Rattle.partition_worker.specs.Rounds.{desk_of}
 use Rattle.partition_worker.specs.Serving.{site_of}
 use Rattle.partition_worker.specs.Worked.{hello_of, scene_of}
@@ -8,7 +9,7 @@ use Rattle.partition_worker.proofs.working.worker.Goals as goal
 
 pub returns-in-Err-clause-worked : goal.returns-in-Err-clause-worked
 returns-in-Err-clause-worked g c =
-    (not_begun _ (hello_of c.args.cookie.now c.args.index)
+    (not_begun FrameReader (hello_of c.args.cookie.now c.args.index)
     (scene_of (g.L.Link.known c.args.link.now) (site_of (g.S.Store.known c.args.store.now) (g.W.Spawner.known c.args.spawner.now)))
     (g.L.Link.known c.greet.new.link) c.in-Err.end c.in-Err.ensures.tells).worked
 
@@ -29,7 +30,7 @@ round-requires g c = record { here = c.loop.invariant.keeps.here }
 
 pub returns-in-Err-round-clause-worked : goal.returns-in-Err-round-clause-worked
 returns-in-Err-round-clause-worked g c =
-    (round_ends _ (hello_of c.args.cookie.now c.args.index)
+    (round_ends (Unit {0}) (hello_of c.args.cookie.now c.args.index)
     (scene_of (g.L.Link.known c.args.link.now) (site_of (g.S.Store.known c.args.store.now) (g.W.Spawner.known c.args.spawner.now)))
     (desk_of (g.L.Link.known c.loop.link) c.loop.reader (site_of (g.S.Store.known c.loop.store) (g.W.Spawner.known c.loop.spawner)))
     (desk_of (g.L.Link.known c.round.new.link) c.round.new.reader (site_of (g.S.Store.known c.round.new.store) (g.W.Spawner.known c.round.new.spawner)))
@@ -37,7 +38,7 @@ returns-in-Err-round-clause-worked g c =
 
 pub returns-in-Err-round-clause-counts : goal.returns-in-Err-round-clause-counts
 returns-in-Err-round-clause-counts g c =
-    (round_ends _ (hello_of c.args.cookie.now c.args.index)
+    (round_ends (Unit {0}) (hello_of c.args.cookie.now c.args.index)
     (scene_of (g.L.Link.known c.args.link.now) (site_of (g.S.Store.known c.args.store.now) (g.W.Spawner.known c.args.spawner.now)))
     (desk_of (g.L.Link.known c.loop.link) c.loop.reader (site_of (g.S.Store.known c.loop.store) (g.W.Spawner.known c.loop.spawner)))
     (desk_of (g.L.Link.known c.round.new.link) c.round.new.reader (site_of (g.S.Store.known c.round.new.store) (g.W.Spawner.known c.round.new.spawner)))
