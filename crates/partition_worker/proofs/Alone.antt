@@ -28,8 +28,8 @@ one_alone q job old new verdict (Compiled is compiled same) other =
 one_alone q job old new verdict (Driven is empties spawns) other =
     empties.tree q ∙ ap (λ (b : Bool). if b then emptied_slot (old.store.slot q) else old.store.slot q) other
 
-all_alone : (q : BuildKey) (jobs : List Served) (old new : Site) → AreServed jobs old new → AllByRecursion (λ one. is_same_build (build_in one.job) q ≡ false) jobs
-    → slot_in q new ≡ slot_in q old
+all_alone : (q : BuildKey) (jobs : List Served) (old new : Site) → AreServed jobs old new
+    → AllByRecursion (λ one. is_same_build (build_in one.job) q ≡ false) jobs → slot_in q new ≡ slot_in q old
 all_alone q [] old new same others = ap (slot_in q) same
 all_alone q (one ∷ jobs) old new served others =
     all_alone q jobs served.0 new served.2 others.1 ∙ one_alone q one.job old served.0 one.verdict served.1 others.0
@@ -45,4 +45,5 @@ last_alone q c end (MemoryOut cut unclosed is) un = ap (slot_in q) cut.still
 
 pub only_asked : OnlyAskedChange
 only_asked hello old new end worked q un =
-    ap (slot_in q) worked.last ∙ last_alone q worked.course end worked.ends un ∙ all_alone q worked.course.jobs old.site worked.course.served worked.served un.jobs
+    ap (slot_in q) worked.last ∙ last_alone q worked.course end worked.ends un
+    ∙ all_alone q worked.course.jobs old.site worked.course.served worked.served un.jobs

@@ -41,8 +41,8 @@ cut_off c even = record { said = (length (words_of c.hello c.jobs), even.said �
 abbrev IsLinkSide : WorkerEnd → Type 0
 IsLinkSide end = (is_store_fault end ≡ false) × (is_spawn_fault end ≡ false)
 
-pub counts_by : (old new : Scene) (end : WorkerEnd) → Counted old.link.faults new.link.faults (is_link_fault end) → IsLinkSide end → IsCalmSite old.site new.site
-    → Counts old new end
+pub counts_by : (old new : Scene) (end : WorkerEnd) → Counted old.link.faults new.link.faults (is_link_fault end) → IsLinkSide end
+    → IsCalmSite old.site new.site → Counts old new end
 counts_by old new end link side calm = record {
   link = link;
   store = subst (λ (b : Bool). StoreCounted b old.site.store new.site.store) (sym side.0) calm.store;
@@ -92,8 +92,8 @@ ends_closed c held true is long more closed even = ClosedBetween (nil_from_lengt
 ends_closed c held false is long more closed even =
     ClosedInside (λ none. eqb-false held 0 is (sym long ∙ ap (λ (bytes : List ℕ). length bytes) none)) more closed even (ap BadFrame (sym long))
 
-ends_unheard : (c : Course) (fault : HearFault) (left : List ℕ) → IsHeard c.rest left (Err fault) → c.said.closed ≡ has_closed {T = Frame} (Err fault) → IsEven c
-    → Ends c (end_of fault (length left))
+ends_unheard : (c : Course) (fault : HearFault) (left : List ℕ) → IsHeard c.rest left (Err fault) → c.said.closed ≡ has_closed {T = Frame} (Err fault)
+    → IsEven c → Ends c (end_of fault (length left))
 ends_unheard c hear.Failed left heard closed even = LinkFailed (cut_off c even) closed refl
 ends_unheard c hear.Closed left heard closed even =
     ends_closed c (length left) (nat_eq (length left) 0) refl (ap (λ (bytes : List ℕ). length bytes) (sym heard.0)) heard.1 closed even
@@ -153,7 +153,8 @@ unanswered hello old mid new t frame end h u = record { worked = worked_by hello
     ends : IsUnanswered frame mid.site new.site end → Ends (course hello old mid new t h.came false h.told) end
     ends (Unserved un) = JobBrokeOff frame new.channel.held h.heard un says unclosed
     ends (Last bye same is) =
-        SaidBye new.channel.held (subst (λ (f : Frame). Stands (mid.channel.held ++ h.came) f new.channel.held) bye h.heard) (record { said = says; still = same }) unclosed is
+        SaidBye new.channel.held (subst (λ (f : Frame). Stands (mid.channel.held ++ h.came) f new.channel.held) bye h.heard)
+        (record { said = says; still = same }) unclosed is
     ends (Other those same is) =
         Refused at_kind (OfWorkers frame new.channel.held h.heard those refl) (record { said = says; still = same }) unclosed is
 

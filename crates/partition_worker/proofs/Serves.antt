@@ -117,7 +117,8 @@ counts_later old mid new end calm counts = record {
 
 -- ---- verdicts are short
 
-text_short : (failed : Bool) (content : Content) → length (outcome_with_all failed (text_of (all_of content)) (faces_in_order (all_of content))).text ≤ most_text
+text_short : (failed : Bool) (content : Content)
+    → length (outcome_with_all failed (text_of (all_of content)) (faces_in_order (all_of content))).text ≤ most_text
 text_short true content = omega (arith, length-take most_text (text_of (all_of content)))
 text_short false content = omega (arith, length-take most_text (text_of (all_of content)))
 

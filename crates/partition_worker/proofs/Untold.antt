@@ -74,7 +74,8 @@ untold hello old mid new t frame answer link h a LinkFault T tells =
     let one : Served = record { job = frame; verdict = a.verdict } in
     let piece = λ (f : Frame). take tells.count (frame_text f) in record {
       worked = cut_worked hello old mid new t frame answer link h a tells.count LinkFault
-          (tells.talk ∙ ap (λ (f : Frame). option_map (with_sent (piece f)) link.talk) a.is ∙ ap (λ told. option_map (with_sent (piece (answer_in one))) told) h.told
+          (tells.talk ∙ ap (λ (f : Frame). option_map (with_sent (piece f)) link.talk) a.is
+          ∙ ap (λ told. option_map (with_sent (piece (answer_in one))) told) h.told
           ∙ heard_then_sent mid.channel.link.talk (piece (answer_in one)) h.came)
           (LinkFailed (cut_says hello old mid new t frame answer link h a tells.count) (cut_open hello old mid new t frame answer link h a tells.count) refl);
       counts = counts_by old (end_scene new) LinkFault
@@ -100,7 +101,8 @@ same_end T a b result is_a is_b = cc
 pub round_ends : (T : Type 0) (hello : Frame) (old : Scene) (mid new : Desk) (end : WorkerEnd) → Talks hello old mid → Round {T = T} mid new (Err end)
     → Ended hello old (end_scene new) end
 round_ends T hello old mid new end t (Unheard fault h same is) =
-    subst (Ended hello old (end_scene new)) (sym (same_end T end (end_of fault (length new.channel.held)) (Err end) refl is)) (unheard hello old mid new t fault h same)
+    subst (Ended hello old (end_scene new)) (sym (same_end T end (end_of fault (length new.channel.held)) (Err end) refl is))
+    (unheard hello old mid new t fault h same)
 round_ends T hello old mid new end t (Unanswered frame e h u is) =
     subst (Ended hello old (end_scene new)) (sym (same_end T end e (Err end) refl is)) (unanswered hello old mid new t frame e h u)
 round_ends T hello old mid new end t (Answered frame answer link h a tells) = untold hello old mid new t frame answer link h a end T tells

@@ -53,7 +53,8 @@ front_of_end : (tail : List ℕ) → IsGoodEnd tail → IsGoodFront tail
 front_of_end tail (Nothing none) = Empty none
 front_of_end tail (SaysBye left stands) = Front frames.Bye left stands (OfBye refl)
 
-front_of : (sent : List Frame) (tail rest : List ℕ) → AllByRecursion IsWholeJob sent → rest ≡ flat_map frame_text sent ++ tail → IsGoodEnd tail → IsGoodFront rest
+front_of : (sent : List Frame) (tail rest : List ℕ) → AllByRecursion IsWholeJob sent → rest ≡ flat_map frame_text sent ++ tail → IsGoodEnd tail
+    → IsGoodFront rest
 front_of [] tail rest whole e good = subst IsGoodFront (sym e) (front_of_end tail good)
 front_of (f ∷ sent) tail rest whole e good =
     Front f (flat_map frame_text sent ++ tail) (whole.0.1, e ∙ append_assoc (frame_text f) (flat_map frame_text sent) tail) (OfJob whole.0.0)
@@ -74,7 +75,8 @@ behind (one ∷ jobs) rest [] tail are whole e good =
     (sym (append_assoc (frame_text one.job) (flat_map job_text jobs) rest) ∙ e) good)
 behind (one ∷ jobs) rest (f ∷ sent) tail are whole e good =
     let cut = sym (append_assoc (frame_text one.job) (flat_map job_text jobs) rest) ∙ e ∙ append_assoc (frame_text f) (flat_map frame_text sent) tail in
-    let both = same_rest frame_text IsFrame frame_tells one.job f (flat_map job_text jobs ++ rest) (flat_map frame_text sent ++ tail) are.0.frame whole.0.1 cut in
+    let both = same_rest frame_text IsFrame frame_tells one.job f (flat_map job_text jobs ++ rest) (flat_map frame_text sent ++ tail)
+    are.0.frame whole.0.1 cut in
     behind jobs rest sent tail are.1 whole.1 both.1 good
 
 -- ---- such a front isn't bad

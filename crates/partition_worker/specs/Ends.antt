@@ -47,12 +47,14 @@ pub data Ends (c : Course) (end : WorkerEnd) : Type 0 where
   -- it closed between frames
   ClosedBetween : c.rest ≡ [] → c.said.closed ≡ true → IsEven c → end ≡ Closed → Ends c end
   -- it closed inside a frame
-  ClosedInside : c.rest ≢ [] → NeedsMore c.rest → c.said.closed ≡ true → IsEven c → end ≡ BadFrame (length c.rest) → Ends c end
+  ClosedInside : c.rest ≢ [] → NeedsMore c.rest → c.said.closed ≡ true → IsEven c
+      → end ≡ BadFrame (length c.rest) → Ends c end
   Refused : (at : ℕ) → IsBad c.rest at → IsEven c → IsOpen c → end ≡ BadFrame at → Ends c end
   -- the link failed
   LinkFailed : IsCutOff c → IsOpen c → end ≡ LinkFault → Ends c end
   -- a further job came, and it has no verdict
-  JobBrokeOff : (job : Frame) (left : List ℕ) → Stands c.rest job left → IsUnserved job c.served c.ended end → SaysAll c → IsOpen c → Ends c end
+  JobBrokeOff : (job : Frame) (left : List ℕ) → Stands c.rest job left → IsUnserved job c.served c.ended end → SaysAll c
+      → IsOpen c → Ends c end
   -- memory ran out between jobs
   MemoryOut : IsCutOff c → IsOpen c → end ≡ NoMemory → Ends c end
 

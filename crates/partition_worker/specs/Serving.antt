@@ -73,12 +73,14 @@ reply_in verdict = record { status = verdict.status; text = verdict.text }
 -- the verdict is the answer to the job, by how it is compiled, and the build of its app is what it then is
 pub data IsServed (job : Frame) (old new : Site) (verdict : Verdict) : Type 0 where
   -- it isn't compiled: it has no outputs
-  Bare : how_in job ≡ Nothing → verdict ≡ nothing_said → Empties job old.store new.store → new.spawner ≡ old.spawner → IsServed job old new verdict
+  Bare : how_in job ≡ Nothing → verdict ≡ nothing_said → Empties job old.store new.store → new.spawner ≡ old.spawner
+      → IsServed job old new verdict
   -- the built-in compiler compiles its sources, once its build is emptied
   Compiled : how_in job ≡ ByUnits → IsCompiled (task_in job) old.store new.store (reply_in verdict) → new.spawner ≡ old.spawner
       → IsServed job old new verdict
   -- its program is run, once its build is emptied
-  Driven : IsDriven job → Empties job old.store new.store → Spawns (start_for job) old.spawner new.spawner (Ok verdict) → IsServed job old new verdict
+  Driven : IsDriven job → Empties job old.store new.store → Spawns (start_for job) old.spawner new.spawner (Ok verdict)
+      → IsServed job old new verdict
 
 -- ---- it isn't
 
@@ -99,12 +101,12 @@ StoreRose old new = Rose old.faults new.faults ⊎ Rose old.returned new.returne
 -- why a job has no verdict: something failed, which was counted, or memory ran out, and nothing was
 pub data BreaksOff (job : Frame) (old new : Site) (end : WorkerEnd) : Type 0 where
   StoreFailed : StoreRose old.store new.store → new.spawner ≡ old.spawner → end ≡ StoreFault → BreaksOff job old new end
-  SpawnerFailed : IsDriven job → Empties job old.store new.store → Spawns (start_for job) old.spawner new.spawner (Err spawn.Failed)
-      → end ≡ SpawnerFault → BreaksOff job old new end
+  SpawnerFailed : IsDriven job → Empties job old.store new.store
+      → Spawns (start_for job) old.spawner new.spawner (Err spawn.Failed) → end ≡ SpawnerFault → BreaksOff job old new end
   MemoryOut : IsCalm old.store new.store → new.spawner ≡ old.spawner → end ≡ NoMemory → BreaksOff job old new end
   -- .. where its program was to be run
-  MemoryOutDriven : IsDriven job → Empties job old.store new.store → Spawns (start_for job) old.spawner new.spawner (Err spawn.OutOfMemory)
-      → end ≡ NoMemory → BreaksOff job old new end
+  MemoryOutDriven : IsDriven job → Empties job old.store new.store
+      → Spawns (start_for job) old.spawner new.spawner (Err spawn.OutOfMemory) → end ≡ NoMemory → BreaksOff job old new end
 
 -- a job has no verdict, and no build but that of its app changed
 pub record IsUnserved (job : Frame) (old new : Site) (end : WorkerEnd) : Type 0 where

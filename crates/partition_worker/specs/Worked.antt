@@ -72,5 +72,6 @@ IsWholeJob frame = IsJob frame × IsFrame frame
 
 -- where whole jobs came and then nothing more, or a frame that says so, the end blames no frame
 abbrev pub WholeJobsAreGood : Type 0
-WholeJobsAreGood = (hello : Frame) (old new : Scene) (end : WorkerEnd) (worked : Worked hello old new end) (sent : List Frame) (tail : List ℕ)
-    → AllByRecursion IsWholeJob sent → worked.course.said.came ≡ flat_map frame_text sent ++ tail → IsGoodEnd tail → (at : ℕ) → end ≡ BadFrame at → ⊥
+WholeJobsAreGood = (hello : Frame) (old new : Scene) (end : WorkerEnd) (worked : Worked hello old new end)
+    → (sent : List Frame) (tail : List ℕ) → AllByRecursion IsWholeJob sent
+    → worked.course.said.came ≡ flat_map frame_text sent ++ tail → IsGoodEnd tail → (at : ℕ) → end ≡ BadFrame at → ⊥

@@ -15,7 +15,8 @@ pub enum WorkerEnd {
     Closed,
     /// Bytes came that begin no frame, a frame came that only workers send, or the peer closed inside a frame.
     BadFrame {
-        /// The place in bytes from the first byte of that frame: as `read_frame` says it; 4; how many of its bytes came.
+        /// The place in bytes from the first byte of that frame: as `read_frame` says it; 4; how many of its bytes
+        /// came.
         at: u64,
     },
     /// The link failed, which its count shows.

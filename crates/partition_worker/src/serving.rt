@@ -17,8 +17,8 @@ use std::alloc::{AllocError, Global};
 use tree_store::Store;
 use unitc_call::{Reply, Task, compile_task};
 
-/// Serves the job of a frame: empties the build of its app, compiles it in the way that the frame says, and answers what
-/// came of it. No other build changes.
+/// Serves the job of a frame: empties the build of its app, compiles it in the way that the frame says, and answers
+/// what came of it. No other build changes.
 pub(crate) fn serve<W: Spawner, S: Store>(
     alloc: Global,
     spawner: &mut W,

@@ -15,12 +15,12 @@ use std::alloc::Global;
 use std::sync::Wait;
 use tree_store::Store;
 
-/// Works for a peer over a link: says who it is, by the secret that it was started with and its number, then serves each
-/// job that the peer asks for, one after another, and sends the verdict on it under the job's number. The build of a
-/// job's app is emptied, and nothing else is written but what compiling the job gives.
+/// Works for a peer over a link: says who it is, by the secret that it was started with and its number, then serves
+/// each job that the peer asks for, one after another, and sends the verdict on it under the job's number. The build of
+/// a job's app is emptied, and nothing else is written but what compiling the job gives.
 ///
-/// It ends where the peer says that nothing follows, or closes; where bytes come that are no job; and where the link, the
-/// store or the spawner fails, or memory runs out.
+/// It ends where the peer says that nothing follows, or closes; where bytes come that are no job; and where the link,
+/// the store or the spawner fails, or memory runs out.
 pub fn worker<R: Wait, L: Link, W: Spawner, S: Store>(
     rt: &R,
     alloc: Global,
