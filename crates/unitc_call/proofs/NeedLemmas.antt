@@ -1,5 +1,5 @@
 -- The files of needs, one app after another.
-use Rattle.std.proofs.Common.{◌≡◌, ℕ, ◌+◌, ◌<◌, List, [], ◌∷◌, ◌++◌, get_or, length, map, take, Option, Some, None, IfSome, refl, sym, ◌∙◌, ap, subst}
+use Rattle.std.proofs.Common.{◌≡◌, ℕ, suc, ◌+◌, ◌<◌, List, [], ◌∷◌, ◌++◌, get_or, length, take, Option, Some, None, IfSome, refl, sym, ◌∙◌, ap, subst}
 use Rattle.std.specs.List.{AllZip}
 use Rattle.std.proofs.lemmas.List.{take_more}
 use Rattle.mx_base.specs.declared.file.File.{File}
@@ -8,7 +8,7 @@ use Rattle.compile_model.specs.Content.{needs_of}
 use Rattle.tree_store.specs.declared.holding.Holding.{Holding}
 use Rattle.tree_store.specs.declared.key.BuildKey.{BuildKey}
 use Rattle.tree_store.specs.Slot.{Slot}
-use Rattle.tree_store.specs.Slot.Slot.{Here, Out}
+use Rattle.tree_store.specs.Slot.Slot.{Here}
 use Rattle.unitc_call.specs.Reading.{AreFilesAt, IsNeedIn}
 
 -- a folder that was handed out tells what its build has
@@ -43,7 +43,7 @@ pub built_needs : (slots : BuildKey → Slot) (env : List ℕ) (apps : List (Lis
 built_needs slots env [] [] built = tt
 built_needs slots env [] (o ∷ os) built = absurd built
 built_needs slots env (app ∷ apps) [] built = absurd built
-built_needs slots env (app ∷ apps) (o ∷ os) built = (record { named = refl; files = built.0 }, built_needs slots env apps os built.1)
+built_needs slots env (app ∷ apps) (o ∷ os) built = (record { app = refl; files = built.0 }, built_needs slots env apps os built.1)
 
 -- there is one for each app
 pub built_length : (slots : BuildKey → Slot) (env : List ℕ) (apps : List (List ℕ)) (outcomes : List Outcome) → AreBuilt slots env apps outcomes →
@@ -51,4 +51,4 @@ pub built_length : (slots : BuildKey → Slot) (env : List ℕ) (apps : List (Li
 built_length slots env [] [] built = refl
 built_length slots env [] (o ∷ os) built = absurd built
 built_length slots env (app ∷ apps) [] built = absurd built
-built_length slots env (app ∷ apps) (o ∷ os) built = ap (λ (n : ℕ). n + 1) (built_length slots env apps os built.1)
+built_length slots env (app ∷ apps) (o ∷ os) built = ap suc (built_length slots env apps os built.1)
