@@ -14,11 +14,10 @@ use Rattle.tree_store.specs.Slot.{Slot, emptied_slot, slot_with}
 use Rattle.tree_store.specs.Slot.Slot.{Here, Out}
 use Rattle.tree_store.proofs.StoreLemmas.{is_same_itself}
 use Rattle.build_plan.specs.Sources.{sources_of}
-use Rattle.kept_tree.specs.Clearing.{Clears, ClearsPartly, IsLeftAt, is_cleaned, is_in_env}
+use Rattle.kept_tree.specs.Clearing.{Clears, ClearsPartly, IsLeftAt}
 use Rattle.kept_tree.specs.declared.fault.KeptFault.{KeptFault}
 use Rattle.kept_tree.specs.declared.fault.KeptFault.TheVariants.{Read, Tree, OutOfMemory}
 use Rattle.kept_tree.specs.Faults.{CountsWrites, IsCalm, ReadsBuilds}
-use Rattle.kept_tree.proofs.AmongLemmas.{own_build as own}
 use Rattle.unit_compile.specs.Units.{unit_meaning}
 use Rattle.unitc_call.specs.declared.words.Task.{Task}
 use Rattle.unitc_call.specs.Compile.{ChangesOnly, IsCompiled, IsUnmarkedAt, Leaves, MayStand, OnlyAt, Reply}
@@ -26,28 +25,14 @@ use Rattle.unitc_call.specs.Compile.MayStand.{kept, left, filled}
 use Rattle.unitc_call.specs.Ends.{Stops}
 use Rattle.unitc_call.specs.Reading.{IsContentFor, IsNeedIn, IsReadFrom, cleared, content_with, own_build}
 
-or_false : (b : Bool) → (b || false) ≡ b
-or_false true = refl
-or_false false = refl
-
--- what is cleaned of one app is its build
-own_cleaned : (env app : List ℕ) (q : BuildKey) → is_cleaned env (app ∷ []) q ≡ is_same_build (record { env = env; app = app }) q
-own_cleaned env app q = ap (λ (b : Bool). b && is_in_env env q) (or_false (bytes_eq q.app app)) ∙ sym (own env app q)
-
--- the builds once that of the app is cleaned
-cleaned_at : (env app : List ℕ) (old mid : BuildKey → Slot) → Clears (is_cleaned env (app ∷ [])) old mid → (q : BuildKey) → mid q ≡ cleared (record { env = env; app = app }) old q
-cleaned_at env app old mid clears q = clears q ∙ ap (λ (b : Bool). cond b (emptied_slot (old q)) (old q)) (own_cleaned env app q)
-
-cleaned_is : (env app : List ℕ) (old mid : BuildKey → Slot) → Clears (is_cleaned env (app ∷ [])) old mid → mid ≡ cleared (record { env = env; app = app }) old
-cleaned_is env app old mid clears = λ i q. cleaned_at env app old mid clears q i
+-- the builds once that of the app is cleared
+cleared_is : (key : BuildKey) (old mid : BuildKey → Slot) → Clears (is_same_build key) old mid → mid ≡ cleared key old
+cleared_is key old mid clears = λ i q. clears q i
 
 -- the app's build is empty then
-pub cleaned_empty : (env app : List ℕ) (old mid : BuildKey → Slot) → Clears (is_cleaned env (app ∷ [])) old mid →
-    mid (record { env = env; app = app }) ≡ emptied_slot (mid (record { env = env; app = app }))
-cleaned_empty env app old mid clears =
-    let key : BuildKey = record { env = env; app = app } in
-    let is : mid key ≡ emptied_slot (old key) =
-    cleaned_at env app old mid clears key ∙ ap (λ (b : Bool). cond b (emptied_slot (old key)) (old key)) (is_same_itself key) in
+pub empty_then : (key : BuildKey) (old mid : BuildKey → Slot) → Clears (is_same_build key) old mid → mid key ≡ emptied_slot (mid key)
+empty_then key old mid clears =
+    let is : mid key ≡ emptied_slot (old key) = clears key ∙ ap (λ (b : Bool). cond b (emptied_slot (old key)) (old key)) (is_same_itself key) in
     is ∙ twice (old key) ∙ ap emptied_slot (sym is)
   where
     twice : (slot : Slot) → emptied_slot slot ≡ emptied_slot (emptied_slot slot)
@@ -60,41 +45,48 @@ filled_cleared files (Here None) = refl
 filled_cleared files (Here (Some held)) = refl
 filled_cleared files Out = refl
 
--- cleaned and then filled, it has just the files
-left_by_both : (env app : List ℕ) (files : List File) (old mid new : BuildKey → Slot) → Clears (is_cleaned env (app ∷ [])) old mid →
-    Leaves (record { env = env; app = app }) files mid new → Leaves (record { env = env; app = app }) files old new
-left_by_both env app files old mid new clears leaves q =
-    leaves q ∙ ap (λ (s : Slot). cond (is_same_build key q) (slot_with files s) s) (cleaned_at env app old mid clears q) ∙ at (is_same_build key q)
+-- cleared and then filled, it has just the files
+left_by_both : (key : BuildKey) (files : List File) (old mid new : BuildKey → Slot) → Clears (is_same_build key) old mid → Leaves key files mid new →
+    Leaves key files old new
+left_by_both key files old mid new clears leaves q =
+    leaves q ∙ ap (λ (s : Slot). cond (is_same_build key q) (slot_with files s) s) (clears q) ∙ at (is_same_build key q)
   where
-    key : BuildKey
-    key = record { env = env; app = app }
+    emptied : Bool → Slot
+    emptied b = cond b (emptied_slot (old q)) (old q)
 
-    at : (b : Bool) → cond b (slot_with files (cond b (emptied_slot (old q)) (old q))) (cond b (emptied_slot (old q)) (old q)) ≡ cond b (slot_with files (old q)) (old q)
+    at : (b : Bool) → cond b (slot_with files (emptied b)) (emptied b) ≡ cond b (slot_with files (old q)) (old q)
     at true = filled_cleared files (old q)
     at false = refl
 
 calm_twice : (old mid new : Known) → IsCalm old mid → IsCalm mid new → IsCalm old new
 calm_twice old mid new first next = (next.0 ∙ first.0, next.1 ∙ first.1)
 
+-- what the task is compiled from, said of the store before its build was cleared
+content_before : (task : Task) (old mid : Known) (outcome : Outcome) → mid.sources ≡ old.sources → Clears (is_same_build (own_build task)) old.slot mid.slot →
+    (from : IsReadFrom task mid outcome) → IsContentFor task old (content_with task from.sources from.needs)
+content_before task old mid outcome sources clears from = record {
+  sources = from.sources;
+  needs = from.needs;
+  is = refl;
+  read = subst (λ (told : Option (List File)). Told (record old { sources = told }) (λ files found. found ≡ sources_of task.src files) from.sources)
+      sources from.read;
+  built = subst (λ (slots : BuildKey → Slot). AllZip (IsNeedIn slots task.env) task.needs from.needs)
+      (cleared_is (own_build task) old.slot mid.slot clears) from.built;
+}
+
 -- the task is compiled
 pub is_compiled : (task : Task) (old mid read new : Known) (outcome : Outcome) (reply : Reply) → mid.sources ≡ old.sources →
-    Clears (is_cleaned task.env (task.app ∷ [])) old.slot mid.slot → IsCalm old mid → IsReadFrom task mid outcome → read ≡ mid →
+    Clears (is_same_build (own_build task)) old.slot mid.slot → IsCalm old mid → IsReadFrom task mid outcome → read ≡ mid →
     Leaves (own_build task) outcome.files read.slot new.slot → IsCalm read new → reply.status ≡ outcome.status → reply.text ≡ outcome.text →
     IsCompiled task old new reply
 is_compiled task old mid read new outcome reply sources clears calm from same leaves next status text =
     let content : Content = content_with task from.sources from.needs in
     record {
       content = content;
-      source = record {
-        sources = from.sources;
-        needs = from.needs;
-        is = refl;
-        read = subst (λ (told : Option (List File)). Told (record old { sources = told }) (λ files found. found ≡ sources_of task.src files) from.sources) sources from.read;
-        built = subst (λ (slots : BuildKey → Slot). AllZip (IsNeedIn slots task.env) task.needs from.needs) (cleaned_is task.env task.app old.slot mid.slot clears) from.built;
-      };
+      source = content_before task old mid outcome sources clears from;
       status = status ∙ ap (λ (o : Outcome). o.status) from.is;
       text = text ∙ ap (λ (o : Outcome). o.text) from.is;
-      tree = left_by_both task.env task.app (unit_meaning content).files old.slot mid.slot new.slot clears
+      tree = left_by_both (own_build task) (unit_meaning content).files old.slot mid.slot new.slot clears
           (subst (λ (files : List File). Leaves (own_build task) files mid.slot new.slot) (ap (λ (o : Outcome). o.files) from.is)
           (subst (λ (k : Known). Leaves (own_build task) outcome.files k.slot new.slot) same leaves));
       calm = calm_twice old mid new calm (subst (λ (k : Known). IsCalm k new) same next);
@@ -127,23 +119,20 @@ stops_later OutOfMemory old mid new calm next = calm_twice old mid new calm next
 
 -- ---- what stands
 
--- while the build is cleaned
-pub stands_cleaned : (env app : List ℕ) (old new : BuildKey → Slot) → ClearsPartly (is_cleaned env (app ∷ [])) old new → ChangesOnly (record { env = env; app = app }) old new
-stands_cleaned env app old new part = record {
+-- while the build is cleared
+pub stands_cleared : (key : BuildKey) (old new : BuildKey → Slot) → ClearsPartly (is_same_build key) old new → ChangesOnly key old new
+stands_cleared key old new part = record {
   own = at (part key);
   others = λ q other. elsewhere q other (part q);
 }
   where
-    key : BuildKey
-    key = record { env = env; app = app }
-
-    at : (new key ≡ old key) ⊎ (IsTrue (is_cleaned env (app ∷ []) key) × IsLeftAt (old key) (new key)) → MayStand (old key) (new key)
+    at : (new key ≡ old key) ⊎ (IsTrue (is_same_build key key) × IsLeftAt (old key) (new key)) → MayStand (old key) (new key)
     at (inl same) = kept same
     at (inr (those, some)) = left some
 
-    elsewhere : (q : BuildKey) → is_same_build key q ≡ false → (new q ≡ old q) ⊎ (IsTrue (is_cleaned env (app ∷ []) q) × IsLeftAt (old q) (new q)) → new q ≡ old q
+    elsewhere : (q : BuildKey) → is_same_build key q ≡ false → (new q ≡ old q) ⊎ (IsTrue (is_same_build key q) × IsLeftAt (old q) (new q)) → new q ≡ old q
     elsewhere q other (inl same) = same
-    elsewhere q other (inr (those, some)) = absurd (both_ways (is_cleaned env (app ∷ []) q) (own_cleaned env app q ∙ other) those)
+    elsewhere q other (inr (those, some)) = absurd (both_ways (is_same_build key q) other those)
 
 -- once it is read
 pub stands_read : (key : BuildKey) (old mid new : BuildKey → Slot) → ChangesOnly key old mid → new ≡ mid → ChangesOnly key old new

@@ -15,8 +15,8 @@ use crate::needs::read_needs;
 use crate::sources::read_sources;
 use crate::words::Task;
 use compile_model::{How, Input, Job, Origin, Outcome, Places};
-use kept_tree::{KeptFault, clean};
-use mx_base::{Bytes, Files, Names, Shared, Text, Variables, listing_of};
+use kept_tree::{KeptFault, clear_app};
+use mx_base::{Bytes, Files, Shared, Text, Variables, listing_of};
 use std::alloc::{AllocError, Global};
 use tree_store::Store;
 use unit_compile::compile_unit;
@@ -45,9 +45,7 @@ pub(crate) fn compile<S: Store>(
         (S.known store.new).slot }
     ensures keeps { KeepsRest (S.known store.old) (S.known store.new) }
 {
-    let mut own = Names::new(alloc);
-    own.push(task.app.clone()?)?;
-    clean(alloc, store, &task.env, &own)?;
+    clear_app(alloc, store, &task.env, &task.app)?;
     let outcome = outcome(alloc, task, store)?;
     fill(alloc, store, &task.env, &task.app, &outcome.files)?;
     let Outcome { status, text, .. } = outcome;

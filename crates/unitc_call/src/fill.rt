@@ -1,13 +1,13 @@
 // Putting the files of an outcome.
 ghost use Rattle.std.specs.Prelude.{◌≡◌, OnOk};
 ghost use Rattle.tree_store.specs.Slot.{AllHere, emptied_slot};
-ghost use Rattle.kept_tree.specs.Faults.{CountsWrites, KeepsRest, of_write};
+ghost use Rattle.kept_tree.specs.Faults.{CountsWrites, KeepsRest};
 ghost use Rattle.unitc_call.specs.Compile.{IsUnmarkedAt, Leaves, OnlyAt};
 
 use kept_tree::KeptFault;
 use mx_base::{AppName, Files};
 use std::alloc::Global;
-use tree_store::{Folder, Store, StoreFault, put_files};
+use tree_store::{Store, put_files};
 
 /// Puts files into the build of an app, which is empty.
 pub(crate) fn fill<S: Store>(
@@ -34,16 +34,6 @@ pub(crate) fn fill<S: Store>(
     store.give_back(folder);
     match filled {
         Ok(()) => Ok(()),
-        Err(fault) => Err(of_write(fault)),
-    }
-}
-
-// What the fault of a call that writes into a folder comes to.
-fn of_write(fault: StoreFault) -> KeptFault
-    ensures { result ≡ of_write fault }
-{
-    match fault {
-        StoreFault::Failed => KeptFault::Tree,
-        StoreFault::OutOfMemory => KeptFault::OutOfMemory,
+        Err(fault) => Err(KeptFault::of_write(fault)),
     }
 }
