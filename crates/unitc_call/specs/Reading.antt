@@ -29,9 +29,9 @@ AreFilesAt (Here (Some held)) files = files ≡ held.files
 AreFilesAt Out files = Unit {0}
 
 -- the need of an app, with the files that its build has
-pub record IsNeedIn (slots : BuildKey → Slot) (env app : List ℕ) (need : Need) : Type 0 where
-  pub app : need.app ≡ app
-  pub files : AreFilesAt (slots (record { env = env; app = app })) need.files
+pub record IsNeedIn (slots : BuildKey → Slot) (env name : List ℕ) (need : Need) : Type 0 where
+  pub app : need.app ≡ name
+  pub files : AreFilesAt (slots (record { env = env; app = name })) need.files
 
 -- a content by what is compiled: its options text isn't known here, and says nothing to the compiler
 abbrev pub content_with : Task → List File → List Need → Content
