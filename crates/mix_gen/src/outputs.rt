@@ -1,9 +1,8 @@
 // The output files of an environment.
-ghost use Rattle.std.specs.Prelude.{◌≡◌, ◌++◌, IfOk, OnOk, map};
-ghost use Rattle.mx_base.specs.Listing.{listing_text, row_of, row_text, rows_of};
+ghost use Rattle.std.specs.Prelude.{◌≡◌, ◌++◌, IfOk, OnOk, flat_map};
 ghost use Rattle.tree_store.specs.Slot.{AllHere};
 ghost use Rattle.kept_tree.specs.Faults.{ReadsBuilds};
-ghost use Rattle.mix_gen.specs.Outputs.{AreFilesAt, AreRowsOf, IsTally, under};
+ghost use Rattle.mix_gen.specs.Outputs.{AreFilesAt, AreRowsOf, IsTally, output_row};
 
 use kept_tree::KeptFault;
 use mx_base::{AppName, Digest32, File, Files};
@@ -82,7 +81,7 @@ fn push_rows(
     files: &[File],
 ) -> Result<(), AllocError>
     ensures { OnOk result (text.new.items
-        ≡ text.old.items ++ listing_text (rows_of (map (under app.now) files.now))) }
+        ≡ text.old.items ++ flat_map (output_row app.now) files.now) }
 {
     for file in files {
         push_row(alloc, text, app, file)?;
@@ -97,7 +96,7 @@ fn push_row(
     file: &File,
 ) -> Result<(), AllocError>
     ensures { OnOk result (text.new.items
-        ≡ text.old.items ++ row_text (row_of (under app.now file.now))) }
+        ≡ text.old.items ++ output_row app.now file.now) }
 {
     let bytes = file.bytes.as_slice();
     text.extend_from_slice(&Digest32::of(bytes).digits())?;
