@@ -47,7 +47,7 @@ fn no_dependencies(rt: HostRuntime) -> Result<(), Fail> {
         return Err(Fail::new("another number of files"));
     };
     assert!(rt; made.needs == 0);
-    assert!(rt; root.bytes.as_slice() == b"[app: :gen, version: \"0.1.0\", deps: []]\n");
+    assert!(rt; root.bytes.as_slice() == b"[app: :gen, version: \"0.1.0\", deps: []]\n".as_slice());
     Ok(())
 }
 
@@ -72,6 +72,6 @@ fn what_is_told_of_none(rt: HostRuntime) -> Result<(), Fail> {
     let line = gen_line(rt.alloc(), &told)?;
     let wanted =
         b"gen 0 1: 0 dependencies, 0 needs, 0 built, tree e3b0c44298fc1c149afbf4c8996fb92427ae41e4649b934ca495991b7852b855\n";
-    assert!(rt; line.as_slice() == wanted);
+    assert!(rt; line.as_slice() == wanted.as_slice());
     Ok(())
 }

@@ -97,7 +97,7 @@ fn a_unit_is_compiled_with_the_face_of_a_need(rt: HostRuntime) -> Result<(), Fai
         return Err(Fail::new("another number of files"));
     };
     assert!(rt; file.path.as_str() == "m.face");
-    assert!(rt; file.bytes.as_slice() == b"x = 14\n");
+    assert!(rt; file.bytes.as_slice() == b"x = 14\n".as_slice());
     Ok(())
 }
 
@@ -107,7 +107,7 @@ fn an_app_has_no_face_of_its_own(rt: HostRuntime) -> Result<(), Fail> {
     let mut store = sound(alloc)?;
     let (status, said) = called(alloc, S, &mut store, 0)?;
     assert!(rt; status == 1);
-    assert!(rt; said.as_slice() == b"s.unit:2: error: s.s is missing\n");
+    assert!(rt; said.as_slice() == b"s.unit:2: error: s.s is missing\n".as_slice());
     Ok(())
 }
 
@@ -129,7 +129,7 @@ fn words_of_another_form(rt: HostRuntime) -> Result<(), Fail> {
     ] {
         let (status, said) = called(alloc, words, &mut store, 0)?;
         assert!(rt; status == 2, "{words}");
-        assert!(rt; said.as_slice() == b"unitc: bad words\n", "{words}");
+        assert!(rt; said.as_slice() == b"unitc: bad words\n".as_slice(), "{words}");
     }
     Ok(())
 }
@@ -147,7 +147,7 @@ fn calls_that_fail(rt: HostRuntime) -> Result<(), Fail> {
         let mut store = failing(alloc, call, of_folder)?;
         let (status, said) = called(alloc, M, &mut store, of_sink)?;
         assert!(rt; status == wanted, "at {call}, {of_folder}, {of_sink}");
-        assert!(rt; said.as_slice() == b"");
+        assert!(rt; said.as_slice() == b"".as_slice());
     }
     Ok(())
 }
