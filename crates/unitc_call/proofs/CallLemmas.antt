@@ -5,7 +5,7 @@ use Rattle.std.proofs.lemmas.List.Elements.{All-from_recursion}
 use Rattle.unitc_call.specs.Ends.{statuses}
 
 all_small : All (λ status. status ≤ 10) statuses
-all_small = All-from_recursion (λ status. status ≤ 10) statuses (lit≤ tt, lit≤ tt, lit≤ tt, lit≤ tt, lit≤ tt, lit≤ tt, lit≤ tt, tt)
+all_small = All-from_recursion (λ status. status ≤ 10) statuses (lit≤ tt, (lit≤ tt, (lit≤ tt, (lit≤ tt, (lit≤ tt, (lit≤ tt, (lit≤ tt, tt)))))))
 
 -- each is a small number
 pub small_status : (status : ℕ) → Contains statuses status → status ≤ 10

@@ -1,5 +1,5 @@
 -- The files of needs, one app after another.
-use Rattle.std.proofs.Common.{◌≡◌, ℕ, ◌+◌, ◌<◌, List, [], ◌∷◌, ◌++◌, get_or, length, map, take, Option, Some, None, IfSome, refl, sym, ◌∙◌, ap, subst}
+use Rattle.std.proofs.Common.{◌≡◌, ℕ, suc, ◌+◌, ◌<◌, List, [], ◌∷◌, ◌++◌, get_or, length, map, take, Option, Some, None, IfSome, refl, sym, ◌∙◌, ap, subst}
 use Rattle.std.specs.List.{AllZip}
 use Rattle.std.proofs.lemmas.List.{take_more}
 use Rattle.mx_base.specs.declared.file.File.{File}
@@ -51,4 +51,4 @@ pub built_length : (slots : BuildKey → Slot) (env : List ℕ) (apps : List (Li
 built_length slots env [] [] built = refl
 built_length slots env [] (o ∷ os) built = absurd built
 built_length slots env (app ∷ apps) [] built = absurd built
-built_length slots env (app ∷ apps) (o ∷ os) built = ap (λ (n : ℕ). n + 1) (built_length slots env apps os built.1)
+built_length slots env (app ∷ apps) (o ∷ os) built = ap suc (built_length slots env apps os built.1)

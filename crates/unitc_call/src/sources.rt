@@ -1,5 +1,6 @@
 // The source files of a task.
-ghost use Rattle.std.specs.Prelude.{◌≡◌, IfOk, IfSome, IsFalse};
+ghost use Rattle.std.specs.Prelude.{◌≡◌, ◌++◌, [], IfOk, IfSome, IsFalse, OnOk};
+ghost use Rattle.std.specs.List.{cons_option};
 ghost use Rattle.mx_base.specs.Blame.{fails};
 ghost use Rattle.mx_base.specs.Layout.{is_in_build};
 ghost use Rattle.mx_base.specs.Path.{child_of};
@@ -8,7 +9,7 @@ ghost use Rattle.tree_store.specs.Known.{OnlyReads};
 ghost use Rattle.build_plan.specs.Sources.{is_source, source_at, sources_of};
 
 use mx_base::{File, Files, LOCK, RelPath};
-use std::alloc::Global;
+use std::alloc::{AllocError, Global};
 use tree_store::{Store, StoreFault};
 
 /// The sources in a folder, with their paths from there. A file that has gone since its path was listed is none.
@@ -25,14 +26,23 @@ pub(crate) fn read_sources<S: Store>(
     let paths = store.list(alloc, dir)?;
     let mut sources = Vec::new(alloc);
     for path in &paths {
-        if let Some(source) = source(alloc, store, dir, path)? {
-            sources.push(source)?;
-        }
+        let source = source(alloc, store, dir, path)?;
+        push_found(&mut sources, source)?;
     }
     Ok(Files::from_vec(sources))
 }
 
+fn push_found(sources: &mut Vec<File>, source: Option<File>) -> Result<(), AllocError>
+    ensures { OnOk result (sources.new.items ≡ sources.old.items ++ cons_option source []) }
+{
+    match source {
+        Some(file) => Ok(sources.push(file)?),
+        None => Ok(()),
+    }
+}
+
 // The file at a path, as a source of the folder.
+#[tactic(auto, using(build_plan::proofs::SourceLemmas::place_of))]
 fn source<S: Store>(
     alloc: Global,
     store: &mut S,

@@ -7,7 +7,7 @@ use Rattle.unitc_call.proofs.sources.read_sources.Given as goal
 
 abbrev pub invariant-loop-path : goal.invariant-loop-path
 invariant-loop-path g l = record {
-  read : GoesOn (g.S.Store.known l.fn.store).sources l.dir l.paths.items l.path-index l.sources.items;
-  order : ArePathsInOrder (behind (folder_text l.dir) l.sources.items ++ drop l.path-index l.paths.items);
+  read : GoesOn (g.S.Store.known l.fn.store).sources l.dir l.path-items l.path-index l.sources.items;
+  order : ArePathsInOrder (behind (folder_text l.dir) l.sources.items ++ drop l.path-index l.path-items);
   same : g.S.Store.known l.store ≡ g.S.Store.known l.fn.store;
 }
