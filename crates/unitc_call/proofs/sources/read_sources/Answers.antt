@@ -11,11 +11,16 @@ use Rattle.unitc_call.proofs.SourceLemmas.{GoesOn, as_found, goes_on, goes_to_en
 use Rattle.unitc_call.proofs.sources.read_sources.Goals as goal
 
 pub loop-path-init : goal.loop-path-init
-loop-path-init g c = record {
-  read = none_read (g.S.Store.known c.args.store.now).sources c.args.dir.now c.deref-path-items.result.now;
-  order = subst ArePathsInOrder (sym c.deref-path-items.ensures.value) c.in_ok-paths.ensures.in_order;
-  same = all_same c.in_ok-paths.ensures.reads;
-}
+loop-path-init g c =
+    let dir = c.args.dir.now in
+    let paths = c.deref-path-items.result.now in
+    record {
+      read = subst (GoesOn (g.S.Store.known c.args.store.now).sources dir paths 0) (sym c.new-sources.ensures.items)
+          (none_read (g.S.Store.known c.args.store.now).sources dir paths);
+      order = subst (λ (fs : List File). ArePathsInOrder (behind (folder_text dir) fs ++ paths)) (sym c.new-sources.ensures.items)
+          (subst ArePathsInOrder (sym c.deref-path-items.ensures.value) c.in_ok-paths.ensures.in_order);
+      same = all_same c.in_ok-paths.ensures.reads;
+    }
 
 pub loop-path-preserved : goal.loop-path-preserved
 loop-path-preserved g c =
