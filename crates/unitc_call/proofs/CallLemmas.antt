@@ -23,21 +23,21 @@ pub small_status : (status : ℕ) → Contains statuses status → status ≤ 10
 small_status status among = subst (λ (n : ℕ). n ≤ 10) among.2 (all_small among.0 status among.1)
 
 few_among : (status : ℕ) → status ≤ 2 → Contains statuses status
-few_among zero few = (0, (lit< tt, refl))
-few_among (suc zero) few = (1, (lit< tt, refl))
-few_among (suc (suc zero)) few = (2, (lit< tt, refl))
+few_among zero few = (0, lit< tt, refl)
+few_among (suc zero) few = (1, lit< tt, refl)
+few_among (suc (suc zero)) few = (2, lit< tt, refl)
 few_among (suc (suc (suc n))) few = absurd (omega (arith, few))
 
 -- the status that is said is one of them
 pub says_among : (reply : Reply) (old new : Sunk) (status : ℕ) → reply.status ≤ 2 → Says reply old new status → Contains statuses status
 says_among reply old new status few (said taken still is) = subst (Contains statuses) (sym is) (few_among reply.status few)
-says_among reply old new status few (cut part taken rose is) = subst (Contains statuses) (sym is) (6, (lit< tt, refl))
+says_among reply old new status few (cut part taken rose is) = subst (Contains statuses) (sym is) (6, lit< tt, refl)
 
 -- and that of a call that stops
 pub stop_among : (fault : KeptFault) → Contains statuses (status_of fault)
-stop_among Read = (3, (lit< tt, refl))
-stop_among Tree = (4, (lit< tt, refl))
-stop_among OutOfMemory = (5, (lit< tt, refl))
+stop_among Read = (3, lit< tt, refl)
+stop_among Tree = (4, lit< tt, refl)
+stop_among OutOfMemory = (5, lit< tt, refl)
 
 -- what compiling the task of the words comes to
 pub comes_of : (words : List (List ℕ)) (old new : Known) (task : Task) (result : Result Answer KeptFault) → task_of words ≡ Some task →
