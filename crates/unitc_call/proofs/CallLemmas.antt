@@ -1,5 +1,5 @@
 -- The ways in which a call ends, and the statuses that it ends with.
-use Rattle.std.proofs.Common.{◌≡◌, ℕ, zero, suc, ◌≤◌, List, Contains, Option, Some, None, Result, Ok, Err, IfOk, IfErr, refl, sym, lit≤, lit<, subst, arith}
+use Rattle.std.proofs.Common.{◌≡◌, ℕ, zero, suc, ◌≤◌, List, Contains, Some, Result, Ok, Err, IfOk, IfErr, refl, sym, lit≤, lit<, subst, arith}
 use Rattle.std.specs.List.{All}
 use Rattle.std.proofs.lemmas.List.Elements.{All-from_recursion}
 use Rattle.mx_base.specs.Sink.{Sunk}

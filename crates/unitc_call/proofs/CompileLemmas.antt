@@ -1,12 +1,11 @@
 -- The steps of a task, one after another.
-use Rattle.std.proofs.Common.{◌≡◌, ◌⊎◌, inl, inr, ℕ, Bool, true, false, cond, ◌&&◌, ◌||◌, List, [], ◌∷◌, Option, Some, None, Err, bytes_eq, IsTrue, refl, sym, ◌∙◌, ap, subst}
+use Rattle.std.proofs.Common.{◌≡◌, ◌⊎◌, inl, inr, ℕ, Bool, true, false, cond, List, Option, Some, None, Err, IsTrue, refl, sym, ◌∙◌, ap, subst}
 use Rattle.std.specs.List.{AllZip}
 use Rattle.std.proofs.lemmas.Bool.{both_ways}
 use Rattle.mx_base.specs.Causes.{Rose}
 use Rattle.mx_base.specs.declared.file.File.{File}
 use Rattle.compile_model.specs.Content.{Content}
 use Rattle.compile_model.specs.declared.outcome.Outcome.{Outcome}
-use Rattle.tree_store.specs.declared.holding.Holding.{Holding}
 use Rattle.tree_store.specs.declared.key.BuildKey.{BuildKey}
 use Rattle.tree_store.specs.Key.{is_same_build}
 use Rattle.tree_store.specs.Known.{Known, Told}

@@ -1,5 +1,5 @@
 -- Files that are put into the build of an app, which is empty.
-use Rattle.std.proofs.Common.{◌≡◌, Bool, true, false, cond, Option, Some, None, IfSome, List, [], option_map, refl, sym, ◌∙◌, ap, subst}
+use Rattle.std.proofs.Common.{◌≡◌, Bool, cond, Option, Some, None, IfSome, List, option_map, refl, sym, ◌∙◌, ap, subst}
 use Rattle.mx_base.specs.declared.file.File.{File}
 use Rattle.mx_base.specs.Order.{AreInOrder}
 use Rattle.tree_store.specs.declared.holding.Holding.{Holding}

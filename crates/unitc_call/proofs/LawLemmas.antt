@@ -1,6 +1,5 @@
 -- What follows from how a call ends.
-use Rattle.std.proofs.Common.{◌≡◌, ◌⊎◌, inl, inr, ℕ, ◌≤◌, Bool, true, false, List, Option, Some, None, refl, sym, ◌∙◌, ap, subst, lit≤, arith}
-use Rattle.mx_base.specs.Causes.{Rose}
+use Rattle.std.proofs.Common.{◌≡◌, ◌⊎◌, inl, inr, ℕ, ◌≤◌, Bool, true, false, List, Some, None, sym, ◌∙◌, ap, subst, lit≤, arith}
 use Rattle.mx_base.specs.Sink.{Sunk}
 use Rattle.compile_model.specs.declared.how.How.{How}
 use Rattle.compile_model.specs.declared.how.How.TheVariants.{Nothing, Unit as ByUnit, Program}
@@ -11,7 +10,7 @@ use Rattle.kept_tree.specs.declared.fault.KeptFault.TheVariants.{Read, Tree, Out
 use Rattle.unit_compile.specs.Units.{all_of, compiled_by, faces_in_order, has_error, outcome_with_all, text_of, unit_meaning}
 use Rattle.unitc_call.specs.declared.words.Task.{Task}
 use Rattle.unitc_call.specs.Compile.{IsCompiled, Reply}
-use Rattle.unitc_call.specs.Ends.{Breaks, Comes, Ends, Says, Stops, World, bad_words, status_of}
+use Rattle.unitc_call.specs.Ends.{Breaks, Comes, Says, Stops, World, bad_words, status_of}
 use Rattle.unitc_call.specs.Ends.Breaks.{unread, stopped}
 use Rattle.unitc_call.specs.Ends.Comes.{misread, compiled}
 use Rattle.unitc_call.specs.Ends.Ends.{heard, broken}

@@ -1,5 +1,5 @@
 -- The files of needs, one app after another.
-use Rattle.std.proofs.Common.{◌≡◌, ℕ, suc, ◌+◌, ◌<◌, List, [], ◌∷◌, ◌++◌, get_or, length, map, take, Option, Some, None, IfSome, refl, sym, ◌∙◌, ap, subst}
+use Rattle.std.proofs.Common.{◌≡◌, ℕ, suc, ◌+◌, ◌<◌, List, [], ◌∷◌, ◌++◌, get_or, length, take, Option, Some, None, IfSome, refl, sym, ◌∙◌, ap, subst}
 use Rattle.std.specs.List.{AllZip}
 use Rattle.std.proofs.lemmas.List.{take_more}
 use Rattle.mx_base.specs.declared.file.File.{File}
@@ -8,7 +8,7 @@ use Rattle.compile_model.specs.Content.{needs_of}
 use Rattle.tree_store.specs.declared.holding.Holding.{Holding}
 use Rattle.tree_store.specs.declared.key.BuildKey.{BuildKey}
 use Rattle.tree_store.specs.Slot.{Slot}
-use Rattle.tree_store.specs.Slot.Slot.{Here, Out}
+use Rattle.tree_store.specs.Slot.Slot.{Here}
 use Rattle.unitc_call.specs.Reading.{AreFilesAt, IsNeedIn}
 
 -- a folder that was handed out tells what its build has

@@ -1,5 +1,5 @@
 -- Words, a few of them at a time.
-use Rattle.std.proofs.Common.{◌≡◌, ℕ, ◌+◌, ◌-◌, ◌<◌, ◌≤◌, ◌==◌, Bool, true, false, ◌&&◌, cond, List, [], ◌∷◌, ◌++◌, drop, get_or, take, length, map, Option, Some, None, option_map, bytes_eq, codes, refl, sym, ◌∙◌, ap, append_assoc, arith}
+use Rattle.std.proofs.Common.{◌≡◌, ℕ, ◌-◌, ◌<◌, ◌≤◌, ◌==◌, Bool, true, false, ◌&&◌, cond, List, [], ◌∷◌, ◌++◌, drop, get_or, take, length, map, Option, Some, None, option_map, bytes_eq, codes, refl, sym, ◌∙◌, ap, append_assoc, arith}
 use Rattle.std.proofs.lemmas.List.{length-drop, take_all}
 use Rattle.unitc_call.specs.declared.words.Task.{Task}
 use Rattle.unitc_call.specs.Words.{are_options, is_output, needs_of, source_folder, task_of, task_with}

@@ -1,4 +1,4 @@
-use Rattle.std.proofs.Common.{◌≡◌, map, string_bytes, sym, ◌∙◌}
+use Rattle.std.proofs.Common.{map, string_bytes, sym, ◌∙◌}
 use Rattle.unitc_call.proofs.CallLemmas.{breaks_of, comes_of}
 use Rattle.unitc_call.proofs.call.answer.Goals as goal
 

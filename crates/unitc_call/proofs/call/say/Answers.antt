@@ -1,4 +1,4 @@
-use Rattle.std.proofs.Common.{◌≡◌, ℕ, List, take, refl, ◌∙◌, ap}
+use Rattle.std.proofs.Common.{ℕ, List, take, refl, ◌∙◌, ap}
 use Rattle.mx_base.specs.Sink.{with_bytes}
 use Rattle.unitc_call.specs.Ends.Says.{cut}
 use Rattle.unitc_call.proofs.call.say.Goals as goal

@@ -1,4 +1,4 @@
-use Rattle.std.proofs.Common.{◌≡◌, Contains, refl, sym, subst}
+use Rattle.std.proofs.Common.{Contains, refl, sym, subst}
 use Rattle.unitc_call.specs.Compile.{reply_of}
 use Rattle.unitc_call.specs.Ends.{statuses}
 use Rattle.unitc_call.specs.Ends.Ends.{heard, broken}

@@ -1,4 +1,4 @@
-use Rattle.std.proofs.Common.{◌≡◌, ◌+◌, take, sym, ◌∙◌, subst}
+use Rattle.std.proofs.Common.{◌+◌, take, sym, ◌∙◌, subst}
 use Rattle.tree_store.specs.declared.key.BuildKey.{BuildKey}
 use Rattle.tree_store.specs.Known.{Known}
 use Rattle.unitc_call.specs.Reading.{AreFilesAt}

@@ -1,4 +1,4 @@
-use Rattle.std.proofs.Common.{◌≡◌, map, string_bytes, sym, ◌∙◌, ap}
+use Rattle.std.proofs.Common.{map, string_bytes, sym, ◌∙◌, ap}
 use Rattle.unitc_call.specs.Words.{needs_of}
 use Rattle.unitc_call.proofs.WordLemmas.{needs_on, none_left}
 use Rattle.unitc_call.proofs.words.needs.Goals as goal

@@ -1,4 +1,4 @@
-use Rattle.std.proofs.Common.{◌≡◌, ◌-◌, Some, None, drop, length, map, string_bytes, take, sym, ◌∙◌, ap}
+use Rattle.std.proofs.Common.{◌-◌, Some, None, drop, length, map, string_bytes, take, sym, ◌∙◌, ap}
 use Rattle.unitc_call.specs.Words.{task_of}
 use Rattle.unitc_call.proofs.WordLemmas.{few_words, task_is, words_are}
 use Rattle.unitc_call.proofs.words.read_task.Goals as goal
