@@ -1,1 +1,4 @@
-
+pub mod EmptyLemmas
+pub mod FollowLemmas
+pub mod RightLemmas
+pub mod StepLemmas
