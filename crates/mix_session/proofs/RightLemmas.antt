@@ -120,17 +120,17 @@ one_right nature known old end done status comes honest tree apart =
 step_right : (nature : Nature) (known : List Given) (edit : Edit) (from to : Point) (dones : List Done) (ending : Option Status)
     → Steps nature edit from to dones ending → nature.honest → Honest nature.compile known from.stand.site.store.slot
     → NoClash (known ++ inputs_in nature.compile dones) → IsRightTo nature known dones to.stand
-step_right nature known edit from to dones ending (edited is only) honest tree apart =
+step_right nature known edit from to _ _ (edited is only) honest tree apart =
     still nature known to.stand (edit_honest nature.compile known edit from.stand.site.store to.stand.site.store is tree)
-step_right nature known edit from to dones ending (broken stop is says only) honest tree apart =
+step_right nature known edit from to _ _ (broken stop is says only) honest tree apart =
     still nature known to.stand (broken_honest nature.compile known edit stop from.stand.site.store to.stand.site.store is tree)
-step_right nature known edit from to dones ending (unready build is says only) honest tree apart =
+step_right nature known edit from to _ _ (unready build is says only) honest tree apart =
     still nature known to.stand (moved_honest nature.compile known _ _ (ap (λ (s : Site). s.store.slot) only.site) tree)
-step_right nature known edit from to dones ending (unheaded build is says only) honest tree apart =
+step_right nature known edit from to _ _ (unheaded build is says only) honest tree apart =
     still nature known to.stand (moved_honest nature.compile known _ _ (ap (λ (s : Site). s.store.slot) only.site) tree)
-step_right nature known edit from to dones ending (unplanned build out is headed un past) honest tree apart =
+step_right nature known edit from to _ _ (unplanned build out is headed un past) honest tree apart =
     still nature known to.stand (planless_honest nature.compile known build from.stand.site.store to.stand.site.store un.reply un.none tree)
-step_right nature known edit from to dones ending (compiled {status} done out is headed comes past) honest tree apart =
+step_right nature known edit from to _ _ (compiled {status = status} done out is headed comes past) honest tree apart =
     one_right nature known _ to.stand done status comes honest tree
     (subst (λ (gs : List Given). NoClash (known ++ gs)) (append-nil (inputs_of nature.compile done.plan.jobs)) apart)
 
@@ -138,16 +138,16 @@ step_right nature known edit from to dones ending (compiled {status} done out is
 
 both_right : (nature : Nature) (known : List Given) (dones others : List Done) → AreRight nature known dones
     → AreRight nature (known ++ inputs_in nature.compile dones) others → AreRight nature known (dones ++ others)
-both_right nature known dones others (none known') rest = subst (λ (gs : List Given). AreRight nature gs others) (append-nil known) rest
-both_right nature known (done ∷ dones) others (more done right all) rest =
+both_right nature known _ others (none _) rest = subst (λ (gs : List Given). AreRight nature gs others) (append-nil known) rest
+both_right nature known _ others (more {dones = dones} done right all) rest =
     more done right (both_right nature (known ++ inputs_of nature.compile done.plan.jobs) dones others all
     (subst (λ (gs : List Given). AreRight nature gs others)
     (sym (append_assoc known (inputs_of nature.compile done.plan.jobs) (inputs_in nature.compile dones))) rest))
 
 pub follow_right : (nature : Nature) (edits : List Edit) (dones : List Done) (from to : Point) (status : Status) → Follows nature edits dones from to status
     → (known : List Given) → Honest nature.compile known from.stand.site.store.slot → RightFrom nature known dones to.stand
-follow_right nature edits dones from to status (over point) known tree honest apart = still nature known from.stand tree
-follow_right nature edits dones from to status (onward {edits'} {dones'} {more'} edit from' mid step rest) known tree honest apart =
+follow_right nature _ _ _ _ _ (over point) known tree honest apart = still nature known point.stand tree
+follow_right nature _ _ _ _ _ (onward {edits = edits'} {dones = dones'} {more = more'} {to = to} {status = status} edit from mid step rest) known tree honest apart =
     let apart' : NoClash ((known ++ inputs_in nature.compile dones') ++ inputs_in nature.compile more') = subst NoClash (all_inputs nature.compile known dones' more') apart in
     let one = step_right nature known edit from mid dones' None step honest tree (fewer_apart (known ++ inputs_in nature.compile dones') (inputs_in nature.compile more') apart') in
     let others = follow_right nature edits' more' mid to status rest (known ++ inputs_in nature.compile dones') one.stays honest apart' in
@@ -155,5 +155,5 @@ follow_right nature edits dones from to status (onward {edits'} {dones'} {more'}
       each = both_right nature known dones' more' one.each others.each;
       stays = subst (λ (gs : List Given). Honest nature.compile gs to.stand.site.store.slot) (sym (all_inputs nature.compile known dones' more')) others.stays;
     }
-follow_right nature edits dones from to status (ended edit from' to' step) known tree honest apart =
-    step_right nature known edit from to dones (Some status) step honest tree apart
+follow_right nature _ _ _ _ _ (ended {dones = dones'} {status = status} edit from to step) known tree honest apart =
+    step_right nature known edit from to dones' (Some status) step honest tree apart
