@@ -1,5 +1,6 @@
 -- What a text and its term say.
-use Rattle.std.proofs.Common.{◌≡◌, ℕ, Bool, true, false, List, Err, Ok, Result, Vec, if◌then◌else◌, IsErrAnd, refl, sym, subst}
+use Rattle.std.proofs.Common.{◌≡◌, ℕ, suc, ◌+◌, ◌<◌, ◌≤◌, Bool, true, false, cond, List, ◌∷◌, ◌++◌, length, map, drop, get_or, position, is_none, Option, Some, None, option_map, Err, Ok, Result, Vec, if◌then◌else◌, IsErrAnd, refl, sym, ◌∙◌, ap, subst, arith}
+use Rattle.std.proofs.lemmas.List.{append-nil, drop_all, drop_more}
 use Rattle.std.specs.Prelude.{IsFalse}
 use Rattle.std.specs.declared.alloc.Global.{Global}
 use Rattle.elixir_terms.specs.declared.error.TermError.{TermError}
@@ -12,7 +13,10 @@ use Rattle.session_script.specs.declared.error.ScriptError.{ScriptError}
 use Rattle.session_script.specs.declared.error.ScriptError.TheVariants as script
 use Rattle.session_script.specs.Blame.{script_blame}
 use Rattle.session_script.specs.Refusals.{term_refused}
-use Rattle.session_script.specs.Says.{SaysScript}
+use Rattle.session_script.specs.Says.{AreEdits, SaysScript}
+use Rattle.session_script.specs.Says.AreEdits as says
+use Rattle.session_script.specs.Elements.{edit_of}
+use Rattle.term_values.specs.declared.term.Term.{Term}
 use Rattle.session_script.specs.Says.SaysScript.{unread}
 
 -- a text that is refused
@@ -38,3 +42,23 @@ pub edits_on : (Is : Result (List Edit) ScriptError → Type 0) (result : Result
     → IsErrAnd result (λ e. e ≡ error) → (script_blame error ≡ Input → Is (Err error)) → AnswersBy (λ edits. edits.items) script_blame result Is
 edits_on Is (Ok x) error is why = absurd is
 edits_on Is (Err e) error is why = subst (λ x. script_blame x ≡ Input → Is (Err x)) (sym is) why
+
+-- ---- element after element
+
+abbrev is_another : Term → Bool
+is_another element = is_none (edit_of element)
+
+-- the first that has none of the forms
+pub first_here : (elements : List Term) (k : ℕ) (element : Term) → k < length elements → element ≡ get_or elements k element → edit_of element ≡ None
+    → option_map (λ n. k + n) (position is_another (drop k elements)) ≡ position is_another elements → AreEdits elements (Err (script.Form k))
+first_here elements k element within is none first =
+    says.another (sym first
+    ∙ ap (λ (es : List Term). option_map (λ n. k + n) (position is_another es)) (drop_more elements k element within ∙ ap (λ (e : Term). e ∷ drop (k + 1) elements) (sym is))
+    ∙ ap (λ (b : Bool). option_map (λ n. k + n) (cond b (Some 0) (option_map suc (position is_another (drop (k + 1) elements))))) (ap is_none none)
+    ∙ ap (λ (n : ℕ). Some n) (omega arith))
+
+-- all have one
+pub all_read : (elements : List Term) (k : ℕ) (edits : List Edit) → length elements ≤ k
+    → map Some edits ++ map edit_of (drop k elements) ≡ map edit_of elements → AreEdits elements (Ok edits)
+all_read elements k edits past all =
+    says.all (sym all ∙ ap (λ (es : List Term). map Some edits ++ map edit_of es) (drop_all k elements past) ∙ append-nil (map Some edits))
