@@ -4,3 +4,4 @@ pub mod PlanLemmas
 pub mod RightLemmas
 pub mod RunLemmas
 pub mod StepLemmas
+pub mod SumLemmas

@@ -5,3 +5,4 @@ pub mod Follows
 pub mod Point
 pub mod Right
 pub mod Sessions
+pub mod Sums

@@ -25,6 +25,7 @@ use Rattle.mix_session.specs.Emptying.{Empties, any_build}
 use Rattle.mix_session.specs.Follows.{Follows}
 use Rattle.mix_session.specs.Point.{Past, Stand, no_past, point_of, stand_of}
 use Rattle.mix_session.specs.Right.{RightFrom}
+use Rattle.mix_session.specs.Sums.{CountsAll}
 
 -- the file of a script, and its text
 pub record Script : Type 0 where
@@ -57,7 +58,8 @@ pub data Runs (nature : Nature) (edits : List Edit) (old new : Stand) (end : End
       → new.site.maker ≡ old.site.maker → end.histories ≡ [] → Runs nature edits old new end
   followed : (store : Known) (dones : List Done) (past : Past) → Empties old.site.store store
       → Follows nature edits dones (point_of (stand_of (site_of store old.site.maker) old.out) no_past) (point_of new past) end.status
-      → end.histories ≡ past.histories → RightFrom nature [] dones new → Runs nature edits old new end
+      → end.histories ≡ past.histories → CountsAll nature dones end.status old.site.maker new.site.maker → RightFrom nature [] dones new
+      → Runs nature edits old new end
 
 -- the ways in which a session ends: before anything was done, or after the script was read
 pub data Sessions (nature : Nature) (script : Script) (old new : Stand) (end : End) : Type 0 where

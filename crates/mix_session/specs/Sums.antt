@@ -1,14 +1,15 @@
 -- What a session asks of its maker, over all of its compiles.
-use Rattle.std.specs.Prelude.{◌≡◌, ℕ, ◌+◌, ◌≤◌, List, [], ◌∷◌, length, sum_by, count_by}
+use Rattle.std.specs.Prelude.{◌≡◌, ℕ, ◌+◌, ◌≤◌, List, [], ◌∷◌, length}
+use Rattle.honest_tree.specs.Given.{Given}
 use Rattle.mix_compile.specs.History.{Begins, wanted}
-use Rattle.mix_compile.specs.Right.{IsDone, is_unremembered, stale_places}
+use Rattle.mix_compile.specs.Right.{IsDone, stale_places}
 use Rattle.mix_answer.specs.declared.status.Status.{Status}
+use Rattle.partition_core.specs.State.{Opening}
 use Rattle.partition_crew.specs.Station.{Nature}
 use Rattle.partition_face.specs.Counts.{raised_by}
 use Rattle.partition_face.specs.Makers.{MakerKnown}
-use Rattle.tree_store.specs.Known.{Known}
-use Rattle.mix_compile.specs.Site.{Site}
 use Rattle.mix_session.specs.Compiling.{Done}
+use Rattle.mix_session.specs.Right.{AreRight}
 
 -- how many partitions are asked for: one for each compile whose plan has a job
 abbrev pub asked_by : List Done → ℕ
@@ -21,10 +22,8 @@ pub data AreStale (nature : Nature) : List Done → ℕ → Type 0 where
   more : {dones : List Done} {n : ℕ} (done : Done) (opening : Opening) → Begins done.plan done.passage.old.store.slot 1 opening
       → AreStale nature dones n → AreStale nature (done ∷ dones) (stale_places nature opening + n)
 
--- once more for each compile at most
-pub record RunsOnlyStale (nature : Nature) (dones : List Done) (old new : Site) : Type 0 where
-  pub most : (n : ℕ) → AreStale nature dones n → new.maker.runs ≤ old.maker.runs + (n + length dones)
-
--- a session that isn't ended early asks for so many
-abbrev pub AsksFor : Status → List Done → Site → Site → Type 0
-AsksFor status dones old new = IsDone status → new.maker.asked ≡ raised_by (asked_by dones) old.maker.asked
+-- a session that isn't ended early asked for a partition in each compile that has a job; and no place is run but for the stale
+-- ones, and once more in each compile at most
+pub record CountsAll (nature : Nature) (dones : List Done) (status : Status) (old new : MakerKnown) : Type 0 where
+  pub asked : IsDone status → new.asked ≡ raised_by (asked_by dones) old.asked
+  pub runs : (known : List Given) (n : ℕ) → AreRight nature known dones → AreStale nature dones n → new.runs ≤ old.runs + (n + length dones)

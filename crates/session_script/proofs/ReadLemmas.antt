@@ -1,5 +1,7 @@
 -- What a text and its term say.
-use Rattle.std.proofs.Common.{◌≡◌, ℕ, suc, ◌+◌, ◌<◌, ◌≤◌, Bool, true, false, cond, List, ◌∷◌, ◌++◌, length, map, drop, get_or, position, is_none, Option, Some, None, option_map, Err, Ok, Result, Vec, if◌then◌else◌, IsErrAnd, refl, sym, ◌∙◌, ap, subst, arith}
+use Rattle.std.proofs.Common.{◌≡◌, ℕ, suc, ◌+◌, ◌<◌, ◌≤◌, Bool, true, false, cond, List, ◌∷◌, ◌++◌, length, map, drop, get_or, position, nat_lt, is_none, Option, Some, None, option_map, Err, Ok, Result, Vec, if◌then◌else◌, IsErrAnd, refl, sym, ◌∙◌, ap, subst, arith}
+use Rattle.std.specs.List.{position_or_len}
+use Rattle.std.proofs.lemmas.List.Sums.{position_or_len_is}
 use Rattle.std.proofs.lemmas.List.{append-nil, drop_all, drop_more}
 use Rattle.std.specs.Prelude.{IsFalse}
 use Rattle.std.specs.declared.alloc.Global.{Global}
@@ -48,13 +50,19 @@ edits_on Is (Err e) error is why = subst (λ x. script_blame x ≡ Input → Is 
 abbrev is_another : Term → Bool
 is_another element = is_none (edit_of element)
 
+at_first : (p : Term → Bool) (e : Term) (es : List Term) → p e ≡ true → position p (e ∷ es) ≡ Some 0
+at_first p e es is = at (position_or_len p (e ∷ es)) (position_or_len_is p (e ∷ es) 0 e (omega arith) (λ k below. absurd (omega (arith, below))) (λ within. is))
+  where
+    at : (n : ℕ) → n ≡ 0 → cond (nat_lt n (suc (length es))) (Some n) None ≡ Some 0
+    at n zero_is = rw zero_is refl
+
 -- the first that has none of the forms
 pub first_here : (elements : List Term) (k : ℕ) (element : Term) → k < length elements → element ≡ get_or elements k element → edit_of element ≡ None
     → option_map (λ n. k + n) (position is_another (drop k elements)) ≡ position is_another elements → AreEdits elements (Err (script.Form k))
 first_here elements k element within is none first =
     says.another (sym first
     ∙ ap (λ (es : List Term). option_map (λ n. k + n) (position is_another es)) (drop_more elements k element within ∙ ap (λ (e : Term). e ∷ drop (k + 1) elements) (sym is))
-    ∙ ap (λ (b : Bool). option_map (λ n. k + n) (cond b (Some 0) (option_map suc (position is_another (drop (k + 1) elements))))) (ap is_none none)
+    ∙ ap (option_map (λ n. k + n)) (at_first is_another element (drop (k + 1) elements) (ap is_none none))
     ∙ ap (λ (n : ℕ). Some n) (omega arith))
 
 -- all have one
