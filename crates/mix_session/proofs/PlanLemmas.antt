@@ -12,7 +12,7 @@ use Rattle.mix_answer.specs.declared.stop.Stop.{Stop}
 use Rattle.mix_answer.specs.Answer.{reply_in, status_in, text_in}
 use Rattle.mix_answer.specs.Plans.{IsPlanFor}
 use Rattle.mix_answer.specs.Refusal.{TellsError}
-use Rattle.mix_answer.specs.Refusal.TellsError as tells
+use Rattle.mix_answer.specs.Refusal.TellsError.{told as is_told, read as is_read, no_memory as is_memory}
 use Rattle.mix_answer.specs.Reply.{Reply, reply_of}
 use Rattle.mix_answer.specs.Says.{Says}
 use Rattle.mix_compile.specs.declared.ended.Compiled.{Compiled}
@@ -38,12 +38,12 @@ same_reply status status' text text' s t = ap (λ (x : Status). reply_of x text)
 pub no_plan : (build : Build) (error : PlanError) (old new : Known) (answer : Result Answer Stop)
     → (blame_of error ≡ Input → Told old (λ files. IsPlan files build.env build.target) (Err error)) → OnlyReads old new (is_outside (blame_of error))
     → TellsError error (status_in answer) (text_in answer) → HasNoPlan build old new (reply_in answer)
-no_plan build error old new answer first reads (tells.told is ended line) =
+no_plan build error old new answer first reads (is_told is ended line) =
     refused error (record { refusal = is; first = first is; line = line; ended = ended }) (only_read old new _ reads (ap is_outside is))
-no_plan build error old new answer first reads (tells.read is ended line) =
+no_plan build error old new answer first reads (is_read is ended line) =
     let failed = subst (λ (e : PlanError). OnlyReads old new (is_outside (blame_of e))) is reads in
     unread (failed.cause.rose refl) failed.same (same_reply _ _ _ _ ended line)
-no_plan build error old new answer first reads (tells.no_memory quiet ended line) =
+no_plan build error old new answer first reads (is_memory quiet ended line) =
     no_memory (only_read old new _ reads (not_outside (blame_of error) quiet)) (same_reply _ _ _ _ ended line)
 
 pub planned_done : (nature : Nature) (build : Build) (plan : Plan) (old new : Stand) (came : Came) (compiled : Compiled)

@@ -28,15 +28,15 @@ use Rattle.partition_face.proofs.CountLemmas.{raised_twice}
 use Rattle.session_script.specs.declared.edit.Edit.{Edit}
 use Rattle.tree_store.specs.Known.{Known}
 use Rattle.mix_session.specs.Compiling.{CompilesTo, Done, HasNoPlan, asked_in}
-use Rattle.mix_session.specs.Compiling.HasNoPlan as planless
+use Rattle.mix_session.specs.Compiling.HasNoPlan.{refused as is_refused, unread as is_unread, no_memory as is_memory}
 use Rattle.mix_session.specs.Follows.{Follows, Steps, ending_by}
 use Rattle.mix_session.specs.Follows.Steps.{edited, broken, unready, unheaded, unplanned, compiled}
 use Rattle.mix_session.specs.Follows.Follows.{over, onward, ended}
 use Rattle.mix_session.specs.Point.{Point, Stand}
 use Rattle.mix_session.specs.Right.{AreRight}
-use Rattle.mix_session.specs.Right.AreRight as rights
+use Rattle.mix_session.specs.Right.AreRight.{more as more_right}
 use Rattle.mix_session.specs.Sums.{AreStale, CountsAll, asked_by}
-use Rattle.mix_session.specs.Sums.AreStale as stales
+use Rattle.mix_session.specs.Sums.AreStale.{none as none_stale, more as more_stale}
 
 -- ---- statuses that end a session
 
@@ -69,9 +69,9 @@ reply_ends : (reply : Reply) (stop : Stop) → reply ≡ stopped stop → IsDone
 reply_ends reply stop is done = stop_ends stop (subst IsDone (ap (λ (r : Reply). r.status) is) done)
 
 planless_ends : (build : Build) (old new : Known) (reply : Reply) → HasNoPlan build old new reply → IsDone reply.status → ⊥
-planless_ends build old new reply (planless.refused error is same) done = refusal_ends error (subst IsDone is.ended done)
-planless_ends build old new reply (planless.unread rose same is) done = reply_ends reply Read is done
-planless_ends build old new reply (planless.no_memory same is) done = reply_ends reply Memory is done
+planless_ends build old new reply (is_refused error is same) done = refusal_ends error (subst IsDone is.ended done)
+planless_ends build old new reply (is_unread rose same is) done = reply_ends reply Read is done
+planless_ends build old new reply (is_memory same is) done = reply_ends reply Memory is done
 
 same_some : (a b : Status) → Some a ≡ Some b → b ≡ a
 same_some a b e = cc
@@ -191,7 +191,7 @@ step_runs nature edit from mid _ more _ new (broken stop is says only) rest = mo
 step_runs nature edit from mid _ more _ new (unready build is says only) rest = moved_runs nature more _ _ new (ap (λ (s : Site). s.maker) only.site) rest
 step_runs nature edit from mid _ more _ new (unheaded build is says only) rest = moved_runs nature more _ _ new (ap (λ (s : Site). s.maker) only.site) rest
 step_runs nature edit from mid _ more _ new (unplanned build out is heads un past) rest = moved_runs nature more _ _ new un.maker rest
-step_runs nature edit from mid _ more _ new (compiled done out is heads comes past) rest known _ (rights.more _ right others) (stales.more {n = n} _ opening begins stale) =
+step_runs nature edit from mid _ more _ new (compiled done out is heads comes past) rest known _ (more_right _ right others) (more_stale {n = n} _ opening begins stale) =
     let before : done.passage.old.maker.runs ≡ from.stand.site.maker.runs = ap (λ (p : Passage). p.old.maker.runs) comes.site in
     let after : done.passage.new.maker.runs ≡ mid.stand.site.maker.runs = ap (λ (p : Passage). p.new.maker.runs) comes.site in
     let one = (right.runs opening begins).most in
@@ -200,7 +200,7 @@ step_runs nature edit from mid _ more _ new (compiled done out is heads comes pa
 
 pub follow_runs : (nature : Nature) (edits : List Edit) (dones : List Done) (from to : Point) (status : Status) → Follows nature edits dones from to status
     → RunsRest nature dones from.stand.site.maker to.stand.site.maker
-follow_runs nature _ _ _ _ _ (over point) known _ right (stales.none) = omega arith
+follow_runs nature _ _ _ _ _ (over point) known _ right none_stale = omega arith
 follow_runs nature _ _ _ _ _ (onward {edits = edits} {dones = dones} {more = more} {to = to} {status = status} edit from mid step rest) =
     step_runs nature edit from mid dones more None to.stand.site.maker step (follow_runs nature edits more mid to status rest)
 follow_runs nature _ _ _ _ _ (ended {dones = dones} {status = status} edit from to step) =

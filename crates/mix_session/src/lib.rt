@@ -9,8 +9,8 @@ mod editing;
 mod emptying;
 mod log;
 mod refusal;
-mod session;
+mod running;
 mod stepping;
 
 pub use log::Sessioned;
-pub use session::session;
+pub use running::session;

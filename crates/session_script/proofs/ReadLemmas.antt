@@ -16,7 +16,7 @@ use Rattle.session_script.specs.declared.error.ScriptError.TheVariants as script
 use Rattle.session_script.specs.Blame.{script_blame}
 use Rattle.session_script.specs.Refusals.{term_refused}
 use Rattle.session_script.specs.Says.{AreEdits, SaysScript}
-use Rattle.session_script.specs.Says.AreEdits as says
+use Rattle.session_script.specs.Says.AreEdits.{all, another}
 use Rattle.session_script.specs.Elements.{edit_of}
 use Rattle.term_values.specs.declared.term.Term.{Term}
 use Rattle.session_script.specs.Says.SaysScript.{unread}
@@ -60,7 +60,7 @@ at_first p e es is = at (position_or_len p (e ∷ es)) (position_or_len_is p (e 
 pub first_here : (elements : List Term) (k : ℕ) (element : Term) → k < length elements → element ≡ get_or elements k element → edit_of element ≡ None
     → option_map (λ n. k + n) (position is_another (drop k elements)) ≡ position is_another elements → AreEdits elements (Err (script.Form k))
 first_here elements k element within is none first =
-    says.another (sym first
+    another (sym first
     ∙ ap (λ (es : List Term). option_map (λ n. k + n) (position is_another es)) (drop_more elements k element within ∙ ap (λ (e : Term). e ∷ drop (k + 1) elements) (sym is))
     ∙ ap (option_map (λ n. k + n)) (at_first is_another element (drop (k + 1) elements) (ap is_none none))
     ∙ ap (λ (n : ℕ). Some n) (omega arith))
@@ -68,5 +68,5 @@ first_here elements k element within is none first =
 -- all have one
 pub all_read : (elements : List Term) (k : ℕ) (edits : List Edit) → length elements ≤ k
     → map Some edits ++ map edit_of (drop k elements) ≡ map edit_of elements → AreEdits elements (Ok edits)
-all_read elements k edits past all =
-    says.all (sym all ∙ ap (λ (es : List Term). map Some edits ++ map edit_of es) (drop_all k elements past) ∙ append-nil (map Some edits))
+all_read elements k edits past whole =
+    all (sym whole ∙ ap (λ (es : List Term). map Some edits ++ map edit_of es) (drop_all k elements past) ∙ append-nil (map Some edits))
