@@ -2,6 +2,7 @@
 use Rattle.std.proofs.Common.{◌≡◌, ℕ, suc, ◌+◌, ◌<◌, ◌≤◌, Bool, true, false, cond, List, ◌∷◌, ◌++◌, length, map, drop, get_or, position, nat_lt, is_none, Option, Some, None, option_map, Err, Ok, Result, Vec, if◌then◌else◌, IsErrAnd, refl, sym, ◌∙◌, ap, subst, arith}
 use Rattle.std.specs.List.{position_or_len}
 use Rattle.std.proofs.lemmas.List.Sums.{position_or_len_is}
+use Rattle.std.proofs.lemmas.Bool.{lt-ltb}
 use Rattle.std.proofs.lemmas.List.{append-nil, drop_all, drop_more}
 use Rattle.std.specs.Prelude.{IsFalse}
 use Rattle.std.specs.declared.alloc.Global.{Global}
@@ -54,7 +55,7 @@ at_first : (p : Term → Bool) (e : Term) (es : List Term) → p e ≡ true → 
 at_first p e es is = at (position_or_len p (e ∷ es)) (position_or_len_is p (e ∷ es) 0 e (omega arith) (λ k below. absurd (omega (arith, below))) (λ within. is))
   where
     at : (n : ℕ) → n ≡ 0 → cond (nat_lt n (suc (length es))) (Some n) None ≡ Some 0
-    at n zero_is = rw zero_is refl
+    at n zero_is = rw zero_is (ap (λ (b : Bool). cond b (Some 0) None) (lt-ltb 0 (suc (length es)) (omega arith)))
 
 -- the first that has none of the forms
 pub first_here : (elements : List Term) (k : ℕ) (element : Term) → k < length elements → element ≡ get_or elements k element → edit_of element ≡ None
