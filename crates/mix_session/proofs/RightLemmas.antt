@@ -114,7 +114,7 @@ one_right nature known old end done status comes honest tree apart =
     record {
       each = more done right (none _);
       stays = subst (λ (gs : List Given). Honest nature.compile (known ++ gs) end.site.store.slot) (sym (append-nil (inputs_of nature.compile done.plan.jobs)))
-      (subst (Honest nature.compile (known ++ inputs_of nature.compile done.plan.jobs)) after right.stays);
+          (subst (Honest nature.compile (known ++ inputs_of nature.compile done.plan.jobs)) after right.stays);
     }
 
 step_right : (nature : Nature) (known : List Given) (edit : Edit) (from to : Point) (dones : List Done) (ending : Option Status)

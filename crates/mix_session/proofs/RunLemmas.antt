@@ -18,7 +18,7 @@ pub runs_on : (nature : Nature) (edits : List Edit) (old new : Stand) (store : K
     → end.histories ≡ past.histories → Runs nature edits old new end
 runs_on nature edits old new store first past end emptied none goes same =
     let on : Goes nature edits (point_of (stand_of (site_of store old.site.maker) old.out) no_past) (point_of new past) end.status
-        = subst (λ (p : Past). Goes nature edits (point_of (stand_of (site_of store old.site.maker) old.out) p) (point_of new past) end.status) none goes in
+    = subst (λ (p : Past). Goes nature edits (point_of (stand_of (site_of store old.site.maker) old.out) p) (point_of new past) end.status) none goes in
     followed store on.0 past emptied on.1 same
     (record { asked = follow_asks nature edits on.0 _ (point_of new past) end.status on.1; runs = follow_runs nature edits on.0 _ (point_of new past) end.status on.1 })
     (follow_right nature edits on.0 _ (point_of new past) end.status on.1 []

@@ -54,8 +54,9 @@ pub compiled_step : {X : Type 0} (nature : Nature) (build : Build) (edit : Edit)
     (compiled : Compiled) (result : Result X Status) → past' ≡ and_then compiled.history.items compiled.status past → Says (headed past) out mid AllDone
     → IsDone nature build (stand_of site mid) to compiled → ending_in result ≡ ending_by compiled.status
     → TakesStep nature edit (point_of (stand_of site out) past) (point_of to past') result
-compiled_step nature build edit of site out mid to past past' comp result next heads is ending =
-    (is.done ∷ [],
-    subst (λ (e : Option Status). Steps nature edit (point_of (stand_of site out) past) (point_of to past') (is.done ∷ []) e) (sym ending)
-    (compiled is.done mid (of ∙ ap (λ (b : Build). Some b) (sym is.of)) heads is.comes
-    (next ∙ ap (λ (h : List Event). and_then h comp.status past) (sym is.history))))
+compiled_step nature build edit of site out mid to past past' comp result next heads is ending = (
+  is.done ∷ [],
+  subst (λ (e : Option Status). Steps nature edit (point_of (stand_of site out) past) (point_of to past') (is.done ∷ []) e) (sym ending)
+      (compiled is.done mid (of ∙ ap (λ (b : Build). Some b) (sym is.of)) heads is.comes
+      (next ∙ ap (λ (h : List Event). and_then h comp.status past) (sym is.history))),
+)

@@ -9,7 +9,11 @@ use session_script::ScriptError;
 use std::alloc::Global;
 
 /// The status and the line of a refusal of the script in the file at the path.
-pub(crate) fn refuse_script(alloc: Global, path: &RelPath, error: &ScriptError) -> Result<Answer, Stop>
+pub(crate) fn refuse_script(
+    alloc: Global,
+    path: &RelPath,
+    error: &ScriptError,
+) -> Result<Answer, Stop>
     ensures { TellsScript path.now error.now (reply_in result) }
 {
     if let ScriptError::OutOfMemory = error {
