@@ -45,7 +45,7 @@ impl Log {
     /// Ends the session with this status.
     pub(crate) fn ended(self, status: Status) -> Sessioned
         ensures status { result.status ≡ status }
-        ensures histories { result.histories.items ≡ self.entry.histories.items }
+        ensures histories { result.histories.items ≡ self.histories.items }
     {
         let Log {
             failed: _,
