@@ -1,0 +1,4 @@
+pub mod Owning
+pub mod Tallies
+pub mod Leasing
+pub mod Turning

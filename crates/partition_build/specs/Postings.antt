@@ -38,7 +38,7 @@ own_events post = events_of post.number post.seen
 -- the post is one of a board for this plan and 64 partitions at most
 pub record IsPosted {F : Type 0} (board : TableId) (plan : Plan) (post : PostView F) : Type 0 where
   pub own : IsIn board post
-  pub plan : plan ≡ (opening_at post).plan
+  pub asked : plan ≡ (opening_at post).plan
   pub few : (opening_at post).partitions ≤ 64
 
 -- nothing has happened, and the partition has neither died nor made many runs
@@ -48,14 +48,18 @@ pub record MayServe {F : Type 0} (board : TableId) (plan : Plan) (now : PostingV
   pub unseen : now.post.seen ≡ []
   pub young : IsYoung now.counts
 
--- between two turns: the partition is free, has given nothing back, and made a run for each start
+-- a partition that has given nothing back has made a run for each start, and lives
+pub record IsLive (own : List Event) (first now : Counts) : Type 0 where
+  pub unended : count_by is_back own ≡ 0
+  pub runs : now.runs ≡ first.runs + count_by is_start own
+  pub deaths : now.deaths ≡ first.deaths
+
+-- between two turns: the partition is free, and has given nothing back
 pub record IsServing {F : Type 0} (first now : PostingView F) : Type 0 where
   pub same : IsSamePost first.post now.post
   pub legal : Legal (opening_at now.post) now.post.seen
   pub free : IsFreePost now.post
-  pub unended : count_by is_back (own_events now.post) ≡ 0
-  pub runs : now.counts.runs ≡ first.counts.runs + count_by is_start (own_events now.post)
-  pub deaths : now.counts.deaths ≡ first.counts.deaths
+  pub live : IsLive (own_events now.post) first.counts now.counts
 
 -- at the end: it is the same post, without a lease, and the partition has counted what its own events say
 pub record HasServed (lasting : Type 0) {F : Type 0} (first now : PostingView F) : Type 0 where
@@ -95,7 +99,7 @@ module _ {F : Type 0} (known : F → FolderKnown) where
     pub legal : Legal (opening_at post) post.seen
     pub mine : IsLeaseOf known post lease
     pub count : IsCounted post.seen lease.place (known lease.folder)
-    pub needs : needs ≡ outcomes_now (state_at post).fates (needs_at (opening_at post) lease.place)
+    pub given : needs ≡ outcomes_now (state_at post).fates (needs_at (opening_at post) lease.place)
 
   -- the lease may be handed in with what came of it
   abbrev pub MayHandIn : PostView F → Lease F → Worked → Type 0
@@ -110,6 +114,6 @@ pub record HasRun (lasting : Type 0) {F : Type 0} (place : ℕ) (old new : Posti
   pub worked : Worked
   pub adds : Adds (ended_by place old.post.number worked ∷ []) old.post new.post
   pub counts : Counted lasting old.counts new.counts worked
-  pub goes : goes ≡ goes_on worked
+  pub on : goes ≡ goes_on worked
   pub free : IsTrue goes → IsFreePost new.post
   pub returned : (place : ℕ) → HoldsPlace new.post place → ⊥
