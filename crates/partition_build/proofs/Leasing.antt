@@ -88,10 +88,10 @@ made_here o fates place job needs outcome bytes held here ready given spells is 
 built_here : (o : Opening) (fates : List (Option Fate)) (place : ℕ) (job : Job) (needs : List Outcome) (outcome : Outcome) (folder : FolderKnown)
     (last : Write) → slice_get o.plan.jobs place ≡ Some job → first_open fates job.needs ≡ None → needs ≡ outcomes_now fates job.needs
     → outcome.status ≡ 0 → Settles (given_by job needs) outcome folder last → IfSome folder.held (HoldsBuilt o fates place outcome)
-built_here o fates place job needs outcome folder _ here ready given zero (built bytes status spells holds) =
+built_here o fates place job needs outcome folder _ here ready given status_0 (built bytes status spells holds) =
     if_told folder.held (λ held told. made_here o fates place job needs outcome bytes held here ready given spells
     (told_has (λ h. h ≡ marked bytes (only_files outcome.files)) folder.held held told holds))
-built_here o fates place job needs outcome folder _ here ready given zero (failed status files holds) = absurd (status zero)
+built_here o fates place job needs outcome folder _ here ready given status_0 (failed status files holds) = absurd (status status_0)
 
 failed_here : (given : Given) (outcome : Outcome) (folder : FolderKnown) (last : Write) → (outcome.status ≡ 0 → ⊥)
     → Settles given outcome folder last → IfSome folder.held (λ held. held ≡ nothing)

@@ -1,5 +1,5 @@
 -- What a build by several partitions leads to.
-use Rattle.std.specs.Prelude.{◌≡◌, ◌≢◌, ◌↔◌, ℕ, ◌+◌, ◌≤◌, ◌==◌, Bool, true, false, not, ◌&&◌, List, [], length, filter, count_by, slice_get, Option, Some, None, is_some}
+use Rattle.std.specs.Prelude.{◌≡◌, ◌≢◌, ◌↔◌, ℕ, ◌+◌, ◌≤◌, ◌==◌, Bool, true, false, not, ◌&&◌, List, [], length, filter, count_by, map, slice_get, Option, Some, None, is_some}
 use Rattle.std.specs.List.{All, list_all}
 use Rattle.compile_model.specs.declared.job.Plan.{Plan}
 use Rattle.compile_model.specs.declared.outcome.Outcome.{Outcome}
@@ -11,10 +11,11 @@ use Rattle.partition_core.specs.declared.event.BackCause.TheVariants.{Tree}
 use Rattle.partition_core.specs.declared.event.Event.{Event}
 use Rattle.partition_core.specs.declared.event.Event.TheVariants.{Back}
 use Rattle.partition_core.specs.State.{Opening}
-use Rattle.partition_core.specs.Histories.{replay}
+use Rattle.partition_core.specs.Histories.{Agrees, replay}
 use Rattle.partition_core.specs.Counts.{count_below, is_back, is_compiled, is_start}
 use Rattle.partition_core.specs.Refusals.{by_of}
 use Rattle.partition_face.specs.declared.counts.Counts.{Counts}
+use Rattle.partition_board.specs.Begun.{Begun}
 use Rattle.partition_crew.specs.declared.one.BuildFault.{BuildFault}
 use Rattle.partition_crew.specs.declared.one.BuildFault.TheVariants.{TreeFault, OutOfMemory, NoPartitionLeft}
 use Rattle.partition_crew.specs.declared.one.One.{One}
@@ -25,6 +26,10 @@ use Rattle.partition_build.specs.declared.built.Built.{Built}
 abbrev pub by_all : Plan → List (Option Kept) → ℕ → Opening
 by_all plan kept partitions = record { plan = plan; kept = kept; partitions = partitions }
 
+-- the same with the folders that were handed in
+abbrev pub begun_by : {F : Type 0} → Opening → List F → Begun F
+begun_by o folders = record { build = o; folders = folders }
+
 -- what came of the plan
 abbrev pub one_of : {P F : Type 0} → Built P F → One
 one_of built = record { fates = built.fates; history = built.history; fault = built.fault }
@@ -33,6 +38,11 @@ one_of built = record { fates = built.fates; history = built.history; fault = bu
 pub data HasBegun (o : Opening) (one : One) : Type 0 where
   begun : one.fates.items ≡ (replay o one.history.items).fates → HasBegun o one
   unbegun : one.fates.items ≡ [] → one.history.items ≡ [] → HasBegun o one
+
+-- each place that has a fate has this one, and they are all these where there is no fault
+pub record GivesFates (all : List Fate) (one : One) : Type 0 where
+  pub each : Agrees one.fates.items all
+  pub whole : one.fault ≡ None → one.fates.items ≡ map Some all
 
 -- ---- what was counted
 

@@ -1,22 +1,24 @@
 // A build by several partitions.
-ghost use Rattle.std.specs.Prelude.{◌≡◌, ◌≤◌, [], length, map, vec_capacity};
-ghost use Rattle.std.specs.List.{All};
+ghost use Rattle.std.specs.Prelude.{◌≡◌, ◌≤◌, ◌<◌, ◌^◌, [], Some, IfErr, IfOk, false, length, map, vec_capacity};
+ghost use Rattle.std.specs.List.{All, list_all};
 ghost use Rattle.compile_model.specs.Planned.{ArePlanned};
 ghost use Rattle.compile_model.specs.Seq.{seq};
 ghost use Rattle.partition_core.specs.Histories.{Faithful, Sound};
 ghost use Rattle.partition_board.specs.Holds.{AreLeft, AreReady};
-ghost use Rattle.partition_board.specs.Posts.{AreFatesOf};
+ghost use Rattle.turn_board.specs.Seats.{fresh_seats};
+ghost use Rattle.partition_board.specs.Posts.{IsFreePost, IsIn};
 ghost use Rattle.partition_crew.specs.Build.{IsHistory};
 ghost use Rattle.partition_crew.specs.Station.{IsYoung};
-ghost use Rattle.partition_build.specs.Built.{AreCountsOf, AreStartsOf, HasBegun, IsEndingOf, by_all, one_of};
+ghost use Rattle.partition_build.specs.Built.{AreCountsOf, AreStartsOf, GivesFates, HasBegun, IsEndingOf, all_fated, begun_by, by_all, fault_by, has_died, one_of};
 
 use crate::built::Built;
 use crate::ending::fault_of;
+use crate::posting::Posting;
 use crate::seating::{seat, unseat};
 use crate::serving::serve_all;
 use compile_model::Plan;
 use mx_base::Shared;
-use partition_board::{Board, BoardRefused, Closed};
+use partition_board::{Board, BoardRefused, Closed, Post};
 use partition_core::Kept;
 use partition_crew::Meant;
 use partition_face::Partition;
@@ -49,7 +51,7 @@ pub fn build<R: Threads + Wait + Sync, P: Partition, F: Folder + Send>(
     // Each fate is the one of compiling job after job.
     ensures sequential { P.honest → F.tells
         → Sound P.compile_of (by_all plan kept.items (length partitions.items))
-        → AreFatesOf (seq P.compile_of plan.jobs) result.fates.items }
+        → GivesFates (seq P.compile_of plan.jobs) (one_of result) }
     ensures left { AreLeft (by_all plan kept.items (length partitions.items)) result.fates.items
         (map F.known folders.items) (map F.known result.folders.items) }
     ensures counts { AreCountsOf P.lasting result.history.items (map P.counted partitions.items)
@@ -63,18 +65,17 @@ pub fn build<R: Threads + Wait + Sync, P: Partition, F: Folder + Send>(
         (map F.known result.folders.items) (map P.counted result.partitions.items) }
 {
     let places = plan.get().jobs.as_slice().len();
-    let count = partitions.len();
-    let Ok(shared) = plan.clone() else {
-        return unbegun(alloc, places, folders, partitions);
-    };
-    let Ok(postings) = Vec::with_capacity(alloc, count) else {
-        return unbegun(alloc, places, folders, partitions);
-    };
-    match Board::begin(alloc, plan, kept, folders, count as u32) {
-        Ok((board, mut posts)) => {
+    match begin(alloc, plan, kept, folders, partitions.len() as u32) {
+        Ok(ground) => {
+            let Ground {
+                plan,
+                board,
+                mut posts,
+                room,
+            } = ground;
             let mut partitions = partitions;
-            let mut postings = seat(&mut posts, &mut partitions, postings);
-            serve_all(rt, alloc, &board, shared.get(), postings.as_mut_slice());
+            let mut postings = seat(&mut posts, &mut partitions, room);
+            serve_all(rt, alloc, &board, plan.get(), postings.as_mut_slice());
             unseat(postings, &mut posts, &mut partitions);
             let Closed {
                 fates,
@@ -95,10 +96,57 @@ pub fn build<R: Threads + Wait + Sync, P: Partition, F: Folder + Send>(
                 fault,
             }
         }
+        Err(folders) => unbegun(alloc, places, folders, partitions),
+    }
+}
+
+// What a build stands on while it goes on.
+struct Ground<P: Partition, F: Folder> {
+    plan: Shared<Plan>,
+    board: Board<Meant<P, F>, F>,
+    posts: Vec<Post<Meant<P, F>, F>>,
+    // For the partitions at their posts.
+    room: Vec<Posting<P, F>>,
+}
+
+// Takes the memory for a build by so many partitions. Where there is none the folders come back.
+fn begin<P: Partition, F: Folder>(
+    alloc: Global,
+    plan: Shared<Plan>,
+    kept: Vec<Option<Kept>>,
+    folders: Vec<F>,
+    count: u32,
+) -> Result<Ground<P, F>, Vec<F>>
+    requires planned { ArePlanned plan.jobs }
+    requires places { length kept.items ≡ length plan.jobs }
+    requires seats { (1 ≤ count) × (count ≤ 64) }
+    requires folders { AreReady (by_all plan kept.items count) (map F.known folders.items) }
+    ensures plan { IfOk result (λ g. g.plan ≡ plan) }
+    ensures board { IfOk result (λ g. g.board.seats ≡ count) }
+    ensures posts { IfOk result (λ g. g.posts.items ≡ fresh_seats g.board
+        (Some (begun_by (by_all plan kept.items count) folders.items))) }
+    ensures free { IfOk result (λ g. All (λ p. IsIn g.board.board p × IsFreePost p)
+        g.posts.items) }
+    ensures room { IfOk result (λ g. (g.room.items ≡ []) × (count ≤ vec_capacity g.room)) }
+    ensures refused { IfErr result (λ back. back.items ≡ folders.items) }
+{
+    let Ok(shared) = plan.clone() else {
+        return Err(folders);
+    };
+    let Ok(room) = Vec::with_capacity(alloc, count as usize) else {
+        return Err(folders);
+    };
+    match Board::begin(alloc, plan, kept, folders, count) {
+        Ok((board, posts)) => Ok(Ground {
+            plan: shared,
+            board,
+            posts,
+            room,
+        }),
         Err(refused) => {
+            room.destroy_empty();
             let BoardRefused { folders } = refused;
-            postings.destroy_empty();
-            unbegun(alloc, places, folders, partitions)
+            Err(folders)
         }
     }
 }
@@ -110,8 +158,11 @@ fn unbegun<P: Partition, F: Folder>(
     folders: Vec<F>,
     partitions: Vec<P>,
 ) -> Built<P, F>
+    requires few { length partitions.items < 2 ^ 32 }
     ensures same { (result.folders ≡ folders) × (result.partitions ≡ partitions) }
     ensures nothing { (result.fates.items ≡ []) × (result.history.items ≡ []) }
+    ensures fault { result.fault ≡ fault_by (all_fated places []) false
+        (list_all has_died (map P.counted partitions.items)) (length partitions.items) }
 {
     let fates = Vec::new(alloc);
     let history = Vec::new(alloc);
