@@ -106,8 +106,7 @@ module _ {P F : Type 0} (counted : P → Counts) (lasting : Type 0) (b : BoardVi
     returned_at : (i : ℕ) (q : Posting P F) → slice_get new i ≡ Some q → HasReturned b.board q.post
     returned_at i q is =
         let was = was_at i q is in
-        let first = post_at i was.p was.there in
-        (
+        let first = post_at i was.p was.there in (
           (was.served.same.0 ∙ ap (λ (r : PostView F). r.board) first, was.served.same.3 ∙ ap (λ (r : PostView F). r.has_value) first),
           was.served.returned,
         )

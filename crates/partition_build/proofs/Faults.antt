@@ -192,8 +192,10 @@ ending_by one places folders counts false true dead t =
     record {
       none = ((λ e. let clash : None ≡ Some TreeFault = sym e ∙ t.is_fault in cc), (λ have. absurd (un have)));
       tree = ((λ e. (un, t.is_tree.0 refl)), (λ parts. t.is_fault));
-      died = λ n. ((λ e. let clash : TreeFault ≡ NoPartitionLeft n = (let same : Some TreeFault ≡ Some (NoPartitionLeft n) = sym t.is_fault ∙ e in cc) in cc),
-          (λ parts. absurd (parts.1.0 (t.is_tree.0 refl))));
+      died = λ n. (
+        (λ e. let clash : TreeFault ≡ NoPartitionLeft n = (let same : Some TreeFault ≡ Some (NoPartitionLeft n) = sym t.is_fault ∙ e in cc) in cc),
+        (λ parts. absurd (parts.1.0 (t.is_tree.0 refl))),
+      );
     }
 ending_by one places folders counts false false true t =
     let un : HaveFates places one.fates.items → ⊥ = λ have. let clash : false ≡ true = t.is_settled.1 have in cc in
@@ -201,19 +203,25 @@ ending_by one places folders counts false false true t =
     record {
       none = ((λ e. let clash : None ≡ Some (NoPartitionLeft (length counts)) = sym e ∙ t.is_fault in cc), (λ have. absurd (un have)));
       tree = ((λ e. let clash : Some (NoPartitionLeft (length counts)) ≡ Some TreeFault = sym t.is_fault ∙ e in cc), (λ parts. absurd (kept parts.1)));
-      died = λ n. ((λ e.
-          let same : Some (NoPartitionLeft (length counts)) ≡ Some (NoPartitionLeft n) = sym t.is_fault ∙ e in
-          (un, kept, t.is_dead.0 refl, (let k : length counts ≡ n = cc in sym k))),
-          (λ parts. t.is_fault ∙ ap (λ (k : ℕ). Some (NoPartitionLeft k)) (sym parts.1.1.1)));
+      died = λ n. (
+        (λ e.
+            let same : Some (NoPartitionLeft (length counts)) ≡ Some (NoPartitionLeft n) = sym t.is_fault ∙ e in
+            (un, kept, t.is_dead.0 refl, (let k : length counts ≡ n = cc in sym k))),
+        (λ parts. t.is_fault ∙ ap (λ (k : ℕ). Some (NoPartitionLeft k)) (sym parts.1.1.1)),
+      );
     }
 ending_by one places folders counts false false false t =
     let un : HaveFates places one.fates.items → ⊥ = λ have. let clash : false ≡ true = t.is_settled.1 have in cc in
     record {
       none = ((λ e. let clash : None ≡ Some OutOfMemory = sym e ∙ t.is_fault in cc), (λ have. absurd (un have)));
-      tree = ((λ e. let clash : Some OutOfMemory ≡ Some TreeFault = sym t.is_fault ∙ e in cc),
-          (λ parts. let clash : false ≡ true = t.is_tree.1 parts.1 in cc));
-      died = λ n. ((λ e. let clash : Some OutOfMemory ≡ Some (NoPartitionLeft n) = sym t.is_fault ∙ e in cc),
-          (λ parts. let clash : false ≡ true = t.is_dead.1 parts.1.1.0 in cc));
+      tree = (
+        (λ e. let clash : Some OutOfMemory ≡ Some TreeFault = sym t.is_fault ∙ e in cc),
+        (λ parts. let clash : false ≡ true = t.is_tree.1 parts.1 in cc),
+      );
+      died = λ n. (
+        (λ e. let clash : Some OutOfMemory ≡ Some (NoPartitionLeft n) = sym t.is_fault ∙ e in cc),
+        (λ parts. let clash : false ≡ true = t.is_dead.1 parts.1.1.0 in cc),
+      );
     }
 
 pub ending_is : (one : One) (places : ℕ) (folders : List FolderKnown) (counts : List Counts) → length one.fates.items ≤ places

@@ -66,15 +66,24 @@ module _ (compile : Content → Outcome) (o : Opening) where
   step : (s : State) (event : Event) → Agrees s.fates (seq compile o.plan.jobs) → IsLegal o s event
       → covered (after o s event) + busy (after o s event) + cond (is_back event) 1 0 ≤ covered s + busy s + cond (is_start event) 1 0
   step s (Keep place by) agrees legal =
-      omega (arith, covered_no_more compile o s.fates place (option_map (λ (k : Kept). Built k.outcome) (at o.kept place))
-      (kept_uncompiled compile o s place agrees legal.1 legal.2))
+      omega (
+        arith,
+        covered_no_more compile o s.fates place (option_map (λ (k : Kept). Built k.outcome) (at o.kept place))
+            (kept_uncompiled compile o s place agrees legal.1 legal.2),
+      )
   step s (Start place by) agrees legal = omega (arith, busy_set s.standings (by - 1) Idle (Runs place) (standing_get s.standings by Idle legal.0.idle))
   step s (Finish place by outcome) agrees legal =
-      omega (arith, covered_one_more compile o s.fates place (Some (Built outcome)),
-      busy_set s.standings (by - 1) (Runs place) Idle (standing_get s.standings by (Runs place) legal.0))
+      omega (
+        arith,
+        covered_one_more compile o s.fates place (Some (Built outcome)),
+        busy_set s.standings (by - 1) (Runs place) Idle (standing_get s.standings by (Runs place) legal.0),
+      )
   step s (Fail place by outcome) agrees legal =
-      omega (arith, covered_one_more compile o s.fates place (Some (Failed outcome)),
-      busy_set s.standings (by - 1) (Runs place) Idle (standing_get s.standings by (Runs place) legal.0))
+      omega (
+        arith,
+        covered_one_more compile o s.fates place (Some (Failed outcome)),
+        busy_set s.standings (by - 1) (Runs place) Idle (standing_get s.standings by (Runs place) legal.0),
+      )
   step s (Skip place need by) agrees legal =
       omega (arith, covered_no_more compile o s.fates place (Some (Skipped need)) (skipped_uncompiled compile o s place need agrees legal.1 legal.2))
   step s (Back place by cause) agrees legal =
@@ -85,8 +94,13 @@ module _ (compile : Content → Outcome) (o : Opening) where
   steps s [] tidy legal agrees = omega arith
   steps s (event ∷ events) tidy legal agrees =
       let before : Agrees s.fates (seq compile o.plan.jobs) = λ place fate is. agrees place fate (grows_all o s (event ∷ events) tidy legal place fate is) in
-      omega (arith, step s event before legal.0, steps (after o s event) events (tidy_step o s tidy event legal.0) legal.1 agrees,
-      count_first is_back event events, count_first is_start event events)
+      omega (
+        arith,
+        step s event before legal.0,
+        steps (after o s event) events (tidy_step o s tidy event legal.0) legal.1 agrees,
+        count_first is_back event events,
+        count_first is_start event events,
+      )
 
   first_covered : covered (start_of o) ≡ 0
   first_covered = count_none (is_covered compile o (replicate (length o.plan.jobs) None)) (length o.plan.jobs) (λ p e.

@@ -75,7 +75,7 @@ pub fn build<R: Threads + Wait + Sync, P: Partition, F: Folder + Send>(
             } = ground;
             let mut partitions = partitions;
             let mut postings = seat(&mut posts, &mut partitions, room);
-            serve_all(rt, alloc, &board, plan.get(), postings.as_mut_slice());
+            serve_all(rt, alloc, &board, plan.get(), &mut postings);
             unseat(postings, &mut posts, &mut partitions);
             let Closed {
                 fates,

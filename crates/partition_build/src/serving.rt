@@ -25,6 +25,28 @@ pub(crate) fn serve_all<R: Threads + Wait + Sync, P: Partition, F: Folder + Send
     alloc: Global,
     board: &Board<Meant<P, F>, F>,
     plan: &Plan,
+    postings: &mut Vec<Posting<P, F>>,
+)
+    requires planned { ArePlanned plan.now.jobs }
+    requires may { All (λ p. MayServe board.now.board plan.now
+        (posting_by p.post (P.counted p.partition))) postings.old.items }
+    ensures length { length postings.new.items ≡ length postings.old.items }
+    ensures each { (i : ℕ) (d : Posting P F) → i < length postings.old.items
+        → HasServed P.lasting
+        (posting_by (slice_index_or postings.old.items i d).post
+        (P.counted (slice_index_or postings.old.items i d).partition))
+        (posting_by (slice_index_or postings.new.items i d).post
+        (P.counted (slice_index_or postings.new.items i d).partition)) }
+{
+    serve_each(rt, alloc, board, plan, postings.as_mut_slice());
+}
+
+// The same, of a slice.
+fn serve_each<R: Threads + Wait + Sync, P: Partition, F: Folder + Send>(
+    rt: &R,
+    alloc: Global,
+    board: &Board<Meant<P, F>, F>,
+    plan: &Plan,
     postings: &mut [Posting<P, F>],
 )
     requires planned { ArePlanned plan.now.jobs }
