@@ -2,7 +2,7 @@
 use Rattle.std.proofs.Common.{◌≡◌, ◌≢◌, ◌↔◌, ℕ, zero, suc, ◌-◌, ◌+◌, ◌<◌, ◌≤◌, ◌==◌, Bool, true, false, not, ◌&&◌, ◌||◌, inl, inr, List, [], ◌∷◌, length, map, Option, Some, None, is_some, IsTrue, option_map, slice_get, refl, sym, ◌∙◌, ap, subst, arith}
 use Rattle.std.specs.List.{All, list_all, list_any}
 use Rattle.std.specs.Option.{option_and_then}
-use Rattle.std.proofs.lemmas.Bool.{and_parts, and_from}
+use Rattle.std.proofs.lemmas.Bool.{and_from, and_parts, eqb-true}
 use Rattle.std.proofs.lemmas.Bool.Decides.{nat_tests}
 use Rattle.std.proofs.lemmas.List.{length-replicate, length-set}
 use Rattle.std.proofs.lemmas.List.Elements.{All-cons, All-head, All-nil, All-tail}
@@ -56,11 +56,11 @@ fated : (places : ℕ) (fates : List (Option Fate)) → length fates ≤ places 
 fated places fates few = (
   (λ all.
       let parts = and_parts (length fates == places) (list_all is_some fates) all in
-      let long : length fates ≡ places = grind (arith, nat_tests, parts.0) in
+      let long : length fates ≡ places = eqb-true (length fates) places parts.0 in
       λ place within. fated_each fates place parts.1 (omega (arith, long, within))),
   (λ have.
       let long = no_more places fates few have in
-      and_from (length fates == places) (list_all is_some fates) (grind (arith, nat_tests, long))
+      and_from (length fates == places) (list_all is_some fates) (grind (arith, nat_tests))
       (fated_all fates (λ place within. have place (omega (arith, long, within))))),
 )
 
@@ -148,7 +148,7 @@ failed o history folders legal long counted = (
       let is = back_among o (start_of o) history (length o.plan.jobs) (tidy_start o) legal (length-replicate (length o.plan.jobs) None) some in
       let found = folder_at folders is.place (omega (arith, long, is.within)) in
       (is.place, found.0, found.1, (counted is.place found.0 found.1).1 is.failed)),
-  (λ some. failure_among some.0 history ((counted some.0 some.1 some.2.0).0 some.2.1)),
+  (λ some. failure_among some.0 history ((counted some.0 some.1 some.2).0 some.3)),
 )
 
 -- ---- partitions
@@ -157,8 +157,8 @@ died_is : (c : Counts) → (has_died c ≡ true) ↔ (c.deaths ≢ 0)
 died_is c = by (c.deaths == 0) refl
   where
     by : (b : Bool) → (c.deaths == 0) ≡ b → (not b ≡ true) ↔ (c.deaths ≢ 0)
-    by true is = ((λ e. cc), (λ rose. absurd (rose (grind (arith, nat_tests)))))
-    by false is = ((λ e. λ zero_. grind (arith, nat_tests)), (λ rose. refl))
+    by true is = ((λ e zero_. let clash : false ≡ true = e in cc), (λ rose. absurd (rose (eqb-true c.deaths 0 is))))
+    by false is = ((λ e zero_. let t : (c.deaths == 0) ≡ true = ap (λ (n : ℕ). n == 0) zero_ in cc), (λ rose. refl))
 
 all_died : (counts : List Counts) → (list_all has_died counts ≡ true) ↔ AllDied counts
 all_died [] = ((λ e. All-nil (λ (c : Counts). c.deaths ≢ 0)), (λ all. refl))
@@ -194,7 +194,7 @@ ending_by one places folders counts false true dead t =
       tree = ((λ e. (un, t.is_tree.0 refl)), (λ parts. t.is_fault));
       died = λ n. (
         (λ e. let clash : TreeFault ≡ NoPartitionLeft n = (let same : Some TreeFault ≡ Some (NoPartitionLeft n) = sym t.is_fault ∙ e in cc) in cc),
-        (λ parts. absurd (parts.1.0 (t.is_tree.0 refl))),
+        (λ parts. absurd (parts.1 (t.is_tree.0 refl))),
       );
     }
 ending_by one places folders counts false false true t =
@@ -207,7 +207,7 @@ ending_by one places folders counts false false true t =
         (λ e.
             let same : Some (NoPartitionLeft (length counts)) ≡ Some (NoPartitionLeft n) = sym t.is_fault ∙ e in
             (un, kept, t.is_dead.0 refl, (let k : length counts ≡ n = cc in sym k))),
-        (λ parts. t.is_fault ∙ ap (λ (k : ℕ). Some (NoPartitionLeft k)) (sym parts.1.1.1)),
+        (λ parts. t.is_fault ∙ ap (λ (k : ℕ). Some (NoPartitionLeft k)) (sym parts.3)),
       );
     }
 ending_by one places folders counts false false false t =
@@ -220,7 +220,7 @@ ending_by one places folders counts false false false t =
       );
       died = λ n. (
         (λ e. let clash : Some OutOfMemory ≡ Some (NoPartitionLeft n) = sym t.is_fault ∙ e in cc),
-        (λ parts. let clash : false ≡ true = t.is_dead.1 parts.1.1.0 in cc),
+        (λ parts. let clash : false ≡ true = t.is_dead.1 parts.2 in cc),
       );
     }
 

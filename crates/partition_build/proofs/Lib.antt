@@ -6,3 +6,4 @@ pub mod Crewing
 pub mod Faults
 pub mod Stale
 pub mod Ended
+pub mod Seated

@@ -75,26 +75,23 @@ pub fn build<R: Threads + Wait + Sync, P: Partition, F: Folder + Send>(
             } = ground;
             let mut partitions = partitions;
             let mut postings = seat(&mut posts, &mut partitions, room);
-            serve_all(rt, alloc, &board, plan.get(), &mut postings);
+            let shared = plan.get();
+            serve_all(rt, alloc, &board, shared, &mut postings);
             unseat(postings, &mut posts, &mut partitions);
             let Closed {
                 fates,
                 folders,
                 history,
             } = board.close(posts);
-            let fault = fault_of(
-                places,
-                fates.as_slice(),
-                history.as_slice(),
-                partitions.as_slice(),
-            );
-            Built {
+            let mut built = Built {
                 partitions,
                 folders,
                 fates,
                 history,
-                fault,
-            }
+                fault: None,
+            };
+            built.fault = fault_of(places, &built);
+            built
         }
         Err(folders) => unbegun(alloc, places, folders, partitions),
     }
@@ -159,24 +156,19 @@ fn unbegun<P: Partition, F: Folder>(
     partitions: Vec<P>,
 ) -> Built<P, F>
     requires few { length partitions.items < 2 ^ 32 }
-    ensures same { (result.folders ≡ folders) × (result.partitions ≡ partitions) }
+    ensures same { (result.folders.items ≡ folders.items)
+        × (result.partitions.items ≡ partitions.items) }
     ensures nothing { (result.fates.items ≡ []) × (result.history.items ≡ []) }
     ensures fault { result.fault ≡ fault_by (all_fated places []) false
         (list_all has_died (map P.counted partitions.items)) (length partitions.items) }
 {
-    let fates = Vec::new(alloc);
-    let history = Vec::new(alloc);
-    let fault = fault_of(
-        places,
-        fates.as_slice(),
-        history.as_slice(),
-        partitions.as_slice(),
-    );
-    Built {
+    let mut built = Built {
         partitions,
         folders,
-        fates,
-        history,
-        fault,
-    }
+        fates: Vec::new(alloc),
+        history: Vec::new(alloc),
+        fault: None,
+    };
+    built.fault = fault_of(places, &built);
+    built
 }

@@ -3,31 +3,29 @@ ghost use Rattle.std.specs.Prelude.{◌≡◌, ◌<◌, ◌^◌, length, is_some
 ghost use Rattle.std.specs.List.{list_all, list_any};
 ghost use Rattle.partition_build.specs.Built.{all_fated, fault_by, has_died, is_tree_back};
 
+use crate::built::Built;
 use compile_model::Fate;
 use partition_core::{BackCause, Event};
 use partition_crew::BuildFault;
 use partition_face::Partition;
 
-// The fault, by the fates of so many places, the history, and what the partitions counted.
-pub(crate) fn fault_of<P: Partition>(
-    places: usize,
-    fates: &[Option<Fate>],
-    history: &[Event],
-    partitions: &[P],
-) -> Option<BuildFault>
-    requires few { length partitions.now < 2 ^ 32 }
-    ensures { result ≡ fault_by (all_fated places fates.now) (list_any is_tree_back history.now)
-        (list_all has_died (map P.counted partitions.now)) (length partitions.now) }
+// Why some place of so many has no fate.
+pub(crate) fn fault_of<P: Partition, F>(places: usize, built: &Built<P, F>) -> Option<BuildFault>
+    requires few { length built.now.partitions.items < 2 ^ 32 }
+    ensures { result ≡ fault_by (all_fated places built.now.fates.items)
+        (list_any is_tree_back built.now.history.items)
+        (list_all has_died (map P.counted built.now.partitions.items))
+        (length built.now.partitions.items) }
 {
-    if are_fated(places, fates) {
+    if are_fated(places, built.fates.as_slice()) {
         return None;
     }
-    if has_failure(history) {
+    if has_failure(built.history.as_slice()) {
         return Some(BuildFault::TreeFault);
     }
-    if have_died(partitions) {
+    if have_died(built.partitions.as_slice()) {
         return Some(BuildFault::NoPartitionLeft {
-            died: partitions.len() as u32,
+            died: built.partitions.len() as u32,
         });
     }
     Some(BuildFault::OutOfMemory)
@@ -37,7 +35,13 @@ pub(crate) fn fault_of<P: Partition>(
 fn are_fated(places: usize, fates: &[Option<Fate>]) -> bool
     ensures { result ≡ all_fated places fates.now }
 {
-    fates.len() == places && fates.iter().all(|fate| fate.is_some())
+    fates.len() == places && have_fates(fates)
+}
+
+fn have_fates(fates: &[Option<Fate>]) -> bool
+    ensures { result ≡ list_all is_some fates.now }
+{
+    fates.iter().all(|fate| fate.is_some())
 }
 
 // Whether a place was given back because its folder failed.

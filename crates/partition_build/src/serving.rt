@@ -94,9 +94,11 @@ fn serve<R: Wait, P: Partition, F: Folder>(
     let mut needs = Vec::new(alloc);
     for _ in rt.forever() {
         match board.take(rt, &mut posting.post, &mut needs) {
-            Take::Over(_) | Take::NoMemory => return,
+            Take::Over(_) => return,
+            Take::NoMemory => return,
             Take::Later(front) => board.wait_past(rt, &mut posting.post, front),
-            Take::Kept { .. } | Take::Skipped { .. } => {}
+            Take::Kept { .. } => {}
+            Take::Skipped { .. } => {}
             Take::Started(lease) => {
                 if !run(rt, alloc, board, plan, needs.as_slice(), posting, lease) {
                     return;
