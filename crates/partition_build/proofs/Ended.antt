@@ -19,7 +19,7 @@ use Rattle.partition_board.specs.Failures.{AreCounted}
 use Rattle.partition_board.specs.Holds.{AreLeft, AreReady}
 use Rattle.partition_board.specs.Posts.{AreFatesOf, IsHistoryOf, PostView, begun_in}
 use Rattle.partition_crew.specs.declared.one.One.{One}
-use Rattle.partition_crew.specs.Build.{HaveFates, IsHistory, SomeFailed}
+use Rattle.partition_crew.specs.Build.{CountsOf, HaveFates, IsHistory, SomeFailed}
 use Rattle.partition_crew.proofs.Unbegun.{unbegun_agrees, unbegun_counts, unbegun_faithful, unbegun_history, unbegun_left}
 use Rattle.partition_build.specs.Built.{AreCountsOf, AreStartsOf, GivesFates, HasBegun, IsEndingOf, all_fated, events_of, fault_by, has_died, is_tree_back}
 use Rattle.partition_build.specs.Built.HasBegun.{begun, unbegun}

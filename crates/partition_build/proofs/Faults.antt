@@ -1,5 +1,5 @@
 -- Why some place has no fate.
-use Rattle.std.proofs.Common.{◌≡◌, ◌≢◌, ◌↔◌, ℕ, zero, suc, ◌-◌, ◌+◌, ◌<◌, ◌≤◌, ◌==◌, Bool, true, false, not, ◌&&◌, ◌||◌, inl, inr, List, [], ◌∷◌, length, map, Option, Some, None, is_some, IsTrue, option_map, slice_get, refl, sym, ◌∙◌, ap, subst, arith}
+use Rattle.std.proofs.Common.{◌≡◌, ◌≢◌, ◌↔◌, ℕ, zero, suc, ◌-◌, ◌+◌, ◌<◌, ◌≤◌, ◌==◌, Bool, true, false, not, ◌&&◌, ◌||◌, ◌⊎◌, inl, inr, List, [], ◌∷◌, length, map, Option, Some, None, is_some, IsTrue, option_map, slice_get, refl, sym, ◌∙◌, ap, subst, arith}
 use Rattle.std.specs.List.{All, list_all, list_any}
 use Rattle.std.specs.Option.{option_and_then}
 use Rattle.std.proofs.lemmas.Bool.{and_from, and_parts, eqb-true}
@@ -182,7 +182,7 @@ record Tests (one : One) (places : ℕ) (folders : List FolderKnown) (counts : L
 
 ending_by : (one : One) (places : ℕ) (folders : List FolderKnown) (counts : List Counts) (settled tree dead : Bool)
     → Tests one places folders counts settled tree dead → IsEndingOf one places folders counts
-ending_by one places folders counts true tree dead t = record {
+ending_by one places folders counts true fails dead t = record {
   none = ((λ e. t.is_settled.0 refl), (λ have. t.is_fault));
   tree = ((λ e. let clash : None ≡ Some TreeFault = sym t.is_fault ∙ e in cc), (λ parts. absurd (parts.0 (t.is_settled.0 refl))));
   died = λ n. ((λ e. let clash : None ≡ Some (NoPartitionLeft n) = sym t.is_fault ∙ e in cc), (λ parts. absurd (parts.0 (t.is_settled.0 refl))));

@@ -18,11 +18,12 @@ own_first n event events own = at (by_of event == n) (grind (arith, nat_tests))
 
 own_none : (n : ℕ) (events : List Event) → made_by by_of n events ≡ 0 → events_of n events ≡ []
 own_none n [] none = refl
-own_none n (event ∷ events) none = at (by_of event == n) none
+own_none n (event ∷ events) none = at (by_of event == n) (own_none n events) none
   where
-    at : (test : Bool) → cond test 1 0 + made_by by_of n events ≡ 0 → cond test (event ∷ events_of n events) (events_of n events) ≡ []
-    at true e = absurd (omega (arith, e))
-    at false e = own_none n events (omega (arith, e))
+    at : (test : Bool) → (made_by by_of n events ≡ 0 → events_of n events ≡ []) → cond test 1 0 + made_by by_of n events ≡ 0
+        → cond test (event ∷ events_of n events) (events_of n events) ≡ []
+    at true rest e = absurd (omega (arith, e))
+    at false rest e = rest (omega (arith, e))
 
 pub own_append : (n : ℕ) (xs ys : List Event) → events_of n (xs ++ ys) ≡ events_of n xs ++ events_of n ys
 own_append n xs ys = filter-append (λ (event : Event). by_of event == n) xs ys

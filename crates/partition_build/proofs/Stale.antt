@@ -46,7 +46,7 @@ busy_set : (standings : List Standing) (i : ℕ) (was now : Standing) → slice_
 busy_set [] i was now is = cc
 busy_set (one ∷ more) zero was now is =
     let same : one ≡ was = cc in
-    let alike : cond (is_busy one) 1 0 ≡ cond (is_busy was) 1 0 = ap (λ (s : Standing). cond (is_busy s) 1 0) same in
+    let alike : ◌≡◌ {A = ℕ} (cond (is_busy one) 1 0) (cond (is_busy was) 1 0) = ap (λ (s : Standing). cond (is_busy s) 1 0) same in
     omega (arith, busy_first one more, busy_first now more, alike)
 busy_set (one ∷ more) (suc i) was now is = omega (arith, busy_first one more, busy_first one (slice_set more i now), busy_set more i was now is)
 

@@ -50,8 +50,8 @@ module _ (lasting : Type 0) (own : List Event) (first now new : Counts) (live : 
   started = own ++ Start place by ∷ []
 
   starts : (event : Event) → is_start event ≡ false → count_by is_start (started ++ event ∷ []) ≡ count_by is_start own + 1
-  starts event no =
-      let more = count_end is_start started event ∙ ap (λ (b : Bool). count_by is_start started + cond b 1 0) no in
+  starts event isnt =
+      let more = count_end is_start started event ∙ ap (λ (b : Bool). count_by is_start started + cond b 1 0) isnt in
       omega (arith, more, count_end is_start own (Start place by))
 
   live_outcome : (event : Event) → is_back event ≡ false → is_start event ≡ false → new.runs ≡ now.runs + 1 → new.deaths ≡ now.deaths
@@ -75,8 +75,8 @@ module _ (lasting : Type 0) (own : List Event) (first now new : Counts) (live : 
 
   undone_counts : (event : Event) → is_start event ≡ false → is_death event ≡ false → is_undone event ≡ true → now.runs ≤ new.runs
       → new.runs ≤ now.runs + 1 → new.deaths ≡ now.deaths → CountsOf lasting (started ++ event ∷ []) first new
-  undone_counts event no_start no undone later few same =
-      let dead = count_end is_death started event ∙ ap (λ (b : Bool). count_by is_death started + cond b 1 0) no in
+  undone_counts event no_start no_death_here undone later few same =
+      let dead = count_end is_death started event ∙ ap (λ (b : Bool). count_by is_death started + cond b 1 0) no_death_here in
       let gone = count_end is_undone started event ∙ ap (λ (b : Bool). count_by is_undone started + cond b 1 0) undone in
       record {
         most = omega (arith, few, live.runs, starts event no_start);

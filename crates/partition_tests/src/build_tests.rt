@@ -1,7 +1,7 @@
 // Builds by several partitions.
 
 use crate::projects::plan_of;
-use crate::runs::{Run, run};
+use crate::runs::{Compared, compare};
 use compile_model::Fate;
 use partition_core::{BackCause, Event};
 use partition_crew::BuildFault;
@@ -44,15 +44,15 @@ fn ran<R: Threads + Wait + Sync>(
     graph: &str,
     failing: &[usize],
     dying: &[Vec<u64>],
-) -> Result<Run, Fail> {
+) -> Result<Compared, Fail> {
     if dying.is_empty() || dying.len() > 64 {
         return Err(Fail::new("no partitions"));
     }
     let Ok(plan) = plan_of(alloc, graph, failing) else {
         return Err(Fail::new("no plan"));
     };
-    match run(rt, alloc, plan, dying) {
-        Ok(run) => Ok(run),
+    match compare(rt, alloc, plan, dying) {
+        Ok(compared) => Ok(compared),
         Err(_) => Err(Fail::new("no memory")),
     }
 }
@@ -142,33 +142,55 @@ fn deaths(alloc: Global, state: &mut u64, partitions: u64) -> Result<Vec<Vec<u64
     Ok(dying)
 }
 
-#[test]
-fn small_projects_are_built_whoever_dies(rt: HostRuntime) -> Result<(), Fail> {
-    let alloc = rt.alloc();
-    let mut state = 1;
-    for round in 0..200 {
-        let places = 1 + drawn(&mut state, 9);
+// Fifty small projects, each built by one partition more than a number or by two.
+fn build_fifty<R: Threads + Wait + Sync>(rt: &R, alloc: Global, more: u64) -> Result<bool, Fail> {
+    let mut state = 1 + more;
+    for _ in 0..50 {
+        let places = 1 + drawn(&mut state, 8);
         let graph = graph(alloc, &mut state, places)?;
-        let partitions = 1 + drawn(&mut state, 6);
+        let partitions = more + 1 + drawn(&mut state, 2);
         let dying = deaths(alloc, &mut state, partitions)?;
         let failing = [drawn(&mut state, 2 * places) as usize];
-        let run = ran(&rt, alloc, graph.as_str(), &failing, dying.as_slice())?;
-        let skipped = skipped(run.built.fates.as_slice());
-        let (starts, deaths) = counted(run.built.history.as_slice());
-        assert!(rt; run.agrees, "round {round}");
-        match run.built.fault {
-            None => assert!(rt;
-                starts + skipped == places as usize + deaths,
-                "round {round}"
-            ),
-            Some(fault) => assert!(rt;
-                fault
-                    == BuildFault::NoPartitionLeft {
-                        died: dying.len() as u32,
-                    },
-                "round {round}"
-            ),
+        let run = ran(rt, alloc, graph.as_str(), &failing, dying.as_slice())?;
+        if !is_right(&run, places as usize, dying.len() as u32) {
+            return Ok(false);
         }
     }
+    Ok(true)
+}
+
+// Each fate is the one of compiling job after job, and no place was started but those that aren't skipped, each once
+// and once more for each death; or all partitions died.
+fn is_right(run: &Compared, places: usize, partitions: u32) -> bool {
+    let skipped = skipped(run.built.fates.as_slice());
+    let (starts, deaths) = counted(run.built.history.as_slice());
+    run.agrees
+        && match run.built.fault {
+            None => starts.saturating_add(skipped) == places.saturating_add(deaths),
+            Some(fault) => fault == BuildFault::NoPartitionLeft { died: partitions },
+        }
+}
+
+#[test]
+fn small_projects_are_built_by_one_or_two(rt: HostRuntime) -> Result<(), Fail> {
+    assert!(rt; build_fifty(&rt, rt.alloc(), 0)?);
+    Ok(())
+}
+
+#[test]
+fn small_projects_are_built_by_three_or_four(rt: HostRuntime) -> Result<(), Fail> {
+    assert!(rt; build_fifty(&rt, rt.alloc(), 2)?);
+    Ok(())
+}
+
+#[test]
+fn small_projects_are_built_by_five_or_six(rt: HostRuntime) -> Result<(), Fail> {
+    assert!(rt; build_fifty(&rt, rt.alloc(), 4)?);
+    Ok(())
+}
+
+#[test]
+fn small_projects_are_built_by_seven_or_eight(rt: HostRuntime) -> Result<(), Fail> {
+    assert!(rt; build_fifty(&rt, rt.alloc(), 6)?);
     Ok(())
 }

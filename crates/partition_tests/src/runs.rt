@@ -17,17 +17,18 @@ use tree_store::{Contents, Folder, MemFolder, MemStore, Store};
 
 // What came of a plan by partitions, each of which dies at the runs of its list, and whether each fate is the one of
 // compiling job after job.
-pub(crate) struct Run {
+#[derive(Drop)]
+pub(crate) struct Compared {
     pub(crate) built: Built<FakePartition, MemFolder<FaultPlan>>,
     pub(crate) agrees: bool,
 }
 
-pub(crate) fn run<R: Threads + Wait + Sync>(
+pub(crate) fn compare<R: Threads + Wait + Sync>(
     rt: &R,
     alloc: Global,
     plan: Plan,
     dying: &[Vec<u64>],
-) -> Result<Run, Fault>
+) -> Result<Compared, Fault>
     requires planned { ArePlanned plan.jobs }
     requires seats { (1 ≤ length dying.now) × (length dying.now ≤ 64) }
 {
@@ -40,7 +41,7 @@ pub(crate) fn run<R: Threads + Wait + Sync>(
     let plan = Shared::new(alloc, plan)?;
     let built = build(rt, alloc, plan, kept, folders, partitions);
     let agrees = agree(built.fates.as_slice(), fates.as_slice());
-    Ok(Run { built, agrees })
+    Ok(Compared { built, agrees })
 }
 
 // A folder for each job, which holds nothing and never fails.

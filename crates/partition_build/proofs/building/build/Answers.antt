@@ -107,7 +107,7 @@ returns-in-Ok-clause-history g c =
     let done = closed_is known honest compile o c.args.folders.items last fates history c.unseat.new.posts.items same c.close-fates.ensures.history
     c.close-fates.ensures.fates c.close-fates.ensures.faithful c.close-fates.ensures.sequential c.close-fates.ensures.left
     c.close-fates.ensures.counted in
-    let one : One = record { fates = c.close-fates.result.fates; history = c.close-fates.result.history; fault = c.fault_of.result } in
+    let one : One = record { fates = c.close-fates.result.fates; history = c.close-fates.result.history; fault = c.fault_of-built.result } in
     (closed_history honest compile o (map known c.args.folders.items) (map known last) one done, begun done.replayed)
 
 pub returns-in-Ok-clause-faithful : goal.returns-in-Ok-clause-faithful
@@ -137,7 +137,7 @@ returns-in-Ok-clause-faithful g c =
     let done = closed_is known honest compile o c.args.folders.items last fates history c.unseat.new.posts.items same c.close-fates.ensures.history
     c.close-fates.ensures.fates c.close-fates.ensures.faithful c.close-fates.ensures.sequential c.close-fates.ensures.left
     c.close-fates.ensures.counted in
-    let one : One = record { fates = c.close-fates.result.fates; history = c.close-fates.result.history; fault = c.fault_of.result } in
+    let one : One = record { fates = c.close-fates.result.fates; history = c.close-fates.result.history; fault = c.fault_of-built.result } in
     λ is tells. done.faithful (is, tells)
 
 pub returns-in-Ok-clause-sequential : goal.returns-in-Ok-clause-sequential
@@ -167,12 +167,12 @@ returns-in-Ok-clause-sequential g c =
     let done = closed_is known honest compile o c.args.folders.items last fates history c.unseat.new.posts.items same c.close-fates.ensures.history
     c.close-fates.ensures.fates c.close-fates.ensures.faithful c.close-fates.ensures.sequential c.close-fates.ensures.left
     c.close-fates.ensures.counted in
-    let one : One = record { fates = c.close-fates.result.fates; history = c.close-fates.result.history; fault = c.fault_of.result } in
+    let one : One = record { fates = c.close-fates.result.fates; history = c.close-fates.result.history; fault = c.fault_of-built.result } in
     let places : length c.as_slice-places.result.now ≡ length c.args.plan.jobs =
     ap length c.as_slice-places.ensures ∙ ap (λ (p : Plan). length p.jobs) c.get.ensures in
     let counts = map counted c.unseat.new.partitions.items in
-    let fault = subst (λ (n : ℕ). c.fault_of.result ≡ fault_by (all_fated n fates) (list_any is_tree_back history) (list_all has_died counts)
-    (length c.unseat.new.partitions.items)) places c.fault_of.ensures in
+    let fault = subst (λ (n : ℕ). c.fault_of-built.result ≡ fault_by (all_fated n fates) (list_any is_tree_back history) (list_all has_died counts)
+    (length c.unseat.new.partitions.items)) places c.fault_of-built.ensures in
     let ending = closed_ending honest compile o (map known c.args.folders.items) (map known last) one done counts (length c.unseat.new.partitions.items)
     c.requires.folders (sym (length-map c.unseat.new.partitions.items counted)) fault in
     λ is tells sound. closed_fates honest compile o (map known c.args.folders.items) (map known last) one done counts ending (is, tells) sound
@@ -204,7 +204,7 @@ returns-in-Ok-clause-left g c =
     let done = closed_is known honest compile o c.args.folders.items last fates history c.unseat.new.posts.items same c.close-fates.ensures.history
     c.close-fates.ensures.fates c.close-fates.ensures.faithful c.close-fates.ensures.sequential c.close-fates.ensures.left
     c.close-fates.ensures.counted in
-    let one : One = record { fates = c.close-fates.result.fates; history = c.close-fates.result.history; fault = c.fault_of.result } in
+    let one : One = record { fates = c.close-fates.result.fates; history = c.close-fates.result.history; fault = c.fault_of-built.result } in
     done.left
 
 pub returns-in-Ok-clause-counts : goal.returns-in-Ok-clause-counts
@@ -254,12 +254,12 @@ returns-in-Ok-clause-starts g c =
     let done = closed_is known honest compile o c.args.folders.items last fates history c.unseat.new.posts.items same c.close-fates.ensures.history
     c.close-fates.ensures.fates c.close-fates.ensures.faithful c.close-fates.ensures.sequential c.close-fates.ensures.left
     c.close-fates.ensures.counted in
-    let one : One = record { fates = c.close-fates.result.fates; history = c.close-fates.result.history; fault = c.fault_of.result } in
+    let one : One = record { fates = c.close-fates.result.fates; history = c.close-fates.result.history; fault = c.fault_of-built.result } in
     let places : length c.as_slice-places.result.now ≡ length c.args.plan.jobs =
     ap length c.as_slice-places.ensures ∙ ap (λ (p : Plan). length p.jobs) c.get.ensures in
     let counts = map counted c.unseat.new.partitions.items in
-    let fault = subst (λ (n : ℕ). c.fault_of.result ≡ fault_by (all_fated n fates) (list_any is_tree_back history) (list_all has_died counts)
-    (length c.unseat.new.partitions.items)) places c.fault_of.ensures in
+    let fault = subst (λ (n : ℕ). c.fault_of-built.result ≡ fault_by (all_fated n fates) (list_any is_tree_back history) (list_all has_died counts)
+    (length c.unseat.new.partitions.items)) places c.fault_of-built.ensures in
     let ending = closed_ending honest compile o (map known c.args.folders.items) (map known last) one done counts (length c.unseat.new.partitions.items)
     c.requires.folders (sym (length-map c.unseat.new.partitions.items counted)) fault in
     λ is tells sound. closed_starts honest compile o (map known c.args.folders.items) (map known last) one done counts c.requires.planned ending
@@ -292,12 +292,12 @@ returns-in-Ok-clause-ending g c =
     let done = closed_is known honest compile o c.args.folders.items last fates history c.unseat.new.posts.items same c.close-fates.ensures.history
     c.close-fates.ensures.fates c.close-fates.ensures.faithful c.close-fates.ensures.sequential c.close-fates.ensures.left
     c.close-fates.ensures.counted in
-    let one : One = record { fates = c.close-fates.result.fates; history = c.close-fates.result.history; fault = c.fault_of.result } in
+    let one : One = record { fates = c.close-fates.result.fates; history = c.close-fates.result.history; fault = c.fault_of-built.result } in
     let places : length c.as_slice-places.result.now ≡ length c.args.plan.jobs =
     ap length c.as_slice-places.ensures ∙ ap (λ (p : Plan). length p.jobs) c.get.ensures in
     let counts = map counted c.unseat.new.partitions.items in
-    let fault = subst (λ (n : ℕ). c.fault_of.result ≡ fault_by (all_fated n fates) (list_any is_tree_back history) (list_all has_died counts)
-    (length c.unseat.new.partitions.items)) places c.fault_of.ensures in
+    let fault = subst (λ (n : ℕ). c.fault_of-built.result ≡ fault_by (all_fated n fates) (list_any is_tree_back history) (list_all has_died counts)
+    (length c.unseat.new.partitions.items)) places c.fault_of-built.ensures in
     let ending = closed_ending honest compile o (map known c.args.folders.items) (map known last) one done counts (length c.unseat.new.partitions.items)
     c.requires.folders (sym (length-map c.unseat.new.partitions.items counted)) fault in
     ending

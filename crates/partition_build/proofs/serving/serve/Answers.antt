@@ -50,7 +50,7 @@ loop-preserved-in-Kept g c =
     let first : PostingView g.row.F.Denot = posting_by c.args.posting.now.post (counted c.args.posting.now.partition) in
     let old : PostingView g.row.F.Denot = posting_by c.loop.posting.post (counted c.loop.posting.partition) in
     let mid = c.take.new.post in
-    let serving = serving_kept known first old mid c.loop.invariant.serving c.take.new.needs.items c.in-Kept.field-0 c.in-Kept.ensures.answer
+    let serving = serving_kept known first old mid c.loop.invariant.serving c.take.new.needs.items c.in-Kept.place c.in-Kept.ensures.answer
     c.in-Kept.ensures.lent in
     record {
       can_next = tt;
@@ -67,7 +67,7 @@ loop-preserved-in-Skipped g c =
     let first : PostingView g.row.F.Denot = posting_by c.args.posting.now.post (counted c.args.posting.now.partition) in
     let old : PostingView g.row.F.Denot = posting_by c.loop.posting.post (counted c.loop.posting.partition) in
     let mid = c.take.new.post in
-    let serving = serving_skipped known first old mid c.loop.invariant.serving c.take.new.needs.items c.in-Skipped.field-0 c.in-Skipped.field-1
+    let serving = serving_skipped known first old mid c.loop.invariant.serving c.take.new.needs.items c.in-Skipped.place c.in-Skipped.need
     c.in-Skipped.ensures.answer c.in-Skipped.ensures.lent in
     record {
       can_next = tt;
