@@ -1,5 +1,5 @@
 -- What a build has led to, where it began and where there was no memory for that.
-use Rattle.std.proofs.Common.{◌≡◌, ℕ, zero, suc, ◌+◌, ◌<◌, ◌≤◌, true, false, List, [], ◌∷◌, length, map, Option, Some, None, is_some, slice_get, refl, sym, ◌∙◌, ap, subst, arith}
+use Rattle.std.proofs.Common.{◌≡◌, ℕ, zero, suc, ◌+◌, true, false, List, [], ◌∷◌, length, map, Option, Some, is_some, refl, sym, ◌∙◌, ap, subst, arith}
 use Rattle.std.specs.List.{list_all, list_any}
 use Rattle.std.proofs.lemmas.List.{length-map}
 use Rattle.compile_model.specs.declared.job.Job.{Job}
@@ -20,7 +20,7 @@ use Rattle.partition_board.specs.Holds.{AreLeft, AreReady}
 use Rattle.partition_board.specs.Posts.{AreFatesOf, IsHistoryOf, PostView, begun_in}
 use Rattle.partition_crew.specs.declared.one.One.{One}
 use Rattle.partition_crew.specs.Build.{CountsOf, HaveFates, IsHistory, SomeFailed}
-use Rattle.partition_crew.proofs.Unbegun.{unbegun_agrees, unbegun_counts, unbegun_faithful, unbegun_history, unbegun_left}
+use Rattle.partition_crew.proofs.Unbegun.{unbegun_agrees, unbegun_counts, unbegun_history}
 use Rattle.partition_build.specs.Built.{AreCountsOf, AreStartsOf, GivesFates, HasBegun, IsEndingOf, all_fated, events_of, fault_by, has_died, is_tree_back}
 use Rattle.partition_build.specs.Built.HasBegun.{begun, unbegun}
 use Rattle.partition_build.proofs.Faults.{ending_is, failed}

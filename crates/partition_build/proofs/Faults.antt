@@ -1,6 +1,6 @@
 -- Why some place has no fate.
-use Rattle.std.proofs.Common.{◌≡◌, ◌≢◌, ◌↔◌, ℕ, zero, suc, ◌-◌, ◌+◌, ◌<◌, ◌≤◌, ◌==◌, Bool, true, false, not, ◌&&◌, ◌||◌, ◌⊎◌, inl, inr, List, [], ◌∷◌, length, map, Option, Some, None, is_some, IsTrue, option_map, slice_get, refl, sym, ◌∙◌, ap, subst, arith}
-use Rattle.std.specs.List.{All, list_all, list_any}
+use Rattle.std.proofs.Common.{◌≡◌, ◌≢◌, ◌↔◌, ℕ, zero, suc, ◌-◌, ◌<◌, ◌≤◌, ◌==◌, Bool, true, false, not, ◌||◌, ◌⊎◌, inl, inr, List, [], ◌∷◌, length, Option, Some, None, is_some, option_map, slice_get, refl, sym, ◌∙◌, ap, subst, arith}
+use Rattle.std.specs.List.{list_all, list_any}
 use Rattle.std.specs.Option.{option_and_then}
 use Rattle.std.proofs.lemmas.Bool.{and_from, and_parts, eqb-true}
 use Rattle.std.proofs.lemmas.Bool.Decides.{nat_tests}
@@ -16,13 +16,12 @@ use Rattle.partition_core.specs.declared.event.Event.{Event}
 use Rattle.partition_core.specs.declared.event.Event.TheVariants.{Keep, Start, Finish, Fail, Skip, Back}
 use Rattle.partition_core.specs.declared.event.Standing.TheVariants.{Runs}
 use Rattle.partition_core.specs.State.{Opening, State, at, start_of}
-use Rattle.partition_core.specs.Steps.{Holds, IsLegal, after}
+use Rattle.partition_core.specs.Steps.{IsLegal, after}
 use Rattle.partition_core.specs.Histories.{AreLegal, Legal}
 use Rattle.partition_core.proofs.Places.{standing_get}
 use Rattle.partition_core.proofs.Tidy.{Tidy, tidy_start, tidy_step}
 use Rattle.partition_face.specs.declared.counts.Counts.{Counts}
 use Rattle.partition_board.specs.Failures.{AreCounted, has_failed, is_failure}
-use Rattle.partition_crew.specs.declared.one.BuildFault.{BuildFault}
 use Rattle.partition_crew.specs.declared.one.BuildFault.TheVariants.{TreeFault, OutOfMemory, NoPartitionLeft}
 use Rattle.partition_crew.specs.declared.one.One.{One}
 use Rattle.partition_crew.specs.Build.{HaveFates, SomeFailed}

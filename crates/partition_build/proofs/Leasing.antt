@@ -4,7 +4,6 @@ use Rattle.compile_model.specs.declared.job.Job.{Job}
 use Rattle.compile_model.specs.declared.job.Plan.{Plan}
 use Rattle.compile_model.specs.declared.outcome.Outcome.{Outcome}
 use Rattle.compile_model.specs.declared.outcome.Fate.{Fate}
-use Rattle.compile_model.specs.declared.outcome.Twin.{Twin}
 use Rattle.compile_model.specs.Content.{Content}
 use Rattle.build_manifest.specs.MarkOf.{mark_of}
 use Rattle.build_manifest.specs.Text.{Spells}
@@ -23,12 +22,12 @@ use Rattle.partition_board.specs.declared.lease.Lease.{Lease}
 use Rattle.partition_board.specs.Begun.{IsOf}
 use Rattle.partition_board.specs.Failures.{IsCounted, has_failed}
 use Rattle.partition_board.specs.Holds.{HoldsBuilt}
-use Rattle.partition_board.specs.Leases.{HasCause, IsFailed, IsFinished, IsLeaseOf}
+use Rattle.partition_board.specs.Leases.{IsLeaseOf}
 use Rattle.partition_board.specs.Posts.{HoldsPlace, PostView, begun_at, opening_at, state_at}
 use Rattle.partition_board.proofs.Seen.{place_within, ready_now, tidy_now}
 use Rattle.partition_crew.specs.declared.worked.Worked.{Worked}
 use Rattle.partition_crew.specs.declared.worked.Worked.TheVariants.{Finished, Failed, Died, TreeFault, NoMemory}
-use Rattle.partition_crew.specs.Work.{HasNeeds, HasWorked, IsDone, IsMeant, Settles, Touches, given_at, given_by, tree_failed}
+use Rattle.partition_crew.specs.Work.{HasNeeds, HasWorked, IsMeant, Settles, Touches, given_at, given_by, tree_failed}
 use Rattle.partition_crew.specs.Work.Settles.{built, failed}
 use Rattle.partition_crew.proofs.Starting.{meant_event, start_each, start_outcomes, start_ready, told_must}
 use Rattle.partition_build.specs.Postings.{IsMeantAt, IsTaken, MayHandIn}

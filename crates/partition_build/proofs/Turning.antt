@@ -1,5 +1,5 @@
 -- What the calls with a post make of a partition that serves.
-use Rattle.std.proofs.Common.{◌≡◌, ℕ, ◌+◌, ◌*◌, ◌<◌, ◌≤◌, ◌==◌, Bool, true, false, List, [], ◌∷◌, ◌++◌, length, count_by, Option, Some, IsTrue, refl, sym, ◌∙◌, ap, subst, arith, append-nil}
+use Rattle.std.proofs.Common.{◌≡◌, ℕ, ◌≤◌, ◌==◌, Bool, true, false, List, [], ◌∷◌, ◌++◌, length, count_by, Option, Some, refl, sym, ◌∙◌, ap, subst, arith, append-nil}
 use Rattle.std.specs.Option.{unwrap_or}
 use Rattle.std.proofs.lemmas.List.Sums.{count_by-le-length, length-filter}
 use Rattle.atomic_table.specs.Seated.{TableId}
@@ -16,22 +16,20 @@ use Rattle.partition_core.specs.Counts.{is_back, is_start}
 use Rattle.partition_core.specs.Histories.{Legal}
 use Rattle.partition_core.specs.Refusals.{by_of}
 use Rattle.partition_core.proofs.HistoryLength.{bounded}
-use Rattle.partition_face.specs.declared.counts.Counts.{Counts}
 use Rattle.partition_face.specs.Counts.{CanRun}
 use Rattle.partition_board.specs.declared.lease.Lease.{Lease}
 use Rattle.partition_board.specs.declared.take.Front.{Front}
-use Rattle.partition_board.specs.declared.take.Take.{Take}
 use Rattle.partition_board.specs.declared.take.Take.TheVariants.{Started, Kept, Skipped, Later, Over, NoMemory}
 use Rattle.partition_board.specs.Begun.{Begun}
 use Rattle.partition_board.specs.Answers.{Answers}
 use Rattle.partition_board.specs.Leases.{IsLent}
-use Rattle.partition_board.specs.Posts.{Adds, HoldsPlace, IsFreePost, IsSamePost, PostView, Sees, nothing_begun, opening_at, state_at}
+use Rattle.partition_board.specs.Posts.{Adds, IsFreePost, IsSamePost, PostView, Sees, nothing_begun, opening_at, state_at}
 use Rattle.partition_crew.specs.declared.worked.Worked.{Worked}
 use Rattle.partition_crew.specs.declared.worked.Worked.TheVariants.{Finished, Failed, Died, TreeFault, NoMemory as NoRoom}
 use Rattle.partition_crew.specs.Build.{CountsOf}
 use Rattle.partition_crew.specs.Station.{IsYoung}
 use Rattle.partition_build.specs.Built.{events_of}
-use Rattle.partition_build.specs.Postings.{HasRun, HasServed, IsLive, IsPosted, IsServing, IsTaken, MayServe, PostingView, ended_by, goes_on, own_events, posting_by}
+use Rattle.partition_build.specs.Postings.{HasRun, HasServed, IsLive, IsPosted, IsServing, IsTaken, MayServe, PostingView, ended_by, own_events, posting_by}
 use Rattle.partition_build.proofs.Owning.{own_adds, own_made, own_sees}
 use Rattle.partition_build.proofs.Tallies.{counts_on, live_counts, live_more, live_on}
 

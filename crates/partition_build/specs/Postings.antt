@@ -1,5 +1,5 @@
 -- A partition at its post, and what it does there.
-use Rattle.std.specs.Prelude.{◌≡◌, ℕ, ◌+◌, ◌≤◌, List, [], ◌∷◌, count_by, IfSome, IsTrue, Bool, true, false}
+use Rattle.std.specs.Prelude.{◌≡◌, ℕ, ◌+◌, ◌≤◌, List, [], ◌∷◌, count_by, IsTrue, Bool, true, false}
 use Rattle.atomic_table.specs.Seated.{TableId}
 use Rattle.compile_model.specs.declared.job.Plan.{Plan}
 use Rattle.compile_model.specs.declared.outcome.Outcome.{Outcome}
@@ -7,7 +7,7 @@ use Rattle.compile_model.specs.Content.{Content}
 use Rattle.tree_store.specs.FolderKnown.{FolderKnown}
 use Rattle.partition_core.specs.declared.event.BackCause.TheVariants as back
 use Rattle.partition_core.specs.declared.event.Event.{Event}
-use Rattle.partition_core.specs.declared.event.Event.TheVariants.{Start, Finish, Fail, Back}
+use Rattle.partition_core.specs.declared.event.Event.TheVariants.{Finish, Fail, Back}
 use Rattle.partition_core.specs.State.{needs_at, outcomes_now}
 use Rattle.partition_core.specs.Histories.{IsMeant, Legal}
 use Rattle.partition_core.specs.Counts.{is_back, is_start}

@@ -1,11 +1,9 @@
-use Rattle.std.proofs.Common.{◌≡◌, ℕ, ◌<◌, List, Some, [], false, length, map, refl, sym, ◌∙◌, ap, subst, arith, rules}
+use Rattle.std.proofs.Common.{◌≡◌, ℕ, ◌<◌, List, Some, [], false, length, map, sym, ◌∙◌, ap, subst, arith, rules}
 use Rattle.std.specs.List.{list_all, list_any}
 use Rattle.std.proofs.lemmas.List.{length-map}
 use Rattle.compile_model.specs.declared.job.Plan.{Plan}
 use Rattle.partition_core.specs.State.{Opening}
 use Rattle.partition_core.specs.declared.event.Event.{Event}
-use Rattle.partition_face.specs.declared.counts.Counts.{Counts}
-use Rattle.tree_store.specs.FolderKnown.{FolderKnown}
 use Rattle.turn_board.specs.Seats.{fresh_seats}
 use Rattle.turn_board.proofs.Fresh.{length_numbered}
 use Rattle.partition_crew.specs.declared.one.One.{One}

@@ -12,4 +12,4 @@ pub returns-clause-partitions : goal.returns-clause-partitions
 returns-clause-partitions g c =
     let none : length c.loop-post.posts.items ≡ 0 = (search rules) in
     seated (λ p. p.partition) c.loop-post.postings.items c.reverse.new.self.items c.loop-post.partitions.items c.args.partitions.now.items
-    (sym c.loop-post.invariant.all ∙ none) c.loop-post.invariant.partitions c.reverse.ensures.items
+    (◌∙◌ {b = length c.loop-post.posts.items} (sym c.loop-post.invariant.all) none) c.loop-post.invariant.partitions c.reverse.ensures.items
