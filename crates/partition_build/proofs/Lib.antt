@@ -7,3 +7,4 @@ pub mod Faults
 pub mod Stale
 pub mod Ended
 pub mod Seated
+pub mod Totals

@@ -15,6 +15,7 @@ use Rattle.partition_core.specs.Histories.{Agrees, replay}
 use Rattle.partition_core.specs.Counts.{count_below, is_back, is_compiled, is_start}
 use Rattle.partition_core.specs.Refusals.{by_of}
 use Rattle.partition_face.specs.declared.counts.Counts.{Counts}
+use Rattle.partition_face.specs.Counts.{deaths_of, runs_of}
 use Rattle.partition_board.specs.Begun.{Begun}
 use Rattle.partition_crew.specs.declared.one.BuildFault.{BuildFault}
 use Rattle.partition_crew.specs.declared.one.BuildFault.TheVariants.{TreeFault, OutOfMemory, NoPartitionLeft}
@@ -55,6 +56,10 @@ pub record AreCountsOf (lasting : Type 0) (history : List Event) (old new : List
   pub long : length new ≡ length old
   pub each : (i : ℕ) (before after : Counts) → slice_get old i ≡ Some before → slice_get new i ≡ Some after
       → CountsOf lasting (events_of (i + 1) history) before after
+
+-- what all of these have counted together
+abbrev pub all_of : List Counts → Counts
+all_of counts = record { runs = runs_of counts; deaths = deaths_of counts }
 
 -- as many starts as there are places that are compiled, and as places were given back, once each place has a fate, and never more
 pub record AreStartsOf (compile : Content → Outcome) (o : Opening) (one : One) : Type 0 where

@@ -7,9 +7,11 @@ mod building;
 mod built;
 mod ending;
 mod handing;
+mod laws;
 mod posting;
 mod seating;
 mod serving;
 
 pub use building::build;
 pub use built::Built;
+pub use laws::counts_add_up;

@@ -1,5 +1,5 @@
 -- A build of which nothing is kept.
-use Rattle.std.proofs.Common.{◌≡◌, ℕ, zero, suc, List, length, map, replicate, Option, Some, None, slice_get, refl, sym, ◌∙◌, ap}
+use Rattle.std.proofs.Common.{◌≡◌, ℕ, List, length, map, replicate, Option, Some, None, slice_get, refl, sym, ◌∙◌, ap}
 use Rattle.std.specs.List.{All}
 use Rattle.std.specs.Option.{option_and_then}
 use Rattle.std.proofs.lemmas.List.{length-map}
