@@ -13,3 +13,6 @@ pub seated : {X Y : Type 0} (f : X → Y) (xs back : List X) (left all : List Y)
     → map f back ≡ all
 seated f xs back [] all none same turned = ap (map f) turned ∙ map_reverse f xs ∙ same
 seated f xs back (y ∷ ys) all none same turned = absurd (omega (arith, none))
+
+pub same_length : {X Y : Type 0} (xs : List X) (ys : List Y) → length xs ≡ length ys → length xs ≡ 0 → length ys ≡ 0
+same_length xs ys long none = sym long ∙ none

@@ -36,7 +36,7 @@ sum_from test events k (suc m) = count_by test (events_of (k + 1) events) + sum_
 
 sum_none : (test : Event → Bool) (k m : ℕ) → sum_from test [] k m ≡ 0
 sum_none test k zero = refl
-sum_none test k (suc m) = sum_none test (k + 1) m
+sum_none test k (suc m) = omega (arith, sum_none test (k + 1) m)
 
 -- an event of a partition before these
 sum_past : (test : Event → Bool) (event : Event) (events : List Event) (k m : ℕ) → by_of event ≤ k

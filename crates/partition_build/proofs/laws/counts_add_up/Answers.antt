@@ -2,4 +2,4 @@ use Rattle.partition_build.proofs.Totals.{counts_add_up}
 use Rattle.partition_build.proofs.laws.counts_add_up.Goals as goal
 
 pub returns : goal.returns
-returns c = counts_add_up
+returns g c = counts_add_up g.P.Partition.lasting

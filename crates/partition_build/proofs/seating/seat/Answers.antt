@@ -1,5 +1,5 @@
-use Rattle.std.proofs.Common.{◌≡◌, ◌∙◌, length, rules, sym}
-use Rattle.partition_build.proofs.Seated.{seated}
+use Rattle.std.proofs.Common.{◌≡◌, length, rules}
+use Rattle.partition_build.proofs.Seated.{same_length, seated}
 use Rattle.partition_build.proofs.seating.seat.Goals as goal
 
 pub returns-clause-posts : goal.returns-clause-posts
@@ -12,4 +12,5 @@ pub returns-clause-partitions : goal.returns-clause-partitions
 returns-clause-partitions g c =
     let none : length c.loop-post.posts.items ≡ 0 = (search rules) in
     seated (λ p. p.partition) c.loop-post.postings.items c.reverse.new.self.items c.loop-post.partitions.items c.args.partitions.now.items
-    (◌∙◌ {b = length c.loop-post.posts.items} (sym c.loop-post.invariant.all) none) c.loop-post.invariant.partitions c.reverse.ensures.items
+    (same_length c.loop-post.posts.items c.loop-post.partitions.items c.loop-post.invariant.all none) c.loop-post.invariant.partitions
+    c.reverse.ensures.items
