@@ -10,7 +10,7 @@ use Rattle.staleness.specs.declared.why.Why.TheVariants.{NoMark, Options, Source
 -- where a dependency comes from
 abbrev pub origin_text : Origin → List ℕ → List ℕ
 origin_text origin.Path dir = codes "path " ++ dir
-origin_text (origin.Hex package) dir = codes "hex " ++ package
+origin_text (origin.Hex name) dir = codes "hex " ++ name
 
 abbrev pub dep_line : Job → List ℕ
 dep_line job = codes "* " ++ job.app ++ codes " " ++ job.version ++ codes " (" ++ origin_text job.origin job.dir ++ codes ")\n"
