@@ -1,7 +1,8 @@
 -- The tree of the first jobs, one job more.
-use Rattle.std.proofs.Common.{◌≡◌, ◌≢◌, ◌⊎◌, inl, inr, ℕ, zero, suc, ◌+◌, ◌<◌, ◌≤◌, Bool, true, false, cond, List, [], ◌∷◌, length, take, get_or, Option, Some, None, option_map, slice_get, refl, sym, ◌∙◌, ap, subst, arith}
+use Rattle.std.proofs.Common.{◌≡◌, ◌≢◌, ◌⊎◌, inl, inr, ℕ, zero, suc, ◌+◌, ◌<◌, ◌≤◌, Bool, true, false, cond, List, [], ◌∷◌, length, take, get_or, Option, Some, None, option_map, Result, Ok, Err, OnOk, slice_get, refl, sym, ◌∙◌, ap, subst, arith}
 use Rattle.std.proofs.lemmas.Bool.{cases_eq, cases_lt}
 use Rattle.std.proofs.lemmas.Option.{get_or_from_slice_get, slice_get_within}
+use Rattle.mx_base.specs.declared.file.File.{File}
 use Rattle.compile_model.specs.declared.job.Job.{Job}
 use Rattle.compile_model.specs.declared.job.Plan.{Plan}
 use Rattle.compile_model.specs.declared.outcome.Fate.{Fate}
@@ -173,6 +174,17 @@ module _ (plan : Plan) (fates : List Fate) (planned : ArePlanned plan.jobs) (n :
           subst (HoldsAppAt (take (n + 1) plan.jobs) fates q.app) (sym is)
           (other_at plan.jobs fates planned n job here q.app (old q)
           (λ outcome built same. let clash : false ≡ true = sym other ∙ is_same key q (same_name plan.env q.env own) same in cc) (tree q own))
+
+-- .. where its build could be filled
+pub tree_filled : {X E : Type 0} (result : Result X E) (plan : Plan) (fates : List Fate) → ArePlanned plan.jobs → (n : ℕ) (job : Job) → slice_get plan.jobs n ≡ Some job
+    → (outcome : Outcome) (files : List File) (bytes : List ℕ) (old new : BuildKey → Slot) → slice_get fates n ≡ Some (Built outcome) → files ≡ outcome.files
+    → Spells bytes (mark_of job (outcomes_of fates job.needs) outcome)
+    → OnOk result (ChangesSlot (record { env = plan.env; app = job.app }) (changed_slot (λ held. marked bytes (only_files files))) old new)
+    → IsTree (first_of n plan) fates old → OnOk result (IsTree (first_of (n + 1) plan) fates new)
+tree_filled (Ok x) plan fates planned n job here outcome files bytes old new built same spells changes tree =
+    tree_fills plan fates planned n job here outcome bytes old new built spells
+    (subst (λ (fs : List File). ChangesSlot (record { env = plan.env; app = job.app }) (changed_slot (λ held. marked bytes (only_files fs))) old new) same changes) tree
+tree_filled (Err e) plan fates planned n job here outcome files bytes old new built same spells changes tree = tt
 
 none_first : (fates : List Fate) (app : List ℕ) (slot : Slot) → (slot ≡ Out → ⊥) → slot ≡ emptied_slot slot → HoldsAppAt [] fates app slot
 none_first fates app (Here None) at_home empty = tt
