@@ -6,7 +6,7 @@ use Rattle.mx_base.specs.declared.file.File.{File}
 use Rattle.compile_model.specs.declared.job.Job.{Job}
 use Rattle.compile_model.specs.declared.job.Plan.{Plan}
 use Rattle.compile_model.specs.declared.outcome.Fate.{Fate}
-use Rattle.compile_model.specs.declared.outcome.Fate.TheVariants.{Built}
+use Rattle.compile_model.specs.declared.outcome.Fate.TheVariants.{Built, Failed, Skipped}
 use Rattle.compile_model.specs.declared.outcome.Outcome.{Outcome}
 use Rattle.compile_model.specs.Planned.{ArePlanned}
 use Rattle.compile_model.specs.Seq.{outcomes_of}
@@ -174,6 +174,14 @@ module _ (plan : Plan) (fates : List Fate) (planned : ArePlanned plan.jobs) (n :
           subst (HoldsAppAt (take (n + 1) plan.jobs) fates q.app) (sym is)
           (other_at plan.jobs fates planned n job here q.app (old q)
           (λ outcome built same. let clash : false ≡ true = sym other ∙ is_same key q (same_name plan.env q.env own) same in cc) (tree q own))
+
+-- what failed or was skipped isn't built
+pub never_built : (fates : List Fate) (n : ℕ) (fate : Fate) → slice_get fates n ≡ Some fate
+    → ((outcome : Outcome) × (fate ≡ Failed outcome)) ⊎ ((need : ℕ) × (fate ≡ Skipped need)) → (outcome : Outcome) → slice_get fates n ≡ Some (Built outcome) → ⊥
+never_built fates n fate stands (inl (failed, is)) outcome built =
+    let clash : Some (Failed failed) ≡ Some (Built outcome) = ap (λ (f : Fate). Some f) (sym is) ∙ sym stands ∙ built in cc
+never_built fates n fate stands (inr (need, is)) outcome built =
+    let clash : Some (Skipped need) ≡ Some (Built outcome) = ap (λ (f : Fate). Some f) (sym is) ∙ sym stands ∙ built in cc
 
 -- .. where its build could be filled
 pub tree_filled : {X E : Type 0} (result : Result X E) (plan : Plan) (fates : List Fate) → ArePlanned plan.jobs → (n : ℕ) (job : Job) → slice_get plan.jobs n ≡ Some job

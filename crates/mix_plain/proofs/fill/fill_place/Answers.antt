@@ -4,12 +4,12 @@ use Rattle.build_manifest.specs.MarkOf.{mark_of}
 use Rattle.build_manifest.specs.Text.{Spells}
 use Rattle.compile_model.specs.declared.job.Job.{Job}
 use Rattle.compile_model.specs.declared.outcome.Fate.{Fate}
-use Rattle.compile_model.specs.declared.outcome.Fate.TheVariants.{Built, Failed, Skipped}
+use Rattle.compile_model.specs.declared.outcome.Fate.TheVariants.{Built}
 use Rattle.compile_model.specs.declared.outcome.Outcome.{Outcome}
 use Rattle.compile_model.specs.Seq.{outcomes_of}
 use Rattle.kept_tree.specs.Tree.{IsBuiltAt}
 use Rattle.partition_crew.proofs.Planning.{planned_differ}
-use Rattle.mix_plain.proofs.FillLemmas.{empty_before, tree_filled, tree_skips}
+use Rattle.mix_plain.proofs.FillLemmas.{empty_before, never_built, tree_filled, tree_skips}
 use Rattle.mix_plain.proofs.PutLemmas.{fills_job}
 use Rattle.mix_plain.proofs.fill.fill_place.Goals as goal
 
@@ -84,7 +84,7 @@ returns-in-Failed-clause-after g c =
     let stands : slice_get c.args.fates.now c.args.place ≡ Some c.index-fates-place.result =
     slice_get_read c.args.fates.now _ c.args.place c.index-fates-place.result refl c.requires.within c.index-fates-place.is in
     tree_skips c.args.plan.now c.args.fates.now c.requires.fates.planned c.args.place job here (g.S.Store.known c.args.store.now).slot
-    (λ outcome built. let clash = sym built ∙ stands ∙ ap (λ (fate : Fate). Some fate) c.in-Failed.is in cc) c.requires.before
+    (never_built c.args.fates.now c.args.place c.index-fates-place.result stands c.in-Failed.is) c.requires.before
 
 pub returns-in-Failed-2-clause-after : goal.returns-in-Failed-2-clause-after
 returns-in-Failed-2-clause-after g c =
@@ -95,4 +95,4 @@ returns-in-Failed-2-clause-after g c =
     let stands : slice_get c.args.fates.now c.args.place ≡ Some c.index-fates-place.result =
     slice_get_read c.args.fates.now _ c.args.place c.index-fates-place.result refl c.requires.within c.index-fates-place.is in
     tree_skips c.args.plan.now c.args.fates.now c.requires.fates.planned c.args.place job here (g.S.Store.known c.args.store.now).slot
-    (λ outcome built. let clash = sym built ∙ stands ∙ ap (λ (fate : Fate). Some fate) c.in-Failed-2.is in cc) c.requires.before
+    (never_built c.args.fates.now c.args.place c.index-fates-place.result stands c.in-Failed.is) c.requires.before
