@@ -1,10 +1,11 @@
 // The command `deps.stale`.
-ghost use Rattle.std.specs.Prelude.{◌≡◌, ◌++◌, IfOk, OnOk, length, map, option_map};
+ghost use Rattle.std.specs.Prelude.{◌≡◌, ◌++◌, IfOk, OnOk, flat_map, length, map, option_map};
 ghost use Rattle.mx_base.specs.BuildName.{HasBuildName};
 ghost use Rattle.build_plan.specs.Plan.{build_of};
 ghost use Rattle.compile_model.specs.Planned.{ArePlanned};
 ghost use Rattle.mix_answer.specs.declared.status.Status.TheVariants.{Done};
 ghost use Rattle.mix_answer.specs.Answer.{reply_in};
+ghost use Rattle.mix_report.specs.App.{app_at};
 ghost use Rattle.tree_store.specs.Slot.{AllHere};
 ghost use Rattle.mix_plain.specs.Tells.{ListsStale, SaysStale, Tells};
 ghost use Rattle.mix_plain.specs.Texts.{stale_line, stale_text, why_text};
@@ -71,8 +72,15 @@ fn stale_text(alloc: Global, jobs: &[Job], report: &[(u32, Why)]) -> Result<Vec<
     ensures { IfOk result (λ text. text.items ≡ stale_text jobs.now report.now) }
 {
     if report.is_empty() {
-        return Vec::from_slice(alloc, b"nothing is stale\n");
+        Vec::from_slice(alloc, b"nothing is stale\n")
+    } else {
+        stale_lines(alloc, jobs, report)
     }
+}
+
+fn stale_lines(alloc: Global, jobs: &[Job], report: &[(u32, Why)]) -> Result<Vec<u8>, AllocError>
+    ensures { IfOk result (λ text. text.items ≡ flat_map (stale_line jobs.now) report.now) }
+{
     let mut text = Vec::new(alloc);
     for (place, why) in report {
         push_stale(&mut text, jobs, *place, why)?;
@@ -83,12 +91,19 @@ fn stale_text(alloc: Global, jobs: &[Job], report: &[(u32, Why)]) -> Result<Vec<
 fn push_stale(text: &mut Vec<u8>, jobs: &[Job], place: u32, why: &Why) -> Result<(), AllocError>
     ensures { OnOk result (text.new.items ≡ text.old.items ++ stale_line jobs.now (place, why.now)) }
 {
-    if let Some(job) = jobs.get(place as usize) {
-        text.extend_from_slice(job.app.as_str().as_bytes())?;
-    }
+    text.extend_from_slice(app_at(jobs, place))?;
     text.extend_from_slice(b": ")?;
     push_why(text, why)?;
     text.extend_from_slice(b"\n")
+}
+
+fn app_at(jobs: &[Job], place: u32) -> &[u8]
+    ensures { result.now ≡ app_at jobs.now place }
+{
+    match jobs.get(place as usize) {
+        Some(job) => job.app.as_str().as_bytes(),
+        None => b"",
+    }
 }
 
 fn push_why(text: &mut Vec<u8>, why: &Why) -> Result<(), AllocError>
