@@ -54,7 +54,7 @@ module _ (build : Build) (error : PlanError) (old new : Known)
       refused error (refusal status text is ended line) (ap (λ (s : Known). site_of s deaths) (only_read old new _ reads (ap is_outside is)))
   refuse_compiles compile deaths status text (read is ended line) =
       let failed : OnlyReads old new true = subst (λ (e : PlanError). OnlyReads old new (is_outside (blame_of e))) is reads in
-      unread (failed.cause.rose refl) (ap (λ (s : Known). s.slot) failed.same) (reply_same status (status_of Read) text (line_of Read) ended line)
+      unread (failed.cause.rose refl) (ap (λ (s : Known). s.slot) failed.same) refl (reply_same status (status_of Read) text (line_of Read) ended line)
   refuse_compiles compile deaths status text (no_memory quiet ended line) =
       unplanned (ap (λ (s : Known). site_of s deaths) (only_read old new _ reads (not_outside (blame_of error) quiet)))
       (reply_same status (status_of NoMemory) text (line_of NoMemory) ended line)

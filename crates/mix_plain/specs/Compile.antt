@@ -59,6 +59,6 @@ pub record Works (compile : Content → Outcome) (plan : Plan) (passage : Passag
 pub data Compiles (compile : Content → Outcome) (build : Build) (passage : Passage) (reply : Reply) : Type 0 where
   refused : (error : PlanError) → IsRefusalFor build passage.old.store error reply → passage.new ≡ passage.old → Compiles compile build passage reply
   unread : Rose passage.old.store.faults passage.new.store.faults → passage.new.store.slot ≡ passage.old.store.slot
-      → reply ≡ stopped Read → Compiles compile build passage reply
+      → passage.new.deaths ≡ passage.old.deaths → reply ≡ stopped Read → Compiles compile build passage reply
   unplanned : passage.new ≡ passage.old → reply ≡ stopped Memory → Compiles compile build passage reply
   planned : (plan : Plan) → IsPlanFor build passage.old.store plan → Works compile plan passage reply → Compiles compile build passage reply

@@ -6,7 +6,6 @@ ghost use Rattle.tree_store.specs.Slot.{AllHere};
 ghost use Rattle.build_plan.specs.Plan.{build_of};
 ghost use Rattle.kept_tree.specs.Faults.{KeepsRest};
 ghost use Rattle.mix_answer.specs.Answer.{reply_in};
-ghost use Rattle.mix_answer.specs.Says.{Ends};
 ghost use Rattle.mix_report.specs.Report.{report};
 ghost use Rattle.mix_compile.specs.Right.{status_by};
 ghost use Rattle.mix_plain.specs.Compile.{Compiles, Works};
@@ -16,34 +15,14 @@ use crate::fill::fill_env;
 use build_plan::plan;
 use compile_model::{Compiler, Fate, Plan, SeqFault, seq_build};
 use kept_tree::clear_apart;
-use mix_answer::{Answer, Status, Stop, refuse, say};
+use mix_answer::{Answer, Status, Stop, refuse};
 use mix_compile::{died_text, status_by};
 use mix_report::report;
-use mx_base::{AppName, Sink};
+use mx_base::AppName;
 use std::alloc::{AllocError, Global};
 use tree_store::Store;
 
-/// Compiles the dependencies of a project one after another from an empty environment, and writes the report.
-pub fn plain_compile<S: Store, C: Compiler, K: Sink>(
-    alloc: Global,
-    env: &AppName,
-    target: &AppName,
-    store: &mut S,
-    compiler: &mut C,
-    out: &mut K,
-) -> Status
-    requires here { AllHere (S.known store.old).slot }
-    requires named { HasBuildName env.now target.now }
-    ensures ends { Ends (Compiles C.compile_of (build_of env.now target.now)
-        (passage_of (site_of (S.known store.old) (C.deaths compiler.old))
-        (site_of (S.known store.new) (C.deaths compiler.new)))) (K.known out.old) (K.known out.new) result }
-    ensures keeps { KeepsRest (S.known store.old) (S.known store.new) }
-{
-    let answer = compile_in_turn(alloc, env, target, store, compiler);
-    say(out, &answer)
-}
-
-/// The same before anything is written: what it comes to.
+/// Compiles the dependencies of a project one after another from an empty environment: what it comes to is the report.
 pub fn compile_in_turn<S: Store, C: Compiler>(
     alloc: Global,
     env: &AppName,

@@ -12,6 +12,6 @@ mod listing;
 mod telling;
 
 pub use cleaning::clean;
-pub use compile::{compile_in_turn, plain_compile};
+pub use compile::compile_in_turn;
 pub use listing::deps;
 pub use telling::stale;
