@@ -1,9 +1,0 @@
-pub mod ApartLemmas
-pub mod CallLemmas
-pub mod CompileLemmas
-pub mod LawLemmas
-pub mod NameLemmas
-pub mod PartLemmas
-pub mod PutLemmas
-pub mod StandLemmas
-pub mod TreeLemmas
