@@ -1,0 +1,3 @@
+pub mod CompileLemmas
+pub mod DoneLemmas
+pub mod LawLemmas

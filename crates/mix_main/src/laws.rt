@@ -2,7 +2,7 @@
 ghost use Rattle.mix_main.specs.Laws.{BadWordsChangeNothing, CompilesAreInTurn, PlansAreBuilt, RefusedFilesAreRefused};
 
 use build_plan::one_plan;
-use mix_words::{one_command, refused_means_nothing};
+use mix_words::one_command;
 
 /// `deps.compile` that ends with status 0 or 1 leaves the tree, the report and the status of compiling one job after
 /// another from an empty tree, where the partitions are honest and the tree was honest.
@@ -15,9 +15,7 @@ pub fn compiles_are_in_turn()
 /// Words that are no command change nothing, whatever the status.
 pub fn bad_words_change_nothing()
     ensures { BadWordsChangeNothing }
-{
-    refused_means_nothing();
-}
+{}
 
 /// Where the files have a plan and nothing fails outside, `deps.compile` ends with status 0 or 1, unless memory runs
 /// out.
