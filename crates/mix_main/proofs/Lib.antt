@@ -1,3 +1,4 @@
+pub mod CauseLemmas
 pub mod CompileLemmas
 pub mod DoneLemmas
 pub mod LawLemmas

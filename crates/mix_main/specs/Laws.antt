@@ -106,3 +106,42 @@ abbrev pub RefusedFilesAreRefused : Type 1
 RefusedFilesAreRefused = (setting : Setting) (words : List (List ℕ)) (choice : Chosen) (files : List File) (error : PlanError) (crossing : Crossing) (ended : Status) →
     Runs setting words crossing ended → Asks setting words choice files crossing.old → IsPlan files choice.env choice.target (Err error)
     → NoneRose crossing.old crossing.new → IsRefused error crossing ended ⊎ Unremembered crossing ended
+
+-- ---- why a status comes
+
+-- nothing failed where a call works
+pub record IsQuiet (crossing : Crossing) : Type 0 where
+  pub reads : crossing.new.site.store.faults ≡ crossing.old.site.store.faults
+  pub trees : crossing.new.site.store.returned ≡ crossing.old.site.store.returned
+  pub deaths : crossing.new.site.maker.deaths ≡ crossing.old.site.maker.deaths
+  pub makers : crossing.new.site.maker.faults ≡ crossing.old.site.maker.faults
+  pub compiler : crossing.new.site.deaths ≡ crossing.old.site.deaths
+
+-- neither the store nor a folder failed
+pub record IsWhole (crossing : Crossing) : Type 0 where
+  pub reads : crossing.new.site.store.faults ≡ crossing.old.site.store.faults
+  pub trees : crossing.new.site.store.returned ≡ crossing.old.site.store.returned
+
+abbrev pub IsSame : Crossing → Type 0
+IsSame crossing = crossing.new.site ≡ crossing.old.site
+
+-- what each status says of what was counted
+abbrev pub HasCause : Status → Crossing → Type 0
+HasCause status.Done crossing = IsWhole crossing
+HasCause status.SomeFailed crossing = IsWhole crossing
+HasCause status.BadWords crossing = IsSame crossing
+HasCause status.Refused crossing = IsSame crossing
+HasCause status.Conflict crossing = IsSame crossing
+HasCause status.ReadFault crossing =
+    Rose crossing.old.site.store.faults crossing.new.site.store.faults ⊎ Rose crossing.old.site.store.returned crossing.new.site.store.returned
+HasCause status.TreeFault crossing = Rose crossing.old.site.store.returned crossing.new.site.store.returned
+HasCause status.Died crossing = Rose crossing.old.site.maker.deaths crossing.new.site.maker.deaths ⊎ Rose crossing.old.site.deaths crossing.new.site.deaths
+HasCause status.OutOfMemory crossing = IsQuiet crossing
+HasCause status.Missing crossing = IsSame crossing
+HasCause status.WriteFault crossing = Rose crossing.old.sink.faults crossing.new.sink.faults
+HasCause status.MakerFault crossing = Rose crossing.old.site.maker.faults crossing.new.site.maker.faults
+
+-- each status has its cause
+abbrev pub StatusesHaveCauses : Type 1
+StatusesHaveCauses = (setting : Setting) (words : List (List ℕ)) (crossing : Crossing) (ended : Status) →
+    Runs setting words crossing ended → HasCause ended crossing

@@ -1,5 +1,5 @@
 // What follows from how a call ends.
-ghost use Rattle.mix_main.specs.Laws.{BadWordsChangeNothing, CompilesAreInTurn, PlansAreBuilt, RefusedFilesAreRefused};
+ghost use Rattle.mix_main.specs.Laws.{BadWordsChangeNothing, CompilesAreInTurn, PlansAreBuilt, RefusedFilesAreRefused, StatusesHaveCauses};
 
 use build_plan::one_plan;
 use mix_words::one_command;
@@ -13,6 +13,7 @@ pub fn compiles_are_in_turn()
 }
 
 /// Words that are no command change nothing, whatever the status.
+#[tactic(auto, using(crate::proofs::LawLemmas::bad_words_change_nothing))]
 pub fn bad_words_change_nothing()
     ensures { BadWordsChangeNothing }
 {}
@@ -33,3 +34,10 @@ pub fn refused_files_are_refused()
     one_command();
     one_plan();
 }
+
+/// Each status has its cause: 2, 3, 4 and 9 leave everything as it was, 5, 6, 7, 10 and 11 come only where a count
+/// rose, and 8 only where none did.
+#[tactic(auto, using(crate::proofs::CauseLemmas::statuses_have_causes))]
+pub fn statuses_have_causes()
+    ensures { StatusesHaveCauses }
+{}

@@ -14,5 +14,6 @@ mod laws;
 pub use call::run;
 pub use laws::{
     bad_words_change_nothing, compiles_are_in_turn, plans_are_built, refused_files_are_refused,
+    statuses_have_causes,
 };
 pub use mix_answer::Status;
