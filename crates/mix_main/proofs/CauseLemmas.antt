@@ -46,9 +46,9 @@ use Rattle.mix_words.specs.declared.command.Command.{Command}
 use Rattle.mix_main.specs.Choice.{build_in, name_in}
 use Rattle.mix_main.specs.Does.{CleansTo, CompilesBy, CompilesHere, Does}
 use Rattle.mix_main.specs.Does.Does as does
-use Rattle.mix_main.specs.Ends.{Comes}
+use Rattle.mix_main.specs.Ends.{Comes, Runs}
 use Rattle.mix_main.specs.Ends.Comes as comes
-use Rattle.mix_main.specs.Laws.{HasCause, IsQuiet, IsSame, IsWhole, StatusesHaveCauses}
+use Rattle.mix_main.specs.Laws.{HasCause, IsQuiet, IsSame, IsWhole}
 use Rattle.mix_main.specs.Setting.{Setting}
 use Rattle.mix_main.specs.Site.{Crossing, InStore, Passage, Site, by_compiler, by_maker, passage_in, site_of}
 
@@ -214,7 +214,7 @@ comes_cause setting words crossing reply (comes.misread at refused same is) = su
 comes_cause setting words crossing reply (comes.asked command means d) = does_cause setting command crossing reply d
 comes_cause setting words crossing reply (comes.unread same is) = by_reply crossing reply (stopped Memory) is (same_quiet crossing same)
 
-pub statuses_have_causes : StatusesHaveCauses
+pub statuses_have_causes : (setting : Setting) (words : List (List ℕ)) (crossing : Crossing) (ended : Status) → Runs setting words crossing ended → HasCause ended crossing
 statuses_have_causes setting words crossing ended runs = at runs.says
   where
     at : Says runs.reply crossing.old.sink crossing.new.sink ended → HasCause ended crossing

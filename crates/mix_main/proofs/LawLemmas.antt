@@ -21,11 +21,13 @@ use Rattle.mix_compile.specs.Compiles.Compiles.{refused, unread as unread_store,
 use Rattle.mix_compile.specs.Right.{IsDone, status_by}
 use Rattle.mix_words.specs.declared.command.Command.{Command}
 use Rattle.mix_words.specs.Chosen.{Chosen}
+use Rattle.mix_words.specs.Meaning.{IsMeant}
+use Rattle.reading.specs.Refusal.{IsRefusedAt}
 use Rattle.mix_main.specs.Choice.{build_in}
 use Rattle.mix_main.specs.Does.{CompilesBy}
-use Rattle.mix_main.specs.Ends.{Comes}
+use Rattle.mix_main.specs.Ends.{Comes, Runs}
 use Rattle.mix_main.specs.Ends.Comes.{misread, asked, unread}
-use Rattle.mix_main.specs.Laws.{BadWordsChangeNothing, CompilesAreInTurn, IsInTurn, IsRefused, NoneRose, PlansAreBuilt, RefusedFilesAreRefused, Unremembered}
+use Rattle.mix_main.specs.Laws.{Asks, Compiling, IsInTurn, IsRefused, NoneRose, Unremembered}
 use Rattle.mix_main.specs.Setting.{Setting}
 use Rattle.mix_compile.specs.Site as compile
 use Rattle.mix_main.specs.Site.{Crossing, Passage, by_maker, passage_in, site_of}
@@ -61,7 +63,8 @@ in_turn setting choice trace crossing ended reply done taken is by = at by.ends
       stays = λ known trusts. (works.right known trusts).stays;
     }
 
-pub compiles_are_in_turn : OneCommand → CompilesAreInTurn
+pub compiles_are_in_turn : OneCommand → (setting : Setting) (words : List (List ℕ)) (choice : Chosen) (trace : Bool) (crossing : Crossing) (ended : Status)
+    → Runs setting words crossing ended → Compiling words choice trace → IsDone ended → IsInTurn setting.nature choice trace crossing ended
 compiles_are_in_turn one setting words choice trace crossing ended runs asks done = told runs.says
   where
     come : runs.reply.status ≡ ended → crossing.new.sink.taken ≡ with_bytes crossing.old.sink.taken runs.reply.text → ComesBy setting choice asks.count trace (passage_in crossing) runs.reply
@@ -82,7 +85,8 @@ comes_same setting words passage reply nothing (misread at refused same says) = 
 comes_same setting words passage reply nothing (asked command means does) = absurd (nothing (command, means))
 comes_same setting words passage reply nothing (unread same says) = same
 
-pub bad_words_change_nothing : BadWordsChangeNothing
+pub bad_words_change_nothing : (setting : Setting) (words : List (List ℕ)) (at : ℕ) (crossing : Crossing) (ended : Status) → Runs setting words crossing ended
+    → IsRefusedAt IsMeant words at → crossing.new.site ≡ crossing.old.site
 bad_words_change_nothing setting words at crossing ended runs refused = comes_same setting words (passage_in crossing) runs.reply refused.nothing runs.comes
 
 -- ---- plans and refusals
@@ -132,7 +136,9 @@ plan_built one setting choice trace files jobs crossing ended reply told has non
     at (unplanned same says) = inr (unremembered crossing ended reply taken is (ap (λ (c : Came). c.reply) says))
     at (planned plan own w) = works plan w.ends
 
-pub plans_are_built : OneCommand → OnePlan → PlansAreBuilt
+pub plans_are_built : OneCommand → OnePlan → (setting : Setting) (words : List (List ℕ)) (choice : Chosen) (files : List File) (jobs : List Job) (crossing : Crossing) (ended : Status)
+    → Runs setting words crossing ended → Asks setting.count words choice files crossing.old → IsPlan files choice.env choice.target (Ok jobs)
+    → NoneRose crossing.old crossing.new → IsDone ended ⊎ Unremembered crossing ended
 plans_are_built one_command one setting words choice files jobs crossing ended runs asks has none = said_so runs.says
   where
     come : ended ≡ runs.reply.status → crossing.new.sink.taken ≡ with_bytes crossing.old.sink.taken runs.reply.text
@@ -166,7 +172,9 @@ plan_refused one setting choice trace files error crossing ended reply told has 
     at (planned plan own w) =
         absurd (no_both one files choice.env choice.target plan.jobs error (told_at crossing.old.site.store.sources files (λ fs. IsPlan fs choice.env choice.target (Ok plan.jobs)) told own.first) has)
 
-pub refused_files_are_refused : OneCommand → OnePlan → RefusedFilesAreRefused
+pub refused_files_are_refused : OneCommand → OnePlan → (setting : Setting) (words : List (List ℕ)) (choice : Chosen) (files : List File) (error : PlanError) (crossing : Crossing) (ended : Status)
+    → Runs setting words crossing ended → Asks setting.count words choice files crossing.old → IsPlan files choice.env choice.target (Err error)
+    → NoneRose crossing.old crossing.new → IsRefused error crossing ended ⊎ Unremembered crossing ended
 refused_files_are_refused one_command one setting words choice files error crossing ended runs asks has none = said_so runs.says
   where
     come : ended ≡ runs.reply.status → crossing.new.sink.taken ≡ with_bytes crossing.old.sink.taken runs.reply.text

@@ -6,6 +6,8 @@ use Rattle.mx_base.specs.Sink.{with_bytes}
 use Rattle.mx_base.specs.declared.file.File.{File}
 use Rattle.compile_model.specs.declared.job.Job.{Job}
 use Rattle.compile_model.specs.declared.job.Plan.{Plan}
+use Rattle.compile_model.specs.declared.outcome.Outcome.{Outcome}
+use Rattle.compile_model.specs.Content.{Content}
 use Rattle.compile_model.specs.Seq.{seq}
 use Rattle.build_plan.specs.declared.error.PlanError.{PlanError}
 use Rattle.build_plan.specs.Plan.{IsPlan}
@@ -27,7 +29,7 @@ use Rattle.partition_crew.specs.Station.{Nature}
 use Rattle.mix_main.specs.Choice.{build_in, name_in}
 use Rattle.mix_main.specs.Count.{HasCount}
 use Rattle.mix_main.specs.Ends.{Runs}
-use Rattle.mix_main.specs.Setting.{Setting}
+use Rattle.mix_main.specs.Setting.{setting_of}
 use Rattle.mix_main.specs.Site.{Crossing, World}
 
 -- ---- what a compile leaves
@@ -55,16 +57,16 @@ pub record IsInTurn (nature : Nature) (choice : Chosen) (trace : Bool) (crossing
       → Honest nature.compile (known ++ inputs_of nature.compile plan.jobs) crossing.new.site.store.slot
 
 -- `deps.compile` that ends with 0 or 1 leaves what compiling one after another from an empty tree leaves
-abbrev pub CompilesAreInTurn : Type 1
-CompilesAreInTurn = (setting : Setting) (words : List (List ℕ)) (choice : Chosen) (trace : Bool) (crossing : Crossing) (ended : Status) →
-    Runs setting words crossing ended → Compiling words choice trace → IsDone ended → IsInTurn setting.nature choice trace crossing ended
+abbrev pub CompilesAreInTurn : Nature → (Content → Outcome) → Type 0
+CompilesAreInTurn nature compile = (variable : Option (List ℕ)) (words : List (List ℕ)) (choice : Chosen) (trace : Bool) (crossing : Crossing) (ended : Status) →
+    Runs (setting_of nature compile variable) words crossing ended → Compiling words choice trace → IsDone ended → IsInTurn nature choice trace crossing ended
 
 -- ---- what words change
 
 -- words that are no command change nothing, whatever the status
-abbrev pub BadWordsChangeNothing : Type 1
-BadWordsChangeNothing = (setting : Setting) (words : List (List ℕ)) (at : ℕ) (crossing : Crossing) (ended : Status) →
-    Runs setting words crossing ended → IsRefusedAt IsMeant words at → crossing.new.site ≡ crossing.old.site
+abbrev pub BadWordsChangeNothing : Nature → (Content → Outcome) → Type 0
+BadWordsChangeNothing nature compile = (variable : Option (List ℕ)) (words : List (List ℕ)) (at : ℕ) (crossing : Crossing) (ended : Status) →
+    Runs (setting_of nature compile variable) words crossing ended → IsRefusedAt IsMeant words at → crossing.new.site ≡ crossing.old.site
 
 -- ---- when the status is 0 or 1
 
@@ -77,11 +79,11 @@ pub record NoneRose (old new : World) : Type 0 where
   pub sink : Rose old.sink.faults new.sink.faults → ⊥
 
 -- what a call is asked: the words are a compile by partitions whose count, if any, is one, and the store tells these files
-pub record Asks (setting : Setting) (words : List (List ℕ)) (choice : Chosen) (files : List File) (old : World) : Type 0 where
+pub record Asks (variable : Option (List ℕ)) (words : List (List ℕ)) (choice : Chosen) (files : List File) (old : World) : Type 0 where
   pub count : Option ℕ
   pub trace : Bool
   pub means : Means words (Compile choice count false trace)
-  pub counts : HasCount count setting.count
+  pub counts : HasCount count variable
   pub told : old.site.store.sources ≡ Some files
 
 -- memory ran out, which is told
@@ -96,15 +98,15 @@ pub record IsRefused (error : PlanError) (crossing : Crossing) (ended : Status) 
   pub text : crossing.new.sink.taken ≡ with_bytes crossing.old.sink.taken (refusal_line error)
 
 -- where the files have a plan and nothing fails outside, the status is 0 or 1, unless memory runs out
-abbrev pub PlansAreBuilt : Type 1
-PlansAreBuilt = (setting : Setting) (words : List (List ℕ)) (choice : Chosen) (files : List File) (jobs : List Job) (crossing : Crossing) (ended : Status) →
-    Runs setting words crossing ended → Asks setting words choice files crossing.old → IsPlan files choice.env choice.target (Ok jobs)
+abbrev pub PlansAreBuilt : Nature → (Content → Outcome) → Type 0
+PlansAreBuilt nature compile = (variable : Option (List ℕ)) (words : List (List ℕ)) (choice : Chosen) (files : List File) (jobs : List Job) (crossing : Crossing) (ended : Status) →
+    Runs (setting_of nature compile variable) words crossing ended → Asks variable words choice files crossing.old → IsPlan files choice.env choice.target (Ok jobs)
     → NoneRose crossing.old crossing.new → IsDone ended ⊎ Unremembered crossing ended
 
 -- where the files are refused and nothing fails outside, that is told, unless memory runs out
-abbrev pub RefusedFilesAreRefused : Type 1
-RefusedFilesAreRefused = (setting : Setting) (words : List (List ℕ)) (choice : Chosen) (files : List File) (error : PlanError) (crossing : Crossing) (ended : Status) →
-    Runs setting words crossing ended → Asks setting words choice files crossing.old → IsPlan files choice.env choice.target (Err error)
+abbrev pub RefusedFilesAreRefused : Nature → (Content → Outcome) → Type 0
+RefusedFilesAreRefused nature compile = (variable : Option (List ℕ)) (words : List (List ℕ)) (choice : Chosen) (files : List File) (error : PlanError) (crossing : Crossing) (ended : Status) →
+    Runs (setting_of nature compile variable) words crossing ended → Asks variable words choice files crossing.old → IsPlan files choice.env choice.target (Err error)
     → NoneRose crossing.old crossing.new → IsRefused error crossing ended ⊎ Unremembered crossing ended
 
 -- ---- why a status comes
@@ -142,6 +144,6 @@ HasCause status.WriteFault crossing = Rose crossing.old.sink.faults crossing.new
 HasCause status.MakerFault crossing = Rose crossing.old.site.maker.faults crossing.new.site.maker.faults
 
 -- each status has its cause
-abbrev pub StatusesHaveCauses : Type 1
-StatusesHaveCauses = (setting : Setting) (words : List (List ℕ)) (crossing : Crossing) (ended : Status) →
-    Runs setting words crossing ended → HasCause ended crossing
+abbrev pub StatusesHaveCauses : Nature → (Content → Outcome) → Type 0
+StatusesHaveCauses nature compile = (variable : Option (List ℕ)) (words : List (List ℕ)) (crossing : Crossing) (ended : Status) →
+    Runs (setting_of nature compile variable) words crossing ended → HasCause ended crossing

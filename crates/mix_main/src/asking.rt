@@ -32,7 +32,7 @@ pub(crate) fn answer_to<S: Store, M: Maker, C: Compiler>(
 ) -> Result<Answer, Stop>
     requires { AllHere (S.known store.old).slot }
     ensures does { Does (setting_of (nature_by (M.P.honest × S.F.tells) M.P.lasting M.P.compile_of)
-        C.compile_of (option_map (λ text. text.now) count_variable)) command.now
+        C.compile_of (option_map (λ text. text.now) count_variable.entry)) command.now
         (passage_of (site_of (S.known store.old) (M.known maker.old) (C.deaths compiler.old))
         (site_of (S.known store.new) (M.known maker.new) (C.deaths compiler.new)))
         (reply_in result) }

@@ -37,7 +37,7 @@ pub fn run<S: Store, M: Maker, C: Compiler, K: Sink>(
 ) -> Status
     requires { AllHere (S.known store.old).slot }
     ensures runs { Runs (setting_of (nature_by (M.P.honest × S.F.tells) M.P.lasting M.P.compile_of)
-        C.compile_of (option_map (λ text. text.now) count_variable))
+        C.compile_of (option_map (λ text. text.now) count_variable.entry))
         (map (λ word. string_bytes word) words.now)
         (crossing_of (passage_of
         (site_of (S.known store.old) (M.known maker.old) (C.deaths compiler.old))
@@ -60,7 +60,7 @@ fn answer<S: Store, M: Maker, C: Compiler>(
 ) -> Result<Answer, Stop>
     requires { AllHere (S.known store.old).slot }
     ensures comes { Comes (setting_of (nature_by (M.P.honest × S.F.tells) M.P.lasting M.P.compile_of)
-        C.compile_of (option_map (λ text. text.now) count_variable))
+        C.compile_of (option_map (λ text. text.now) count_variable.entry))
         (map (λ word. string_bytes word) words.now)
         (passage_of (site_of (S.known store.old) (M.known maker.old) (C.deaths compiler.old))
         (site_of (S.known store.new) (M.known maker.new) (C.deaths compiler.new)))

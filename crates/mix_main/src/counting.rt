@@ -6,8 +6,8 @@ use mix_words::read_count;
 
 /// Whether the words have a count, or the count variable has one, or neither says anything.
 pub(crate) fn has_count(words: Option<u32>, variable: Option<&str>) -> bool
-    ensures has { IsTrue result → HasCount words (option_map (λ text. text.now) variable) }
-    ensures hasnt { IsFalse result → Miscounts words (option_map (λ text. text.now) variable) }
+    ensures has { IsTrue result → HasCount words (option_map (λ text. text.now) variable.entry) }
+    ensures hasnt { IsFalse result → Miscounts words (option_map (λ text. text.now) variable.entry) }
 {
     match (words, variable) {
         (None, Some(text)) => read_count(text).is_some(),

@@ -1,5 +1,5 @@
 -- Which words are which command.
-use Rattle.std.specs.Prelude.{◌≡◌, List, ◌∷◌, Option, Some, None}
+use Rattle.std.specs.Prelude.{◌≡◌, List, ◌∷◌, Option, Some}
 use Rattle.mix_words.specs.declared.command.Command.{Command}
 use Rattle.mix_words.specs.declared.command.Command.TheVariants as commands
 use Rattle.mix_words.specs.declared.settings.Settings.{Settings}
@@ -21,7 +21,6 @@ made_of Deps settings apps = Some (commands.Deps (choice_of settings))
 made_of Stale settings apps = Some (commands.Stale (choice_of settings))
 made_of Compile settings apps = Some (commands.Compile (choice_of settings) settings.partitions settings.plain settings.trace)
 made_of Clean settings apps = Some (commands.Clean (choice_of settings) apps)
-made_of verb settings apps = None
 
 -- the words are options and apps that the command takes
 pub record Orders (verb : Verb) (words : List Word) (command : Command) : Type 0 where
