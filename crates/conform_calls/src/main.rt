@@ -6,16 +6,23 @@
 #![tactic(auto)]
 
 mod cores;
+mod failing;
 mod mortal;
 mod openings;
-mod projects;
+mod plans;
+mod runs;
+mod steps;
+mod trees;
 
 use case_texts::{Cases, Fault, told};
 use cores::core_case;
-use projects::{plan_case, plan_for_case, run_case};
+use failing::failing_case;
+use plans::{plan_case, plan_for_case};
+use runs::run_case;
 use std::alloc::Global;
 use std::io;
 use std::io::{BufRead, BufReader, BufWriter, Write};
+use steps::steps_case;
 
 /// The cases of whole projects.
 struct Projects {}
@@ -33,6 +40,8 @@ impl Cases for Projects {
             "plan_for" => plan_for_case(alloc, out, texts),
             "core" => core_case(alloc, out, texts),
             "run" => run_case(alloc, out, texts),
+            "steps" => steps_case(alloc, out, texts),
+            "failing" => failing_case(alloc, out, texts),
             _ => Err(Fault::Form),
         }
     }

@@ -2,7 +2,7 @@
 ghost use Rattle.std.specs.Prelude.{◌≡◌, length, IfOk};
 ghost use Rattle.compile_model.specs.Planned.{ArePlanned};
 
-use crate::projects::planned;
+use crate::plans::planned;
 use build_manifest::read_mark;
 use build_plan::PlanError;
 use case_texts::{Fault, app_name, store_of};

@@ -1,0 +1,166 @@
+// Cases of steps over one project.
+ghost use Rattle.tree_store.specs.Slot.{AllHere};
+
+use crate::runs::{Call, ending, kept, push_ending};
+use crate::trees::{push_tree, read_tree};
+use case_texts::{Fault, app_name, folder, number_of, push_after, say, store_of, word};
+use compile_model::EchoCompiler;
+use mx_base::{AppName, Bytes};
+use partition_face::EchoMaker;
+use std::alloc::Global;
+use tree_store::{Folder, Store, StoreFault};
+
+/// Steps, each of three texts, over a project that begins without files: what each step shows, with `;` after it, and
+/// last the builds.
+pub(crate) fn steps_case(alloc: Global, out: &mut String, texts: &[Vec<u8>]) -> Result<(), Fault> {
+    let mut store = store_of(alloc, b"", b"", &[])?;
+    say(out, "ok")?;
+    for three in texts.chunks(3) {
+        let [name, first, second] = three else {
+            return Err(Fault::Form);
+        };
+        let (first, second) = (first.as_slice(), second.as_slice());
+        step(alloc, out, &mut store, word(name.as_slice())?, first, second)?;
+    }
+    let builds = kept(read_tree(alloc, &mut store))?;
+    push_tree(alloc, out, builds.as_slice())
+}
+
+fn step<S: Store>(
+    alloc: Global,
+    out: &mut String,
+    store: &mut S,
+    name: &str,
+    first: &[u8],
+    second: &[u8],
+) -> Result<(), Fault>
+    requires { AllHere (S.known store.old).slot }
+    ensures { AllHere (S.known store.new).slot }
+{
+    match name {
+        "put" => put(alloc, store, first, second),
+        "remove" => remove(alloc, store, first),
+        "mark" => mark(alloc, store, first, second),
+        "cut" => cut(alloc, store, first, number_of(word(second)?)?),
+        "read" => push_mark(alloc, out, store, first),
+        "run" => push_run(alloc, out, store, first, second),
+        _ => Err(Fault::Form),
+    }
+}
+
+fn put<S: Store>(alloc: Global, store: &mut S, path: &[u8], bytes: &[u8]) -> Result<(), Fault>
+    requires { AllHere (S.known store.old).slot }
+    ensures { AllHere (S.known store.new).slot }
+{
+    let path = folder(alloc, path)?;
+    if path.is_in_build() {
+        return Err(Fault::Form);
+    }
+    kept(store.put(alloc, &path, bytes))
+}
+
+fn remove<S: Store>(alloc: Global, store: &mut S, path: &[u8]) -> Result<(), Fault>
+    requires { AllHere (S.known store.old).slot }
+    ensures { AllHere (S.known store.new).slot }
+{
+    let path = folder(alloc, path)?;
+    if path.is_in_build() {
+        return Err(Fault::Form);
+    }
+    kept(store.remove(alloc, &path))
+}
+
+/// Puts bytes in place of the mark of an app's build in `dev`.
+fn mark<S: Store>(alloc: Global, store: &mut S, app: &[u8], bytes: &[u8]) -> Result<(), Fault>
+    requires { AllHere (S.known store.old).slot }
+    ensures { AllHere (S.known store.new).slot }
+{
+    let app = app_name(alloc, app)?;
+    let env = app_name(alloc, b"dev")?;
+    kept(write_mark(alloc, store, &env, &app, bytes))
+}
+
+/// Leaves so many bytes of a mark.
+fn cut<S: Store>(alloc: Global, store: &mut S, app: &[u8], length: u32) -> Result<(), Fault>
+    requires { AllHere (S.known store.old).slot }
+    ensures { AllHere (S.known store.new).slot }
+{
+    let bytes = mark_of(alloc, store, app)?;
+    match bytes.as_slice().get(..length as usize) {
+        Some(first) => mark(alloc, store, app, first),
+        None => Err(Fault::Form),
+    }
+}
+
+fn push_mark<S: Store>(
+    alloc: Global,
+    out: &mut String,
+    store: &mut S,
+    app: &[u8],
+) -> Result<(), Fault>
+    requires { AllHere (S.known store.old).slot }
+    ensures { AllHere (S.known store.new).slot }
+{
+    let bytes = mark_of(alloc, store, app)?;
+    push_after(alloc, out, " ", bytes.as_slice())?;
+    say(out, ";")
+}
+
+/// The mark of an app's build in `dev`; a build without one is no case.
+fn mark_of<S: Store>(alloc: Global, store: &mut S, app: &[u8]) -> Result<Bytes, Fault>
+    requires { AllHere (S.known store.old).slot }
+    ensures { AllHere (S.known store.new).slot }
+{
+    let app = app_name(alloc, app)?;
+    let env = app_name(alloc, b"dev")?;
+    kept(read_mark(alloc, store, &env, &app))?.ok_or(Fault::Form)
+}
+
+fn write_mark<S: Store>(
+    alloc: Global,
+    store: &mut S,
+    env: &AppName,
+    app: &AppName,
+    bytes: &[u8],
+) -> Result<(), StoreFault>
+    requires { AllHere (S.known store.old).slot }
+    ensures { AllHere (S.known store.new).slot }
+{
+    let mut folder = store.folder(alloc, env, app)?;
+    let marked = folder.mark(alloc, bytes);
+    store.give_back(folder);
+    marked
+}
+
+fn read_mark<S: Store>(
+    alloc: Global,
+    store: &mut S,
+    env: &AppName,
+    app: &AppName,
+) -> Result<Option<Bytes>, StoreFault>
+    requires { AllHere (S.known store.old).slot }
+    ensures { AllHere (S.known store.new).slot }
+{
+    let mut folder = store.folder(alloc, env, app)?;
+    let mark = folder.read_mark(alloc);
+    store.give_back(folder);
+    mark
+}
+
+/// Runs a command by partitions that never die, and shows how it ends.
+fn push_run<S: Store>(
+    alloc: Global,
+    out: &mut String,
+    store: &mut S,
+    words: &[u8],
+    count: &[u8],
+) -> Result<(), Fault>
+    requires { AllHere (S.known store.old).slot }
+    ensures { AllHere (S.known store.new).slot }
+{
+    let call = Call::of(alloc, words, count)?;
+    let (mut maker, mut compiler) = (EchoMaker::new(), EchoCompiler);
+    let ending = ending(alloc, &call, b"", store, &mut maker, &mut compiler)?;
+    push_ending(alloc, out, &ending)?;
+    say(out, ";")
+}
