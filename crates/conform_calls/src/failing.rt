@@ -1,6 +1,6 @@
 // Cases of commands of which each call of one thing fails in turn.
 
-use crate::runs::{Call, Ending, Failing, NEVER, Workers, ending, kept};
+use crate::runs::{Call, Ending, FailingCalls, NEVER, Workers, run_call, unfailing};
 use crate::trees::{Build, push_marks, push_tree, read_tree, write_tree};
 use case_texts::{Fault, say, store_of, word};
 use std::alloc::Global;
@@ -50,14 +50,14 @@ fn builds_before(alloc: Global, over: &str, scene: Scene) -> Result<Vec<Build>, 
                 return Err(Fault::Form);
             };
             let before = Scene { files, ..scene };
-            Ok(left(alloc, before, &[], &NEVER)?.builds)
+            Ok(come_to(alloc, before, &[], &NEVER)?.builds)
         }
         _ => Err(Fault::Form),
     }
 }
 
 fn try_each(alloc: Global, out: &mut String, scene: Scene, builds: &[Build]) -> Result<(), Fault> {
-    let wanted = left(alloc, scene, &[], &NEVER)?;
+    let wanted = come_to(alloc, scene, &[], &NEVER)?;
     for number in 1..=MOST_CALLS {
         // Each build that is written before takes one call of the store.
         let call = match scene.place {
@@ -66,7 +66,7 @@ fn try_each(alloc: Global, out: &mut String, scene: Scene, builds: &[Build]) -> 
         };
         let call = format!(in alloc; "{call}")?;
         let failing = failing_at(scene.place, call.as_bytes())?;
-        let failed = left(alloc, scene, builds, &failing)?;
+        let failed = come_to(alloc, scene, builds, &failing)?;
         if failed.ending.is_as(&wanted.ending) {
             return push_last(out, number);
         }
@@ -83,23 +83,23 @@ fn push_last(out: &mut String, number: usize) -> Result<(), Fault> {
     say(out, if number == 1 { "ok none" } else { "ok same" })
 }
 
-fn failing_at<'a>(place: &str, call: &'a [u8]) -> Result<Failing<'a>, Fault> {
+fn failing_at<'a>(place: &str, call: &'a [u8]) -> Result<FailingCalls<'a>, Fault> {
     match place {
-        "store" => Ok(Failing { store: call, ..NEVER }),
-        "folder" => Ok(Failing { folder: call, ..NEVER }),
-        "partition" => Ok(Failing { partition: call, ..NEVER }),
-        "sink" => Ok(Failing { sink: call, ..NEVER }),
+        "store" => Ok(FailingCalls { store: call, ..NEVER }),
+        "folder" => Ok(FailingCalls { folder: call, ..NEVER }),
+        "partition" => Ok(FailingCalls { partition: call, ..NEVER }),
+        "sink" => Ok(FailingCalls { sink: call, ..NEVER }),
         _ => Err(Fault::Form),
     }
 }
 
 /// What a command leaves over builds.
-fn left(alloc: Global, scene: Scene, builds: &[Build], failing: &Failing) -> Result<Left, Fault> {
+fn come_to(alloc: Global, scene: Scene, builds: &[Build], failing: &FailingCalls) -> Result<Left, Fault> {
     let mut store = store_of(alloc, failing.store, failing.folder, scene.files)?;
-    kept(write_tree(alloc, &mut store, builds))?;
+    unfailing(write_tree(alloc, &mut store, builds))?;
     let Workers { mut maker, mut compiler } = Workers::of(alloc, failing)?;
-    let ending = ending(alloc, scene.call, failing.sink, &mut store, &mut maker, &mut compiler)?;
-    let builds = kept(read_tree(alloc, &mut store))?;
+    let ending = run_call(alloc, scene.call, failing.sink, &mut store, &mut maker, &mut compiler)?;
+    let builds = unfailing(read_tree(alloc, &mut store))?;
     Ok(Left { ending, builds })
 }
 
@@ -114,7 +114,7 @@ fn difference(
     if !is_caused(scene.place, failed.ending.status) {
         return Ok(Some("status"));
     }
-    let again = left(alloc, scene, failed.builds.as_slice(), &NEVER)?;
+    let again = come_to(alloc, scene, failed.builds.as_slice(), &NEVER)?;
     if !again.ending.is_as(&wanted.ending) {
         return Ok(Some("report"));
     }
@@ -123,7 +123,7 @@ fn difference(
 }
 
 /// Whether a command ends so where a call of this thing fails.
-fn is_caused(place: &str, status: u32) -> bool {
+fn is_caused(place: &str, status: u8) -> bool {
     match place {
         "partition" => status == 7,
         "sink" => status == 10,

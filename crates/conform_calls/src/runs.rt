@@ -40,7 +40,7 @@ impl<'a> Call<'a> {
 /// Which calls fail of the store, of each folder, of the maker and of the sink, and at which the first partition and
 /// the compiler die.
 #[derive(Clone, Copy)]
-pub(crate) struct Failing<'a> {
+pub(crate) struct FailingCalls<'a> {
     pub(crate) store: &'a [u8],
     pub(crate) folder: &'a [u8],
     pub(crate) partition: &'a [u8],
@@ -50,7 +50,7 @@ pub(crate) struct Failing<'a> {
 }
 
 /// Nothing fails.
-pub(crate) const NEVER: Failing<'static> = Failing {
+pub(crate) const NEVER: FailingCalls<'static> = FailingCalls {
     store: b"",
     folder: b"",
     partition: b"",
@@ -68,7 +68,7 @@ pub(crate) struct Workers {
 
 impl Workers {
     /// Two partitions, of which the second never dies, and a compiler.
-    pub(crate) fn of(alloc: Global, failing: &Failing) -> Result<Workers, Fault> {
+    pub(crate) fn of(alloc: Global, failing: &FailingCalls) -> Result<Workers, Fault> {
         let mut partitions = Vec::new(alloc);
         partitions.push(FakePartition::new(calls_of(alloc, failing.partition)?))?;
         partitions.push(FakePartition::new(Vec::new(alloc)))?;
@@ -83,7 +83,7 @@ impl Workers {
 /// How a command ended: its status, and the text that the sink took.
 #[derive(Drop)]
 pub(crate) struct Ending {
-    pub(crate) status: u32,
+    pub(crate) status: u8,
     pub(crate) text: Vec<u8>,
 }
 
@@ -95,7 +95,7 @@ impl Ending {
 }
 
 /// Runs a command over a project, with a sink of which these calls fail.
-pub(crate) fn ending<S: Store, M: Maker, C: Compiler>(
+pub(crate) fn run_call<S: Store, M: Maker, C: Compiler>(
     alloc: Global,
     call: &Call,
     sink_calls: &[u8],
@@ -133,7 +133,7 @@ pub(crate) fn run_case(alloc: Global, out: &mut String, texts: &[Vec<u8>]) -> Re
     else {
         return Err(Fault::Form);
     };
-    let failing = Failing {
+    let failing = FailingCalls {
         store: store.as_slice(),
         folder: folder.as_slice(),
         partition: partition.as_slice(),
@@ -149,7 +149,7 @@ fn run_twice(
     alloc: Global,
     out: &mut String,
     call: &Call,
-    failing: &Failing,
+    failing: &FailingCalls,
     files: &[Vec<u8>],
 ) -> Result<(), Fault> {
     let mut store = store_of(alloc, failing.store, failing.folder, files)?;
@@ -173,7 +173,7 @@ fn push_run<S: Store>(
     ensures { AllHere (S.known store.new).slot }
 {
     let Workers { maker, compiler } = workers;
-    let ending = ending(alloc, call, sink_calls, store, maker, compiler)?;
+    let ending = run_call(alloc, call, sink_calls, store, maker, compiler)?;
     push_ending(alloc, out, &ending)?;
     match read_tree(alloc, store) {
         Ok(builds) => push_tree(alloc, out, builds.as_slice()),
@@ -189,7 +189,7 @@ pub(crate) fn push_ending(alloc: Global, out: &mut String, ending: &Ending) -> R
 }
 
 /// What a call of a store that never fails says is that memory ran out.
-pub(crate) fn kept<T>(answer: Result<T, StoreFault>) -> Result<T, Fault> {
+pub(crate) fn unfailing<T>(answer: Result<T, StoreFault>) -> Result<T, Fault> {
     match answer {
         Ok(value) => Ok(value),
         Err(_) => Err(Fault::Memory),

@@ -1,7 +1,7 @@
 // Cases of steps over one project.
 ghost use Rattle.tree_store.specs.Slot.{AllHere};
 
-use crate::runs::{Call, ending, kept, push_ending};
+use crate::runs::{Call, push_ending, run_call, unfailing};
 use crate::trees::{push_tree, read_tree};
 use case_texts::{Fault, app_name, folder, number_of, push_after, say, store_of, word};
 use compile_model::EchoCompiler;
@@ -22,7 +22,7 @@ pub(crate) fn steps_case(alloc: Global, out: &mut String, texts: &[Vec<u8>]) -> 
         let (first, second) = (first.as_slice(), second.as_slice());
         step(alloc, out, &mut store, word(name.as_slice())?, first, second)?;
     }
-    let builds = kept(read_tree(alloc, &mut store))?;
+    let builds = unfailing(read_tree(alloc, &mut store))?;
     push_tree(alloc, out, builds.as_slice())
 }
 
@@ -56,7 +56,7 @@ fn put<S: Store>(alloc: Global, store: &mut S, path: &[u8], bytes: &[u8]) -> Res
     if path.is_in_build() {
         return Err(Fault::Form);
     }
-    kept(store.put(alloc, &path, bytes))
+    unfailing(store.put(alloc, &path, bytes))
 }
 
 fn remove<S: Store>(alloc: Global, store: &mut S, path: &[u8]) -> Result<(), Fault>
@@ -67,7 +67,7 @@ fn remove<S: Store>(alloc: Global, store: &mut S, path: &[u8]) -> Result<(), Fau
     if path.is_in_build() {
         return Err(Fault::Form);
     }
-    kept(store.remove(alloc, &path))
+    unfailing(store.remove(alloc, &path))
 }
 
 /// Puts bytes in place of the mark of an app's build in `dev`.
@@ -77,7 +77,7 @@ fn mark<S: Store>(alloc: Global, store: &mut S, app: &[u8], bytes: &[u8]) -> Res
 {
     let app = app_name(alloc, app)?;
     let env = app_name(alloc, b"dev")?;
-    kept(write_mark(alloc, store, &env, &app, bytes))
+    unfailing(write_mark(alloc, store, &env, &app, bytes))
 }
 
 /// Leaves so many bytes of a mark.
@@ -113,7 +113,7 @@ fn mark_of<S: Store>(alloc: Global, store: &mut S, app: &[u8]) -> Result<Bytes, 
 {
     let app = app_name(alloc, app)?;
     let env = app_name(alloc, b"dev")?;
-    kept(read_mark(alloc, store, &env, &app))?.ok_or(Fault::Form)
+    unfailing(read_mark(alloc, store, &env, &app))?.ok_or(Fault::Form)
 }
 
 fn write_mark<S: Store>(
@@ -160,7 +160,7 @@ fn push_run<S: Store>(
 {
     let call = Call::of(alloc, words, count)?;
     let (mut maker, mut compiler) = (EchoMaker::new(), EchoCompiler);
-    let ending = ending(alloc, &call, b"", store, &mut maker, &mut compiler)?;
+    let ending = run_call(alloc, &call, b"", store, &mut maker, &mut compiler)?;
     push_ending(alloc, out, &ending)?;
     say(out, ";")
 }
