@@ -8,7 +8,7 @@ use compile_model::Compiler;
 use mix_main::run;
 use mx_base::{FaultPlan, MemSink};
 use partition_face::{FakePartition, ListMaker, Maker};
-use std::alloc::{AllocError, Global};
+use std::alloc::Global;
 use tree_store::{Store, StoreFault};
 
 /// What a command is given: its words, and the count variable where it is set.
@@ -188,10 +188,11 @@ pub(crate) fn push_ending(alloc: Global, out: &mut String, ending: &Ending) -> R
     push_after(alloc, out, " ", ending.text.as_slice())
 }
 
-/// What a call of a store that never fails says is that memory ran out.
+/// What a store answers of which no call fails here; a line by which one does is no case.
 pub(crate) fn unfailing<T>(answer: Result<T, StoreFault>) -> Result<T, Fault> {
     match answer {
         Ok(value) => Ok(value),
-        Err(_) => Err(Fault::Memory),
+        Err(StoreFault::Failed) => Err(Fault::Form),
+        Err(StoreFault::OutOfMemory) => Err(Fault::Memory),
     }
 }
