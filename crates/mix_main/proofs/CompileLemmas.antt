@@ -1,97 +1,82 @@
--- From the plan to the tree.
-use Rattle.std.proofs.Common.{◌≡◌, ℕ, true, false, Bool, List, Result, Ok, Err, IfOk, OnOk, refl, ◌∙◌, ap, subst}
-use Rattle.mx_base.specs.Blame.{Blame, is_outside}
-use Rattle.mx_base.specs.Blame.Blame.{Input, Outside, Memory}
-use Rattle.mx_base.specs.Causes.{Rose}
-use Rattle.mx_base.specs.Order.{AreInOrder}
-use Rattle.compile_model.specs.declared.job.Job.{Job}
-use Rattle.compile_model.specs.declared.outcome.Outcome.{Outcome}
-use Rattle.compile_model.specs.declared.outcome.Fate.{Fate}
-use Rattle.compile_model.specs.Content.{Content}
-use Rattle.compile_model.specs.Planned.{ArePlanned}
-use Rattle.compile_model.specs.Seq.{seq}
-use Rattle.compile_model.proofs.SeqLemmas.{seq_in_order}
-use Rattle.tree_store.specs.declared.key.BuildKey.{BuildKey}
-use Rattle.tree_store.specs.Known.{Known, OnlyReads, Told}
-use Rattle.tree_store.specs.Slot.{Slot}
-use Rattle.build_plan.specs.Blame.{blame_of}
-use Rattle.build_plan.specs.declared.error.PlanError.{PlanError}
-use Rattle.build_plan.specs.Plan.{Build, IsPlan}
-use Rattle.mix_report.specs.Report.{report}
-use Rattle.mix_main.specs.declared.status.Status.{Status}
-use Rattle.mix_main.specs.declared.answer.Answer.{Answer}
-use Rattle.mix_main.specs.declared.answer.Stop.{Stop}
-use Rattle.mix_main.specs.declared.answer.Stop.TheVariants as stop
-use Rattle.mix_main.specs.Answer.{Fails, reply_in}
-use Rattle.mix_main.specs.Compile.{Builds, Compiles, status_by}
-use Rattle.mix_main.specs.Compile.Builds.{built, read_fault, tree_fault, no_memory}
-use Rattle.mix_main.specs.Compile.Compiles.{refused, unread, unplanned}
-use Rattle.mix_main.specs.Filling.{filled_by, BeginsEnv}
-use Rattle.mix_main.specs.Refusal.{TellsError}
-use Rattle.mix_main.specs.Refusal.TellsError.{told, read, no_memory as untold}
-use Rattle.mix_main.specs.Reply.{reply_of}
-use Rattle.mix_main.specs.Tree.{ClearsEnv, FillsPartly, LeavesTree}
-use Rattle.mix_main.specs.World.{passage_of, site_of}
-use Rattle.mix_main.proofs.ApartLemmas.{planned_differ}
-use Rattle.mix_main.proofs.StandLemmas.{cleared_empty, cleared_filled}
-use Rattle.mix_main.proofs.TreeLemmas.{leaves_tree}
+-- What the words of a compile by partitions come to.
+use Rattle.std.proofs.Common.{◌≡◌, ℕ, Bool, true, false, List, Option, Some, None, ap, subst, sym, ◌∙◌}
+use Rattle.mix_answer.specs.declared.status.Status.TheVariants.{BadWords}
+use Rattle.mix_answer.specs.declared.stop.Stop.TheVariants.{Memory}
+use Rattle.mix_answer.specs.Answer.{stopped}
+use Rattle.mix_answer.specs.Reply.{Reply, reply_of}
+use Rattle.mix_words.specs.declared.command.Command.{Command}
+use Rattle.mix_words.specs.declared.command.Command.TheVariants.{Help, Deps, Stale, Compile, Clean}
+use Rattle.mix_words.specs.Chosen.{Chosen}
+use Rattle.mix_words.specs.Meaning.{Means}
+use Rattle.mix_main.specs.Count.{HasCount, Miscounts}
+use Rattle.mix_main.specs.Does.{CompilesBy, Does}
+use Rattle.mix_main.specs.Does.Does.{helped, listed, told_stale, compiled, miscounted, compiled_here, cleaned, no_memory}
+use Rattle.mix_main.specs.Ends.{Comes}
+use Rattle.mix_main.specs.Ends.Comes.{misread, asked, unread}
+use Rattle.mix_main.specs.Setting.{Setting}
+use Rattle.mix_main.specs.Site.{Passage}
+use Rattle.mix_main.specs.Texts.{bad_count_line}
 
--- a call that didn't fail left the store as it was
-pub only_read : (old new : Known) (failed : Bool) → OnlyReads old new failed → failed ≡ false → new ≡ old
-only_read old new true reads quiet = cc
-only_read old new false reads quiet = reads.same ∙ ap (λ (n : ℕ). record old { faults = n }) (reads.cause.kept refl)
+-- no words mean two commands
+abbrev pub OneCommand : Type 0
+OneCommand = (words : List (List ℕ)) (a b : Command) → Means words a → Means words b → a ≡ b
 
-not_outside : (b : Blame) → (b ≡ Outside → ⊥) → is_outside b ≡ false
-not_outside Input differs = refl
-not_outside Outside differs = absurd (differs refl)
-not_outside Memory differs = refl
+-- a count is none, or the jobs are compiled, or memory ran out
+pub data ComesBy (setting : Setting) (choice : Chosen) (count : Option ℕ) (trace : Bool) (passage : Passage) (reply : Reply) : Type 0 where
+  compiles : HasCount count setting.count → CompilesBy setting choice trace passage reply → ComesBy setting choice count trace passage reply
+  miscounts : Miscounts count setting.count → passage.new ≡ passage.old → reply ≡ reply_of BadWords bad_count_line → ComesBy setting choice count trace passage reply
+  forgets : passage.new ≡ passage.old → reply ≡ stopped Memory → ComesBy setting choice count trace passage reply
 
--- there is no plan
-pub refuse_ends : (compile : Content → Outcome) (build : Build) (error : PlanError) (old new : Known) (deaths : ℕ) (status : Status) (text : List ℕ)
-    → (blame_of error ≡ Input → Told old (λ files. IsPlan files build.env build.target) (Err error)) → OnlyReads old new (is_outside (blame_of error))
-    → TellsError error status text → Compiles compile build (passage_of (site_of old deaths) (site_of new deaths)) (reply_of status text)
-refuse_ends compile build error old new deaths status text first reads (told is ended line) =
-    refused error (record { refusal = is; first = first is; line = line; ended = ended; same = ap (λ (s : Known). site_of s deaths) (only_read old new _ reads (ap is_outside is)) })
-refuse_ends compile build error old new deaths status text first reads (read is ended line) =
-    let failed : OnlyReads old new true = subst (λ (e : PlanError). OnlyReads old new (is_outside (blame_of e))) is reads in
-    unread (failed.cause.rose refl) (ap (λ (s : Known). s.slot) failed.same) ended line
-refuse_ends compile build error old new deaths status text first reads (untold quiet ended line) =
-    unplanned (ap (λ (s : Known). site_of s deaths) (only_read old new _ reads (not_outside (blame_of error) quiet))) ended line
+-- the parts of a compile
+same_choice : (a b : Chosen) (m n : Option ℕ) (p q t u : Bool) → Compile a m p t ≡ Compile b n q u → a ≡ b
+same_choice a b m n p q t u is = cc
 
-module _ (compile : Content → Outcome) (law : (content : Content) → AreInOrder (compile content).files) (env : List ℕ) (jobs : List Job) (fates fates' : List Fate) (planned : ArePlanned jobs) (fs : fates' ≡ fates) (is : fates ≡ seq compile jobs) where
-  -- emptied, and then filled
-  pub built_tree : (old mid new : BuildKey → Slot) → ClearsEnv env old mid → ((q : BuildKey) → new q ≡ filled_by env q jobs fates' (mid q)) →
-      LeavesTree env jobs (seq compile jobs) old new
-  built_tree old mid new clears fills =
-      leaves_tree env jobs (seq compile jobs) old mid new (planned_differ jobs planned) (seq_in_order compile law jobs) clears
-      (λ q. fills q ∙ ap (λ (x : List Fate). filled_by env q jobs x (mid q)) (fs ∙ is))
+same_count : (a b : Chosen) (m n : Option ℕ) (p q t u : Bool) → Compile a m p t ≡ Compile b n q u → m ≡ n
+same_count a b m n p q t u is = cc
 
-  -- emptied, and then filled until an error
-  pub built_partly : (old mid new : BuildKey → Slot) → ClearsEnv env old mid → BeginsEnv env jobs fates' mid new →
-      FillsPartly env jobs (seq compile jobs) old new
-  built_partly old mid new clears begins =
-      let begun : BeginsEnv env jobs (seq compile jobs) mid new =
-      subst (λ (x : List Fate). BeginsEnv env jobs x mid new) (fs ∙ is) begins in
-      cleared_filled env jobs (seq compile jobs) old mid new clears
-      (begun (planned_differ jobs planned) (seq_in_order compile law jobs) (cleared_empty env old mid clears))
+same_trace : (a b : Chosen) (m n : Option ℕ) (p q t u : Bool) → Compile a m p t ≡ Compile b n q u → t ≡ u
+same_trace a b m n p q t u is = cc
 
-  -- how it ends from the compiled jobs on
-  pub finish_ends : (result : Result Answer Stop) (old mid new : Known) (deaths after : ℕ) →
-      ClearsEnv env old.slot mid.slot → mid.faults ≡ old.faults → mid.returned ≡ old.returned → after ≡ deaths →
-      IfOk result (λ answer. answer.status ≡ status_by fates') → IfOk result (λ answer. answer.text.items ≡ report jobs fates') →
-      OnOk result ((q : BuildKey) → new.slot q ≡ filled_by env q jobs fates' (mid.slot q)) → Fails result mid new →
-      Builds compile (record { env = env; jobs = jobs }) (passage_of (site_of old deaths) (site_of new after)) (reply_in result)
-  finish_ends (Ok answer) old mid new deaths after clears faults returned died status text filled fails =
-      built (record {
-        tree = built_tree old.slot mid.slot new.slot clears filled;
-        report = text ∙ ap (report jobs) (fs ∙ is);
-        ended = status ∙ ap status_by (fs ∙ is);
-        calm = record { reads = fails.0 ∙ faults; trees = fails.1 ∙ returned; deaths = died };
-      })
-  finish_ends (Err stop.Read) old mid new deaths after clears faults returned died status text filled fails =
-      read_fault (subst (λ (n : ℕ). Rose n new.faults) faults fails) refl refl
-  finish_ends (Err stop.Tree) old mid new deaths after clears faults returned died status text filled fails =
-      tree_fault (subst (λ (n : ℕ). Rose n new.returned) returned fails) refl refl
-  finish_ends (Err stop.Died) old mid new deaths after clears faults returned died status text filled fails = absurd fails
-  finish_ends (Err stop.Memory) old mid new deaths after clears faults returned died status text filled fails =
-      no_memory (record { reads = fails.0 ∙ faults; trees = fails.1 ∙ returned; deaths = died }) refl refl
+no_plain : (a b : Chosen) (m n : Option ℕ) (t u : Bool) → Compile a m true t ≡ Compile b n false u → ⊥
+no_plain a b m n t u is = cc
+
+no_help : (b : Chosen) (n : Option ℕ) (q u : Bool) → Help ≡ Compile b n q u → ⊥
+no_help b n q u is = cc
+
+no_deps : (a b : Chosen) (n : Option ℕ) (q u : Bool) → Deps a ≡ Compile b n q u → ⊥
+no_deps a b n q u is = cc
+
+no_stale : (a b : Chosen) (n : Option ℕ) (q u : Bool) → Stale a ≡ Compile b n q u → ⊥
+no_stale a b n q u is = cc
+
+no_clean : (a b : Chosen) (apps : List (List ℕ)) (n : Option ℕ) (q u : Bool) → Clean a apps ≡ Compile b n q u → ⊥
+no_clean a b apps n q u is = cc
+
+does_compile : (setting : Setting) (choice : Chosen) (count : Option ℕ) (trace : Bool) (command : Command) (passage : Passage) (reply : Reply)
+    → command ≡ Compile choice count false trace → Does setting command passage reply → ComesBy setting choice count trace passage reply
+does_compile setting choice count trace command passage reply own (helped is same says) = absurd (no_help choice count false trace (sym is ∙ own))
+does_compile setting choice count trace command passage reply own (listed c is alone tells) = absurd (no_deps c choice count false trace (sym is ∙ own))
+does_compile setting choice count trace command passage reply own (told_stale c is alone tells) = absurd (no_stale c choice count false trace (sym is ∙ own))
+does_compile setting choice count trace command passage reply own (compiled c n t is has by) =
+    compiles (subst (λ (k : Option ℕ). HasCount k setting.count) (same_count c choice n count false false t trace (sym is ∙ own)) has)
+    (subst (λ (c : Chosen). CompilesBy setting c trace passage reply) (same_choice c choice n count false false t trace (sym is ∙ own))
+    (subst (λ (u : Bool). CompilesBy setting c u passage reply) (same_trace c choice n count false false t trace (sym is ∙ own)) by))
+does_compile setting choice count trace command passage reply own (miscounted c n t is mis same says) =
+    miscounts (subst (λ (k : Option ℕ). Miscounts k setting.count) (same_count c choice n count false false t trace (sym is ∙ own)) mis) same says
+does_compile setting choice count trace command passage reply own (compiled_here c n t is here) = absurd (no_plain c choice n count t trace (sym is ∙ own))
+does_compile setting choice count trace command passage reply own (cleaned c apps is cleans) = absurd (no_clean c choice apps count false trace (sym is ∙ own))
+does_compile setting choice count trace command passage reply own (no_memory same says) = forgets same says
+
+pub comes_compile : OneCommand → (setting : Setting) (words : List (List ℕ)) (choice : Chosen) (count : Option ℕ) (trace : Bool) (passage : Passage) (reply : Reply)
+    → Means words (Compile choice count false trace) → Comes setting words passage reply → ComesBy setting choice count trace passage reply
+comes_compile one setting words choice count trace passage reply means (misread at refused same says) =
+    absurd (refused.nothing (Compile choice count false trace, means))
+comes_compile one setting words choice count trace passage reply means (asked command other does) =
+    does_compile setting choice count trace command passage reply (one words command (Compile choice count false trace) other means) does
+comes_compile one setting words choice count trace passage reply means (unread same says) = forgets same says
+
+-- what is a count isn't none
+pub no_miscount : (count : Option ℕ) (variable : Option (List ℕ)) → HasCount count variable → Miscounts count variable → ⊥
+no_miscount None (Some text) has mis = mis has.0 has.1
+no_miscount None None has mis = mis
+no_miscount (Some n) variable has mis = mis

@@ -1,143 +1,180 @@
 -- What follows from how a call ends.
-use Rattle.std.proofs.Common.{◌≡◌, ℕ, List, Option, Some, Ok, Err, Result, IfSome, ap, subst, sym, ◌∙◌}
-use Rattle.mx_base.specs.BuildName.{host}
+use Rattle.std.proofs.Common.{◌≡◌, ◌⊎◌, inl, inr, ℕ, Bool, false, List, Option, Some, Ok, Err, Result, IfSome, ap, subst, sym, ◌∙◌}
 use Rattle.mx_base.specs.Sink.{with_bytes}
 use Rattle.mx_base.specs.declared.file.File.{File}
 use Rattle.compile_model.specs.declared.job.Job.{Job}
 use Rattle.compile_model.specs.declared.job.Plan.{Plan}
-use Rattle.compile_model.specs.declared.outcome.Outcome.{Outcome}
-use Rattle.compile_model.specs.Content.{Content}
-use Rattle.tree_store.specs.Known.{Known, Told}
 use Rattle.build_plan.specs.declared.error.PlanError.{PlanError}
-use Rattle.build_plan.specs.Plan.{IsPlan, build_of}
-use Rattle.mix_main.specs.declared.command.Command.{Command}
-use Rattle.mix_main.specs.declared.command.Command.TheVariants as command
-use Rattle.mix_main.specs.declared.command.WordsError.{WordsError}
-use Rattle.mix_main.specs.declared.status.Status.{Status}
-use Rattle.mix_main.specs.Compile.{Built, Builds, Compiles, IsPlanFor}
-use Rattle.mix_main.specs.Compile.Builds.{built, read_fault, tree_fault, died, no_memory}
-use Rattle.mix_main.specs.Compile.Compiles.{refused, unread, unplanned, planned}
-use Rattle.mix_main.specs.Ends.{Comes, Says}
-use Rattle.mix_main.specs.Ends.Comes.{refused as misread, asked, unread as unheard}
-use Rattle.mix_main.specs.Ends.Says.{said, cut}
-use Rattle.mix_main.specs.Laws.{BadWordsChangeNothing, EndsBuilt, EndsRefused, NoneRose, PlansAreBuilt, RefusedFilesAreRefused, RefusedFilesLeaveTheTree}
-use Rattle.mix_main.specs.Laws.EndsBuilt.{built as ends_built, no_memory as built_unsaid}
-use Rattle.mix_main.specs.Laws.EndsRefused.{refused as ends_refused, no_memory as refused_unsaid}
-use Rattle.mix_main.specs.Reply.{Reply, reply_of}
-use Rattle.mix_main.specs.Words.{command_of, dev}
-use Rattle.mix_main.specs.World.{Calm, Passage, Site, World, passage_of}
-use Rattle.mix_main.proofs.CallLemmas.{misread_same}
+use Rattle.build_plan.specs.Plan.{IsPlan}
+use Rattle.mix_answer.specs.declared.status.Status.{Status}
+use Rattle.mix_answer.specs.declared.status.Status.TheVariants.{BadWords, WriteFault}
+use Rattle.mix_answer.specs.declared.stop.Stop.{Stop}
+use Rattle.mix_answer.specs.declared.stop.Stop.TheVariants.{Read, Tree, Maker, Memory}
+use Rattle.mix_answer.specs.Answer.{stopped}
+use Rattle.mix_answer.specs.Reply.{Reply}
+use Rattle.mix_answer.specs.Says.{Says}
+use Rattle.mix_answer.specs.Says.Says.{said, cut}
+use Rattle.mix_compile.specs.Asked.{Came, asked_of, came_to}
+use Rattle.mix_compile.specs.Compiles.{Builds, Compiles}
+use Rattle.mix_compile.specs.Compiles.Builds.{built, read_fault, tree_fault, died, maker_fault, no_memory}
+use Rattle.mix_compile.specs.Compiles.Compiles.{refused, unread as unread_store, unplanned, planned}
+use Rattle.mix_compile.specs.Right.{IsDone, status_by}
+use Rattle.mix_words.specs.declared.command.Command.{Command}
+use Rattle.mix_words.specs.Chosen.{Chosen}
+use Rattle.mix_main.specs.Choice.{build_in}
+use Rattle.mix_main.specs.Does.{CompilesBy}
+use Rattle.mix_main.specs.Ends.{Comes}
+use Rattle.mix_main.specs.Ends.Comes.{misread, asked, unread}
+use Rattle.mix_main.specs.Laws.{BadWordsChangeNothing, CompilesAreInTurn, IsInTurn, IsRefused, NoneRose, PlansAreBuilt, RefusedFilesAreRefused, Unremembered}
+use Rattle.mix_main.specs.Setting.{Setting}
+use Rattle.mix_compile.specs.Site as compile
+use Rattle.mix_main.specs.Site.{Crossing, Passage, by_maker, passage_in, site_of}
+use Rattle.mix_main.proofs.CompileLemmas.{ComesBy, OneCommand, comes_compile, no_miscount}
+use Rattle.mix_main.proofs.CompileLemmas.ComesBy.{compiles, miscounts, forgets}
+use Rattle.mix_main.proofs.DoneLemmas.{fates_done, refused_undone, stopped_undone}
 
 -- the files have one plan, or one refusal
 abbrev pub OnePlan : Type 0
 OnePlan = (files : List File) (env target : List ℕ) (one other : Result (List Job) PlanError) → IsPlan files env target one → IsPlan files env target other → one ≡ other
 
-told_at : (known : Known) (files : List File) (answer : Result (List Job) PlanError) → known.sources ≡ Some files → Told known (λ fs. IsPlan fs dev host) answer → IsPlan files dev host answer
-told_at known files answer is told = subst (λ (o : Option (List File)). IfSome o (λ fs. IsPlan fs dev host answer)) is told
+-- ---- 0 and 1
 
-calm_same : (old new : Site) → new ≡ old → Calm old new
-calm_same old new same = record {
-  reads = ap (λ (s : Site). s.store.faults) same;
-  trees = ap (λ (s : Site). s.store.returned) same;
-  deaths = ap (λ (s : Site). s.deaths) same;
-}
-
-no_command : (error : WordsError) (named : Command) (read : Result Command WordsError) → read ≡ Ok named → read ≡ Err error → ⊥
-no_command error named read is also = cc
-
-one_command : (this other : Command) (read : Result Command WordsError) → read ≡ Ok this → read ≡ Ok other → this ≡ other
-one_command this other read is also = cc
-
-no_help : (env : List ℕ) → command.Help ≡ command.Compile env → ⊥
-no_help env is = cc
-
-same_env : (env other : List ℕ) → command.Compile env ≡ command.Compile other → env ≡ other
-same_env env other is = cc
-
--- the words `deps.compile` come to a compile
-comes_compile : (compile : Content → Outcome) (words : List (List ℕ)) (passage : Passage) (reply : Reply) → command_of words ≡ Ok (command.Compile dev) → Comes compile words passage reply → Compiles compile (build_of dev host) passage reply
-comes_compile compile words passage reply is (misread at also m) = absurd (no_command _ _ (command_of words) is also)
-comes_compile compile words passage reply is (asked (command.Help) also h) = absurd (no_help dev (one_command command.Help (command.Compile dev) (command_of words) also is))
-comes_compile compile words passage reply is (asked (command.Compile env) also d) =
-    subst (λ (e : List ℕ). Compiles compile (build_of e host) passage reply) (same_env env dev (one_command (command.Compile env) (command.Compile dev) (command_of words) also is)) d
-comes_compile compile words passage reply is (unheard same e line) = unplanned same e line
-
-no_both : OnePlan → (files : List File) (jobs : List Job) (error : PlanError) → IsPlan files dev host (Ok jobs) → IsPlan files dev host (Err error) → ⊥
-no_both one files jobs error is also = let same = one files dev host (Ok jobs) (Err error) is also in cc
-
-one_jobs : OnePlan → (files : List File) (jobs other : List Job) → IsPlan files dev host (Ok jobs) → IsPlan files dev host (Ok other) → jobs ≡ other
-one_jobs one files jobs other is also = let same = one files dev host (Ok jobs) (Ok other) is also in cc
-
-one_error : OnePlan → (files : List File) (error other : PlanError) → IsPlan files dev host (Err error) → IsPlan files dev host (Err other) → error ≡ other
-one_error one files error other is also = let same = one files dev host (Err error) (Err other) is also in cc
-
--- a plan of `dev` with these jobs
-dev_plan : (old : Known) (plan : Plan) (jobs : List Job) → IsPlanFor (build_of dev host) old plan → plan.jobs ≡ jobs → plan ≡ record { env = dev; jobs = jobs }
-dev_plan old plan jobs is same =
-    ap (λ (env : List ℕ). record { env = env; jobs = plan.jobs }) is.named ∙ ap (λ (js : List Job). record { env = dev; jobs = js }) same
-
-works_built : (compile : Content → Outcome) (jobs : List Job) (old new : World) (result : Status) (reply : Reply) → NoneRose old new → new.sink.taken ≡ with_bytes old.sink.taken reply.text → result ≡ reply.status → Builds compile (record { env = dev; jobs = jobs }) (passage_of old.site new.site) reply → EndsBuilt compile jobs old new result
-works_built compile jobs old new result reply none taken ended (built b) =
-    ends_built reply.text (subst (λ (s : Status). Built compile (record { env = dev; jobs = jobs }) (passage_of old.site new.site) (reply_of s reply.text)) (sym ended) b) taken
-works_built compile jobs old new result reply none taken ended (read_fault rose e line) = absurd (none.reads rose)
-works_built compile jobs old new result reply none taken ended (tree_fault rose e line) = absurd (none.trees rose)
-works_built compile jobs old new result reply none taken ended (died d) = absurd (none.deaths d.rose)
-works_built compile jobs old new result reply none taken ended (no_memory calm e line) =
-    built_unsaid calm (ended ∙ e) (taken ∙ ap (with_bytes old.sink.taken) line)
-
-module _ (one : OnePlan) (compile : Content → Outcome) (files : List File) (old new : World) (told : old.site.store.sources ≡ Some files) where
-  first_is : {answer : Result (List Job) PlanError} → Told old.site.store (λ fs. IsPlan fs dev host) answer → IsPlan files dev host answer
-  first_is {answer = answer} is = told_at old.site.store files answer told is
-
-  -- what was said in full, of what a compile came to
-  said_built : (jobs : List Job) (result : Status) (reply : Reply) → IsPlan files dev host (Ok jobs) → NoneRose old new → new.sink.taken ≡ with_bytes old.sink.taken reply.text → result ≡ reply.status → Compiles compile (build_of dev host) (passage_of old.site new.site) reply → EndsBuilt compile jobs old new result
-  said_built jobs result reply is none taken ended (refused error r) = absurd (no_both one files jobs error is (first_is r.first))
-  said_built jobs result reply is none taken ended (unread rose slot e line) = absurd (none.reads rose)
-  said_built jobs result reply is none taken ended (unplanned same e line) =
-      built_unsaid (calm_same old.site new.site same) (ended ∙ e) (taken ∙ ap (with_bytes old.sink.taken) line)
-  said_built jobs result reply is none taken ended (planned plan own w) =
-      works_built compile jobs old new result reply none taken ended
-      (subst (λ (p : Plan). Builds compile p (passage_of old.site new.site) reply) (dev_plan old.site.store plan jobs own (one_jobs one files plan.jobs jobs (first_is own.first) is)) w.ends)
-
-  said_refused : (error : PlanError) (result : Status) (reply : Reply) → IsPlan files dev host (Err error) → NoneRose old new → new.sink.taken ≡ with_bytes old.sink.taken reply.text → result ≡ reply.status → Compiles compile (build_of dev host) (passage_of old.site new.site) reply → EndsRefused error old new result
-  said_refused error result reply is none taken ended (refused other r) =
-      subst (λ (x : PlanError). EndsRefused x old new result) (one_error one files other error (first_is r.first) is) (ends_refused r.same (ended ∙ r.ended) (taken ∙ ap (with_bytes old.sink.taken) r.line))
-  said_refused error result reply is none taken ended (unread rose slot e line) = absurd (none.reads rose)
-  said_refused error result reply is none taken ended (unplanned same e line) =
-      refused_unsaid same (ended ∙ e) (taken ∙ ap (with_bytes old.sink.taken) line)
-  said_refused error result reply is none taken ended (planned plan own w) = absurd (no_both one files plan.jobs error (first_is own.first) is)
-
-  refused_same : (error : PlanError) (reply : Reply) → IsPlan files dev host (Err error) → Compiles compile (build_of dev host) (passage_of old.site new.site) reply → new.site.store.slot ≡ old.site.store.slot
-  refused_same error reply is (refused other r) = ap (λ (s : Site). s.store.slot) r.same
-  refused_same error reply is (unread rose slot e line) = slot
-  refused_same error reply is (unplanned same e line) = ap (λ (s : Site). s.store.slot) same
-  refused_same error reply is (planned plan own w) = absurd (no_both one files plan.jobs error (first_is own.first) is)
-
-pub plans_are_built : OnePlan → PlansAreBuilt
-plans_are_built one compile words files jobs old new result ends c is none = at ends.says
+-- a compile that has come to its end is that of a plan of the files
+in_turn : (setting : Setting) (choice : Chosen) (trace : Bool) (crossing : Crossing) (ended : Status) (reply : Reply) → IsDone reply.status
+    → crossing.new.sink.taken ≡ with_bytes crossing.old.sink.taken reply.text → ended ≡ reply.status → CompilesBy setting choice trace (passage_in crossing) reply
+    → IsInTurn setting.nature choice trace crossing ended
+in_turn setting choice trace crossing ended reply done taken is by = at by.ends
   where
-    at : Says ends.reply old.sink new.sink result → EndsBuilt compile jobs old new result
-    at (said taken same ended) =
-        said_built one compile files old new c.told jobs result ends.reply is none taken ended (comes_compile compile words (passage_of old.site new.site) ends.reply c.asked ends.comes)
-    at (cut part taken rose ended) = absurd (none.sink rose)
+    at : Compiles setting.nature (asked_of (build_in choice) trace) (by_maker (passage_in crossing)) (came_to reply by.history) → IsInTurn setting.nature choice trace crossing ended
+    at (refused error r empty same) = absurd (refused_undone error (subst IsDone r.ended done))
+    at (unread_store rose slots makers says) = absurd (stopped_undone Read reply (ap (λ (c : Came). c.reply) says) done)
+    at (unplanned same says) = absurd (stopped_undone Memory reply (ap (λ (c : Came). c.reply) says) done)
+    at (planned plan own works) = record {
+      plan = plan;
+      planned = own;
+      leaves = λ known trusts. let right = works.right known trusts in record {
+        tree = right.tree done;
+        history = by.history;
+        text = taken ∙ ap (with_bytes crossing.old.sink.taken) (right.text done);
+        status = is ∙ right.ended done;
+      };
+      stays = λ known trusts. (works.right known trusts).stays;
+    }
 
-pub refused_files_are_refused : OnePlan → RefusedFilesAreRefused
-refused_files_are_refused one compile words files error old new result ends c is none = at ends.says
+pub compiles_are_in_turn : OneCommand → CompilesAreInTurn
+compiles_are_in_turn one setting words choice trace crossing ended runs asks done = told runs.says
   where
-    at : Says ends.reply old.sink new.sink result → EndsRefused error old new result
-    at (said taken same ended) =
-        said_refused one compile files old new c.told error result ends.reply is none taken ended (comes_compile compile words (passage_of old.site new.site) ends.reply c.asked ends.comes)
-    at (cut part taken rose ended) = absurd (none.sink rose)
+    come : runs.reply.status ≡ ended → crossing.new.sink.taken ≡ with_bytes crossing.old.sink.taken runs.reply.text → ComesBy setting choice asks.count trace (passage_in crossing) runs.reply
+        → IsInTurn setting.nature choice trace crossing ended
+    come is taken (compiles has by) = in_turn setting choice trace crossing ended runs.reply (subst IsDone (sym is) done) taken (sym is) by
+    come is taken (miscounts mis same says) = absurd (subst IsDone (sym is ∙ ap (λ (r : Reply). r.status) says) done)
+    come is taken (forgets same says) = absurd (stopped_undone Memory runs.reply says (subst IsDone (sym is) done))
+    told : Says runs.reply crossing.old.sink crossing.new.sink ended → IsInTurn setting.nature choice trace crossing ended
+    told (said taken same is) =
+        come (sym is) taken (comes_compile one setting words choice asks.count trace (passage_in crossing) runs.reply asks.means runs.comes)
+    told (cut part taken rose is) = absurd (subst IsDone is done)
 
-pub refused_files_leave_the_tree : OnePlan → RefusedFilesLeaveTheTree
-refused_files_leave_the_tree one compile words files error old new result ends c is =
-    refused_same one compile files old new c.told error ends.reply is (comes_compile compile words (passage_of old.site new.site) ends.reply c.asked ends.comes)
+-- ---- words that are no command
 
-comes_same : (compile : Content → Outcome) (words : List (List ℕ)) (error : WordsError) (passage : Passage) (reply : Reply) → command_of words ≡ Err error → Comes compile words passage reply → passage.new ≡ passage.old
-comes_same compile words error passage reply is (misread at also m) = misread_same at passage reply m
-comes_same compile words error passage reply is (asked named also d) = absurd (no_command error named (command_of words) also is)
-comes_same compile words error passage reply is (unheard same e line) = same
+comes_same : (setting : Setting) (words : List (List ℕ)) (passage : Passage) (reply : Reply) → ((command : Command) × Means words command → ⊥) → Comes setting words passage reply
+    → passage.new ≡ passage.old
+comes_same setting words passage reply nothing (misread at refused same says) = same
+comes_same setting words passage reply nothing (asked command means does) = absurd (nothing (command, means))
+comes_same setting words passage reply nothing (unread same says) = same
 
 pub bad_words_change_nothing : BadWordsChangeNothing
-bad_words_change_nothing compile words error old new result ends is =
-    comes_same compile words error (passage_of old.site new.site) ends.reply is ends.comes
+bad_words_change_nothing setting words at crossing ended runs refused = comes_same setting words (passage_in crossing) runs.reply refused.nothing runs.comes
+
+-- ---- plans and refusals
+
+unremembered : (crossing : Crossing) (ended : Status) (reply : Reply) → crossing.new.sink.taken ≡ with_bytes crossing.old.sink.taken reply.text → ended ≡ reply.status
+    → reply ≡ stopped Memory → Unremembered crossing ended
+unremembered crossing ended reply taken is says = record {
+  status = is ∙ ap (λ (r : Reply). r.status) says;
+  text = taken ∙ ap (λ (r : Reply). with_bytes crossing.old.sink.taken r.text) says;
+}
+
+no_both : OnePlan → (files : List File) (env target : List ℕ) (jobs : List Job) (error : PlanError) → IsPlan files env target (Ok jobs) → IsPlan files env target (Err error) → ⊥
+no_both one files env target jobs error is also = let same = one files env target (Ok jobs) (Err error) is also in cc
+
+one_error : OnePlan → (files : List File) (env target : List ℕ) (error other : PlanError) → IsPlan files env target (Err error) → IsPlan files env target (Err other) → error ≡ other
+one_error one files env target error other is also = let same = one files env target (Err error) (Err other) is also in cc
+
+-- where the store, the maker and the compiler are as before, so is the site
+all_same : (passage : Passage) → (by_maker passage).new ≡ (by_maker passage).old → passage.new.deaths ≡ passage.old.deaths → passage.new ≡ passage.old
+all_same passage same deaths =
+    ap (λ (s : compile.Site). site_of s.store s.maker passage.new.deaths) same ∙ ap (site_of passage.old.store passage.old.maker) deaths
+
+-- what is told of a list of files is so of the files that are told
+told_at : (sources : Option (List File)) (files : List File) (Is : List File → Type 0) → sources ≡ Some files → IfSome sources Is → Is files
+told_at sources files Is is told = subst (λ (o : Option (List File)). IfSome o Is) is told
+
+plan_built : OnePlan → (setting : Setting) (choice : Chosen) (trace : Bool) (files : List File) (jobs : List Job) (crossing : Crossing) (ended : Status) (reply : Reply)
+    → crossing.old.site.store.sources ≡ Some files → IsPlan files choice.env choice.target (Ok jobs) → NoneRose crossing.old crossing.new
+    → crossing.new.sink.taken ≡ with_bytes crossing.old.sink.taken reply.text → ended ≡ reply.status → CompilesBy setting choice trace (passage_in crossing) reply
+    → IsDone ended ⊎ Unremembered crossing ended
+plan_built one setting choice trace files jobs crossing ended reply told has none taken is by = at by.ends
+  where
+    Result : Type 0
+    Result = IsDone ended ⊎ Unremembered crossing ended
+    works : (plan : Plan) → Builds setting.nature (asked_of (build_in choice) trace) plan (by_maker (passage_in crossing)) (came_to reply by.history) → Result
+    works plan (built b) = inl (subst IsDone (sym (is ∙ b.ended)) (fates_done b.fates))
+    works plan (read_fault (inl rose) says) = absurd (none.reads rose)
+    works plan (read_fault (inr rose) says) = absurd (none.trees rose)
+    works plan (tree_fault rose says) = absurd (none.trees rose)
+    works plan (died dies) = absurd (none.deaths dies.rose)
+    works plan (maker_fault rose says) = absurd (none.makers rose)
+    works plan (no_memory calm says) = inr (unremembered crossing ended reply taken is says)
+    at : Compiles setting.nature (asked_of (build_in choice) trace) (by_maker (passage_in crossing)) (came_to reply by.history) → Result
+    at (refused error r empty same) =
+        absurd (no_both one files choice.env choice.target jobs error has (told_at crossing.old.site.store.sources files (λ fs. IsPlan fs choice.env choice.target (Err error)) told r.first))
+    at (unread_store rose slots makers says) = absurd (none.reads rose)
+    at (unplanned same says) = inr (unremembered crossing ended reply taken is (ap (λ (c : Came). c.reply) says))
+    at (planned plan own w) = works plan w.ends
+
+pub plans_are_built : OneCommand → OnePlan → PlansAreBuilt
+plans_are_built one_command one setting words choice files jobs crossing ended runs asks has none = said_so runs.says
+  where
+    come : ended ≡ runs.reply.status → crossing.new.sink.taken ≡ with_bytes crossing.old.sink.taken runs.reply.text
+        → ComesBy setting choice asks.count asks.trace (passage_in crossing) runs.reply → IsDone ended ⊎ Unremembered crossing ended
+    come is taken (compiles has_count by) = plan_built one setting choice asks.trace files jobs crossing ended runs.reply asks.told has none taken is by
+    come is taken (miscounts mis same says) = absurd (no_miscount asks.count setting.count asks.counts mis)
+    come is taken (forgets same says) = inr (unremembered crossing ended runs.reply taken is says)
+    said_so : Says runs.reply crossing.old.sink crossing.new.sink ended → IsDone ended ⊎ Unremembered crossing ended
+    said_so (said taken same is) =
+        come is taken (comes_compile one_command setting words choice asks.count asks.trace (passage_in crossing) runs.reply asks.means runs.comes)
+    said_so (cut part taken rose is) = absurd (none.sink rose)
+
+plan_refused : OnePlan → (setting : Setting) (choice : Chosen) (trace : Bool) (files : List File) (error : PlanError) (crossing : Crossing) (ended : Status) (reply : Reply)
+    → crossing.old.site.store.sources ≡ Some files → IsPlan files choice.env choice.target (Err error) → NoneRose crossing.old crossing.new
+    → crossing.new.sink.taken ≡ with_bytes crossing.old.sink.taken reply.text → ended ≡ reply.status → CompilesBy setting choice trace (passage_in crossing) reply
+    → IsRefused error crossing ended ⊎ Unremembered crossing ended
+plan_refused one setting choice trace files error crossing ended reply told has none taken is by = at by.ends
+  where
+    at : Compiles setting.nature (asked_of (build_in choice) trace) (by_maker (passage_in crossing)) (came_to reply by.history)
+        → IsRefused error crossing ended ⊎ Unremembered crossing ended
+    at (refused other r empty same) =
+        let own = one_error one files choice.env choice.target other error
+            (told_at crossing.old.site.store.sources files (λ fs. IsPlan fs choice.env choice.target (Err other)) told r.first) has in
+        inl (subst (λ (e : PlanError). IsRefused e crossing ended) own (record {
+          same = all_same (passage_in crossing) same by.alone;
+          status = is ∙ r.ended;
+          text = taken ∙ ap (with_bytes crossing.old.sink.taken) r.line;
+        }))
+    at (unread_store rose slots makers says) = absurd (none.reads rose)
+    at (unplanned same says) = inr (unremembered crossing ended reply taken is (ap (λ (c : Came). c.reply) says))
+    at (planned plan own w) =
+        absurd (no_both one files choice.env choice.target plan.jobs error (told_at crossing.old.site.store.sources files (λ fs. IsPlan fs choice.env choice.target (Ok plan.jobs)) told own.first) has)
+
+pub refused_files_are_refused : OneCommand → OnePlan → RefusedFilesAreRefused
+refused_files_are_refused one_command one setting words choice files error crossing ended runs asks has none = said_so runs.says
+  where
+    come : ended ≡ runs.reply.status → crossing.new.sink.taken ≡ with_bytes crossing.old.sink.taken runs.reply.text
+        → ComesBy setting choice asks.count asks.trace (passage_in crossing) runs.reply → IsRefused error crossing ended ⊎ Unremembered crossing ended
+    come is taken (compiles has_count by) = plan_refused one setting choice asks.trace files error crossing ended runs.reply asks.told has none taken is by
+    come is taken (miscounts mis same says) = absurd (no_miscount asks.count setting.count asks.counts mis)
+    come is taken (forgets same says) = inr (unremembered crossing ended runs.reply taken is says)
+    said_so : Says runs.reply crossing.old.sink crossing.new.sink ended → IsRefused error crossing ended ⊎ Unremembered crossing ended
+    said_so (said taken same is) =
+        come is taken (comes_compile one_command setting words choice asks.count asks.trace (passage_in crossing) runs.reply asks.means runs.comes)
+    said_so (cut part taken rose is) = absurd (none.sink rose)

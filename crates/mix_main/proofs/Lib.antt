@@ -1,9 +1,3 @@
-pub mod ApartLemmas
-pub mod CallLemmas
 pub mod CompileLemmas
+pub mod DoneLemmas
 pub mod LawLemmas
-pub mod NameLemmas
-pub mod PartLemmas
-pub mod PutLemmas
-pub mod StandLemmas
-pub mod TreeLemmas

@@ -1,137 +1,82 @@
 // The top call.
-ghost use Rattle.std.specs.Prelude.{◌≡◌, map, string_bytes};
-ghost use Rattle.mx_base.specs.BuildName.{HasBuildName, build_name, host};
+ghost use Rattle.std.specs.Prelude.{◌≡◌, map, option_map, string_bytes};
 ghost use Rattle.tree_store.specs.Slot.{AllHere};
-ghost use Rattle.build_plan.specs.Plan.{build_of};
-ghost use Rattle.mix_main.specs.Answer.{reply_in, status_in, text_in};
-ghost use Rattle.mix_main.specs.Compile.{Compiles, MayStand};
-ghost use Rattle.mix_main.specs.Ends.{Comes, Does, Ends, IsNamed, Misread, Says};
-ghost use Rattle.mix_main.specs.Tree.{StaysElsewhere};
-ghost use Rattle.mix_main.specs.Words.{dev};
-ghost use Rattle.mix_main.specs.World.{Keeps, Site, passage_of, site_of, world_of};
+ghost use Rattle.kept_tree.specs.Faults.{KeepsRest};
+ghost use Rattle.mix_answer.specs.Answer.{reply_in};
+ghost use Rattle.mix_answer.specs.declared.status.Status.TheVariants.{BadWords};
+ghost use Rattle.partition_crew.specs.Station.{nature_by};
+ghost use Rattle.mix_main.specs.Does.{TellsOr};
+ghost use Rattle.mix_main.specs.Ends.{Comes, Runs};
+ghost use Rattle.mix_main.specs.Setting.{setting_of};
+ghost use Rattle.mix_main.specs.Site.{crossing_of, passage_of, site_of};
+ghost use Rattle.mix_main.specs.Texts.{bad_words_line};
 
-use crate::answer::{Answer, Stop};
-use crate::command::{Command, WordsError, name, read_words};
-use crate::compile::compile;
-use crate::help::help;
-use crate::status::Status;
+use crate::asking::answer_to;
 use compile_model::Compiler;
-use mx_base::{AppName, HOST, Sink, push_decimal};
+use mix_answer::{Answer, Status, Stop, say};
+use mix_words::{WordsError, read_words};
+use mx_base::{Sink, push_decimal};
+use partition_face::Maker;
 use std::alloc::Global;
 use tree_store::Store;
 
-/// Does what the words of the command line say, in the environment `dev` for the target `host`, and writes what there is to say of it.
+/// Does what the words of the command line say, and writes what there is to say of it.
 ///
-/// The answer is the status of the program. What it tells of the tree, of the sink and of what failed is the relation
-/// `Ends`, a way to end for each of its constructors. After any status the builds of `dev` hold some of the files that
-/// they held, each whole, or each the first output files of its app, of which the last may be cut off (`stands`);
-/// elsewhere nothing changed, nor in the project's files, and each folder is given back.
-pub fn run<S: Store, C: Compiler, K: Sink>(
+/// The answer is the status of the program. The words come to a status and a text, each with its cause, by `Comes`, a way
+/// to end for each of its constructors; what becomes of these at the sink is `Ends`. The count variable says how many
+/// partitions a compile asks for where the words don't: any number of them is read, and one partition is started. The
+/// project's files stay, and each folder is given back.
+pub fn run<S: Store, M: Maker, C: Compiler, K: Sink>(
     alloc: Global,
     words: &[String],
+    count_variable: Option<&str>,
     store: &mut S,
+    maker: &mut M,
     compiler: &mut C,
     out: &mut K,
 ) -> Status
     requires { AllHere (S.known store.old).slot }
-    ensures ends { Ends (Comes C.compile_of (map (λ word. string_bytes word) words.now))
-        (world_of (S.known store.old) (C.deaths compiler.old) (K.known out.old))
-        (world_of (S.known store.new) (C.deaths compiler.new) (K.known out.new)) result }
-    ensures stands { MayStand C.compile_of (build_of dev host) (S.known store.old)
-        (S.known store.new) }
-    ensures elsewhere { StaysElsewhere dev (S.known store.old).slot (S.known store.new).slot }
-    ensures keeps { Keeps (S.known store.old) (S.known store.new) }
+    ensures runs { Runs (setting_of (nature_by (M.P.honest × S.F.tells) M.P.lasting M.P.compile_of)
+        C.compile_of (option_map (λ text. text.now) count_variable))
+        (map (λ word. string_bytes word) words.now)
+        (crossing_of (passage_of
+        (site_of (S.known store.old) (M.known maker.old) (C.deaths compiler.old))
+        (site_of (S.known store.new) (M.known maker.new) (C.deaths compiler.new)))
+        (K.known out.old) (K.known out.new)) result }
+    ensures keeps { KeepsRest (S.known store.old) (S.known store.new) }
 {
-    let answer = answer(alloc, words, store, compiler);
+    let answer = answer(alloc, words, count_variable, store, maker, compiler);
     say(out, &answer)
 }
 
-/// Compiles the dependencies of a project for a target one after another from an empty environment, and writes the report.
-pub fn plain_compile<S: Store, C: Compiler, K: Sink>(
-    alloc: Global,
-    env: &AppName,
-    target: &AppName,
-    store: &mut S,
-    compiler: &mut C,
-    out: &mut K,
-) -> Status
-    requires here { AllHere (S.known store.old).slot }
-    requires named { HasBuildName env.now target.now }
-    ensures ends { Ends (Compiles C.compile_of (build_of env.now target.now))
-        (world_of (S.known store.old) (C.deaths compiler.old) (K.known out.old))
-        (world_of (S.known store.new) (C.deaths compiler.new) (K.known out.new)) result }
-    ensures stands { MayStand C.compile_of (build_of env.now target.now) (S.known store.old)
-        (S.known store.new) }
-    ensures elsewhere { StaysElsewhere (build_name env.now target.now) (S.known store.old).slot
-        (S.known store.new).slot }
-    ensures keeps { Keeps (S.known store.old) (S.known store.new) }
-{
-    let built = compile(alloc, env, target, store, compiler);
-    say(out, &built)
-}
-
 // What the words come to.
-#[tactic(auto, using(crate::proofs::CallLemmas::asks_named))]
-fn answer<S: Store, C: Compiler>(
+fn answer<S: Store, M: Maker, C: Compiler>(
     alloc: Global,
     words: &[String],
+    count_variable: Option<&str>,
     store: &mut S,
+    maker: &mut M,
     compiler: &mut C,
 ) -> Result<Answer, Stop>
     requires { AllHere (S.known store.old).slot }
-    ensures comes { Comes C.compile_of (map (λ word. string_bytes word) words.now)
-        (passage_of (site_of (S.known store.old) (C.deaths compiler.old))
-        (site_of (S.known store.new) (C.deaths compiler.new))) (reply_in result) }
-    ensures keeps { Keeps (S.known store.old) (S.known store.new) }
+    ensures comes { Comes (setting_of (nature_by (M.P.honest × S.F.tells) M.P.lasting M.P.compile_of)
+        C.compile_of (option_map (λ text. text.now) count_variable))
+        (map (λ word. string_bytes word) words.now)
+        (passage_of (site_of (S.known store.old) (M.known maker.old) (C.deaths compiler.old))
+        (site_of (S.known store.new) (M.known maker.new) (C.deaths compiler.new)))
+        (reply_in result) }
+    ensures keeps { KeepsRest (S.known store.old) (S.known store.new) }
 {
     match read_words(alloc, words) {
-        Ok(command) => answer_to(alloc, &command, store, compiler),
+        Ok(command) => answer_to(alloc, &command, count_variable, store, maker, compiler),
         Err(WordsError::Refused { at }) => misread(alloc, at),
         Err(WordsError::OutOfMemory) => Err(Stop::Memory),
     }
 }
 
-// What a command comes to.
-fn answer_to<S: Store, C: Compiler>(
-    alloc: Global,
-    command: &Command,
-    store: &mut S,
-    compiler: &mut C,
-) -> Result<Answer, Stop>
-    requires here { AllHere (S.known store.old).slot }
-    requires named { IsNamed command.now }
-    ensures does { Does C.compile_of command.now
-        (passage_of (site_of (S.known store.old) (C.deaths compiler.old))
-        (site_of (S.known store.new) (C.deaths compiler.new))) (reply_in result) }
-    ensures keeps { Keeps (S.known store.old) (S.known store.new) }
-{
-    match command {
-        Command::Help => help(alloc),
-        Command::Compile { env } => compile_here(alloc, env, store, compiler),
-    }
-}
-
-// What compiling for the machine at hand comes to.
-fn compile_here<S: Store, C: Compiler>(
-    alloc: Global,
-    env: &AppName,
-    store: &mut S,
-    compiler: &mut C,
-) -> Result<Answer, Stop>
-    requires here { AllHere (S.known store.old).slot }
-    requires named { HasBuildName env.now host }
-    ensures ends { Compiles C.compile_of (build_of env.now host)
-        (passage_of (site_of (S.known store.old) (C.deaths compiler.old))
-        (site_of (S.known store.new) (C.deaths compiler.new))) (reply_in result) }
-    ensures keeps { Keeps (S.known store.old) (S.known store.new) }
-{
-    let target = name(alloc, HOST.as_bytes())?;
-    compile(alloc, env, &target, store, compiler)
-}
-
 // The place of the first word that fits no command.
 fn misread(alloc: Global, at: u64) -> Result<Answer, Stop>
-    ensures { (site : Site) → Misread at (passage_of site site) (reply_in result) }
+    ensures { TellsOr BadWords (bad_words_line at) result }
 {
     let mut text = Vec::from_slice(alloc, b"mixc: bad words at ")?;
     push_decimal(alloc, &mut text, at)?;
@@ -140,32 +85,4 @@ fn misread(alloc: Global, at: u64) -> Result<Answer, Stop>
         status: Status::BadWords,
         text,
     })
-}
-
-// Writes the text of an answer, with which its status goes.
-fn say<K: Sink>(out: &mut K, answer: &Result<Answer, Stop>) -> Status
-    ensures { Says (reply_in answer.now) (K.known out.old) (K.known out.new) result }
-{
-    match out.write(text_in(answer)) {
-        Ok(()) => status_in(answer),
-        Err(_) => Status::WriteFault,
-    }
-}
-
-fn status_in(answer: &Result<Answer, Stop>) -> Status
-    ensures { result ≡ status_in answer.now }
-{
-    match answer {
-        Ok(answer) => answer.status,
-        Err(stop) => stop.status(),
-    }
-}
-
-fn text_in(answer: &Result<Answer, Stop>) -> &[u8]
-    ensures { result.now ≡ text_in answer.now }
-{
-    match answer {
-        Ok(answer) => &answer.text,
-        Err(stop) => stop.line(),
-    }
 }

@@ -1,12 +1,28 @@
 // What follows from how a call ends.
-ghost use Rattle.mix_main.specs.Laws.{BadWordsChangeNothing, PlansAreBuilt, RefusedFilesAreRefused, RefusedFilesLeaveTheTree};
+ghost use Rattle.mix_main.specs.Laws.{BadWordsChangeNothing, CompilesAreInTurn, PlansAreBuilt, RefusedFilesAreRefused};
 
 use build_plan::one_plan;
+use mix_words::one_command;
 
-/// Where the files have a plan and nothing fails outside, `deps.compile` builds it, unless memory runs out.
+/// `deps.compile` that ends with status 0 or 1 leaves the tree, the report and the status of compiling one job after
+/// another from an empty tree, where the partitions are honest and the tree was honest.
+pub fn compiles_are_in_turn()
+    ensures { CompilesAreInTurn }
+{
+    one_command();
+}
+
+/// Words that are no command change nothing, whatever the status.
+pub fn bad_words_change_nothing()
+    ensures { BadWordsChangeNothing }
+{}
+
+/// Where the files have a plan and nothing fails outside, `deps.compile` ends with status 0 or 1, unless memory runs
+/// out.
 pub fn plans_are_built()
     ensures { PlansAreBuilt }
 {
+    one_command();
     one_plan();
 }
 
@@ -14,18 +30,6 @@ pub fn plans_are_built()
 pub fn refused_files_are_refused()
     ensures { RefusedFilesAreRefused }
 {
+    one_command();
     one_plan();
 }
-
-/// Files that are refused leave the tree, whatever the status.
-pub fn refused_files_leave_the_tree()
-    ensures { RefusedFilesLeaveTheTree }
-{
-    one_plan();
-}
-
-/// Words that are no command change nothing, whatever the status.
-#[tactic(auto, using(crate::proofs::LawLemmas::bad_words_change_nothing))]
-pub fn bad_words_change_nothing()
-    ensures { BadWordsChangeNothing }
-{}

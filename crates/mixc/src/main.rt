@@ -1,4 +1,4 @@
-//! The program `mixc`. Its stored run is that of three dependencies that need one another: status 0.
+//! The program `mixc`. Its stored run is that of three dependencies that need one another, with a trace: status 0.
 #![tactic(auto)]
 
 use mixc_call::run_here;

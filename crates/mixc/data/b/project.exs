@@ -1,1 +1,1 @@
-[app: :b, version: "1.0.0"]
+[app: :b, version: "1.0.0", deps: [{:a, path: "../a"}]]

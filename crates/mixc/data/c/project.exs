@@ -1,1 +1,1 @@
-[app: :c, version: "1.0.0"]
+[app: :c, version: "1.0.0", deps: [{:b, path: "../b"}]]

@@ -1,8 +1,0 @@
-use Rattle.std.proofs.Common.{refl}
-use Rattle.mix_main.specs.Ends.Says.{cut}
-use Rattle.mix_main.proofs.call.say.Goals as goal
-
-pub returns-in-Err : goal.returns-in-Err
-returns-in-Err g c =
-    let took = c.in-Err.ensures in
-    cut took.taken.0 (rw c.text_in.ensures at took.taken.1) (took.cause.rose refl) refl
