@@ -4,11 +4,12 @@ ghost use Rattle.tree_store.specs.Slot.{AllHere};
 use crate::runs::{Call, push_ending, run_call, unfailing};
 use crate::trees::{push_tree, read_tree};
 use case_texts::{Fault, app_name, folder, number_of, push_after, say, store_of, word};
-use compile_model::EchoCompiler;
+use compile_model::{Compiler, EchoCompiler};
 use mx_base::{AppName, Bytes};
-use partition_face::EchoMaker;
+use partition_face::{EchoMaker, Maker};
 use std::alloc::Global;
 use tree_store::{Folder, Store, StoreFault};
+use unit_compile::{UnitCompiler, UnitMaker};
 
 /// Steps, each of three texts, over a project that begins without files: what each step shows, with `;` after it, and
 /// last the builds.
@@ -43,7 +44,14 @@ fn step<S: Store>(
         "mark" => mark(alloc, store, first, second),
         "cut" => cut(alloc, store, first, number_of(word(second)?)?),
         "read" => push_mark(alloc, out, store, first),
-        "run" => push_run(alloc, out, store, first, second),
+        "run" => {
+            let (mut maker, mut compiler) = (EchoMaker::new(), EchoCompiler);
+            push_run(alloc, out, &Call::of(alloc, first, second)?, store, &mut maker, &mut compiler)
+        }
+        "units" => {
+            let (mut maker, mut compiler) = (UnitMaker::new(), UnitCompiler);
+            push_run(alloc, out, &Call::of(alloc, first, second)?, store, &mut maker, &mut compiler)
+        }
         _ => Err(Fault::Form),
     }
 }
@@ -147,20 +155,19 @@ fn read_mark<S: Store>(
     mark
 }
 
-/// Runs a command by partitions that never die, and shows how it ends.
-fn push_run<S: Store>(
+/// Runs a command, and shows how it ends.
+fn push_run<S: Store, M: Maker, C: Compiler>(
     alloc: Global,
     out: &mut String,
+    call: &Call,
     store: &mut S,
-    words: &[u8],
-    count: &[u8],
+    maker: &mut M,
+    compiler: &mut C,
 ) -> Result<(), Fault>
     requires { AllHere (S.known store.old).slot }
     ensures { AllHere (S.known store.new).slot }
 {
-    let call = Call::of(alloc, words, count)?;
-    let (mut maker, mut compiler) = (EchoMaker::new(), EchoCompiler);
-    let ending = run_call(alloc, &call, b"", store, &mut maker, &mut compiler)?;
+    let ending = run_call(alloc, call, b"", store, maker, compiler)?;
     push_ending(alloc, out, &ending)?;
     say(out, ";")
 }
