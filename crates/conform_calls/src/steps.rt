@@ -16,15 +16,28 @@ use unit_compile::{UnitCompiler, UnitMaker};
 pub(crate) fn steps_case(alloc: Global, out: &mut String, texts: &[Vec<u8>]) -> Result<(), Fault> {
     let mut store = store_of(alloc, b"", b"", &[])?;
     say(out, "ok")?;
+    take_steps(alloc, out, texts, &mut store)?;
+    let builds = unfailing(read_tree(alloc, &mut store))?;
+    push_tree(alloc, out, builds.as_slice())
+}
+
+fn take_steps<S: Store>(
+    alloc: Global,
+    out: &mut String,
+    texts: &[Vec<u8>],
+    store: &mut S,
+) -> Result<(), Fault>
+    requires { AllHere (S.known store.old).slot }
+    ensures { AllHere (S.known store.new).slot }
+{
     for three in texts.chunks(3) {
         let [name, first, second] = three else {
             return Err(Fault::Form);
         };
         let (first, second) = (first.as_slice(), second.as_slice());
-        step(alloc, out, &mut store, word(name.as_slice())?, first, second)?;
+        step(alloc, out, store, word(name.as_slice())?, first, second)?;
     }
-    let builds = unfailing(read_tree(alloc, &mut store))?;
-    push_tree(alloc, out, builds.as_slice())
+    Ok(())
 }
 
 fn step<S: Store>(
