@@ -23,11 +23,15 @@ struct Left {
     builds: Vec<Build>,
 }
 
-/// `store`, `folder`, `sink` or `partition`, `empty` or `built`, words, and files. Of a run over these files each call of
-/// that thing fails in turn, `built` over the builds of all files but the last, `empty` over none; after each there is
-/// one run more, of which nothing fails. The answer is `same` where all of these leave what a run without builds does,
-/// and end as it does; else the first call after which one doesn't.
-pub(crate) fn failing_case(alloc: Global, out: &mut String, texts: &[Vec<u8>]) -> Result<(), Fault> {
+/// `store`, `folder`, `sink` or `partition`, `empty` or `built`, words, and files. Of a run over these files each call
+/// of that thing fails in turn, `built` over the builds of all files but the last, `empty` over none; after each there
+/// is one run more, of which nothing fails. The answer is `same` where all of these leave what a run without builds
+/// does, and end as it does; else the first call after which one doesn't.
+pub(crate) fn failing_case(
+    alloc: Global,
+    out: &mut String,
+    texts: &[Vec<u8>],
+) -> Result<(), Fault> {
     let [place, over, words, files @ ..] = texts else {
         return Err(Fault::Form);
     };
@@ -85,20 +89,47 @@ fn push_last(out: &mut String, number: usize) -> Result<(), Fault> {
 
 fn failing_at<'a>(place: &str, call: &'a [u8]) -> Result<FailingCalls<'a>, Fault> {
     match place {
-        "store" => Ok(FailingCalls { store: call, ..NEVER }),
-        "folder" => Ok(FailingCalls { folder: call, ..NEVER }),
-        "partition" => Ok(FailingCalls { partition: call, ..NEVER }),
-        "sink" => Ok(FailingCalls { sink: call, ..NEVER }),
+        "store" => Ok(FailingCalls {
+            store: call,
+            ..NEVER
+        }),
+        "folder" => Ok(FailingCalls {
+            folder: call,
+            ..NEVER
+        }),
+        "partition" => Ok(FailingCalls {
+            partition: call,
+            ..NEVER
+        }),
+        "sink" => Ok(FailingCalls {
+            sink: call,
+            ..NEVER
+        }),
         _ => Err(Fault::Form),
     }
 }
 
 /// What a command leaves over builds.
-fn come_to(alloc: Global, scene: Scene, builds: &[Build], failing: &FailingCalls) -> Result<Left, Fault> {
+fn come_to(
+    alloc: Global,
+    scene: Scene,
+    builds: &[Build],
+    failing: &FailingCalls,
+) -> Result<Left, Fault> {
     let mut store = store_of(alloc, failing.store, failing.folder, scene.files)?;
     unfailing(write_tree(alloc, &mut store, builds))?;
-    let Workers { mut maker, mut compiler } = Workers::of(alloc, failing)?;
-    let ending = run_call(alloc, scene.call, failing.sink, &mut store, &mut maker, &mut compiler)?;
+    let Workers {
+        mut maker,
+        mut compiler,
+    } = Workers::of(alloc, failing)?;
+    let ending = run_call(
+        alloc,
+        scene.call,
+        failing.sink,
+        &mut store,
+        &mut maker,
+        &mut compiler,
+    )?;
     let builds = unfailing(read_tree(alloc, &mut store))?;
     Ok(Left { ending, builds })
 }

@@ -1,5 +1,5 @@
-//! The program `conform_calls`: it reads cases from its standard input, one a line, asks the calls that work on whole projects,
-//! and prints each answer on one line. A line that begins with `#` is printed as it is.
+//! The program `conform_calls`: it reads cases from its standard input, one a line, asks the calls that work on whole
+//! projects, and prints each answer on one line. A line that begins with `#` is printed as it is.
 //!
 //! A case is the name of its kind and then texts, with one space before each. `docs/TESTING.md` has the kinds, how
 //! texts are written and what is answered.

@@ -59,11 +59,25 @@ fn step<S: Store>(
         "read" => push_mark(alloc, out, store, first),
         "run" => {
             let (mut maker, mut compiler) = (EchoMaker::new(), EchoCompiler);
-            push_run(alloc, out, &Call::of(alloc, first, second)?, store, &mut maker, &mut compiler)
+            push_run(
+                alloc,
+                out,
+                &Call::of(alloc, first, second)?,
+                store,
+                &mut maker,
+                &mut compiler,
+            )
         }
         "units" => {
             let (mut maker, mut compiler) = (UnitMaker::new(), UnitCompiler);
-            push_run(alloc, out, &Call::of(alloc, first, second)?, store, &mut maker, &mut compiler)
+            push_run(
+                alloc,
+                out,
+                &Call::of(alloc, first, second)?,
+                store,
+                &mut maker,
+                &mut compiler,
+            )
         }
         _ => Err(Fault::Form),
     }
