@@ -1,12 +1,12 @@
 // Cases of steps over one project.
 ghost use Rattle.tree_store.specs.Slot.{AllHere};
 
-use crate::runs::{Call, push_ending, run_call, unfailing};
+use crate::runs::{Call, Ending, push_ending, run_call, unfailing};
 use crate::trees::{push_tree, read_tree};
 use case_texts::{Fault, app_name, folder, number_of, push_after, say, store_of, word};
-use compile_model::{Compiler, EchoCompiler};
+use compile_model::EchoCompiler;
 use mx_base::{AppName, Bytes};
-use partition_face::{EchoMaker, Maker};
+use partition_face::EchoMaker;
 use std::alloc::Global;
 use tree_store::{Folder, Store, StoreFault};
 use unit_compile::{UnitCompiler, UnitMaker};
@@ -57,28 +57,8 @@ fn step<S: Store>(
         "mark" => mark(alloc, store, first, second),
         "cut" => cut(alloc, store, first, number_of(word(second)?)?),
         "read" => push_mark(alloc, out, store, first),
-        "run" => {
-            let (mut maker, mut compiler) = (EchoMaker::new(), EchoCompiler);
-            push_run(
-                alloc,
-                out,
-                &Call::of(alloc, first, second)?,
-                store,
-                &mut maker,
-                &mut compiler,
-            )
-        }
-        "units" => {
-            let (mut maker, mut compiler) = (UnitMaker::new(), UnitCompiler);
-            push_run(
-                alloc,
-                out,
-                &Call::of(alloc, first, second)?,
-                store,
-                &mut maker,
-                &mut compiler,
-            )
-        }
+        "run" => run_echo(alloc, out, store, &Call::of(alloc, first, second)?),
+        "units" => run_units(alloc, out, store, &Call::of(alloc, first, second)?),
         _ => Err(Fault::Form),
     }
 }
@@ -182,19 +162,37 @@ fn read_mark<S: Store>(
     mark
 }
 
-/// Runs a command, and shows how it ends.
-fn push_run<S: Store, M: Maker, C: Compiler>(
+/// Runs a command by the echo rule.
+fn run_echo<S: Store>(
     alloc: Global,
     out: &mut String,
-    call: &Call,
     store: &mut S,
-    maker: &mut M,
-    compiler: &mut C,
+    call: &Call,
 ) -> Result<(), Fault>
     requires { AllHere (S.known store.old).slot }
     ensures { AllHere (S.known store.new).slot }
 {
-    let ending = run_call(alloc, call, b"", store, maker, compiler)?;
-    push_ending(alloc, out, &ending)?;
+    let (mut maker, mut compiler) = (EchoMaker::new(), EchoCompiler);
+    let ending = run_call(alloc, call, b"", store, &mut maker, &mut compiler)?;
+    push_end(alloc, out, &ending)
+}
+
+/// Runs a command that compiles unit files.
+fn run_units<S: Store>(
+    alloc: Global,
+    out: &mut String,
+    store: &mut S,
+    call: &Call,
+) -> Result<(), Fault>
+    requires { AllHere (S.known store.old).slot }
+    ensures { AllHere (S.known store.new).slot }
+{
+    let (mut maker, mut compiler) = (UnitMaker::new(), UnitCompiler);
+    let ending = run_call(alloc, call, b"", store, &mut maker, &mut compiler)?;
+    push_end(alloc, out, &ending)
+}
+
+fn push_end(alloc: Global, out: &mut String, ending: &Ending) -> Result<(), Fault> {
+    push_ending(alloc, out, ending)?;
     say(out, ";")
 }
