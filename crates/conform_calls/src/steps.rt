@@ -1,4 +1,5 @@
 // Cases of steps over one project.
+ghost use Rattle.std.specs.Prelude.{◌≡◌};
 ghost use Rattle.tree_store.specs.Slot.{AllHere};
 
 use crate::runs::{Call, Ending, push_ending, run_call, unfailing};
@@ -142,9 +143,16 @@ fn write_mark<S: Store>(
     ensures { AllHere (S.known store.new).slot }
 {
     let mut folder = store.folder(alloc, env, app)?;
-    let marked = folder.mark(alloc, bytes);
+    let marked = put_mark(alloc, &mut folder, bytes);
     store.give_back(folder);
     marked
+}
+
+#[tactic(auto, using(tree_store::proofs::MomentLemmas::writes_key))]
+fn put_mark<F: Folder>(alloc: Global, folder: &mut F, bytes: &[u8]) -> Result<(), StoreFault>
+    ensures { (F.known folder.new).key ≡ (F.known folder.old).key }
+{
+    folder.mark(alloc, bytes)
 }
 
 fn read_mark<S: Store>(
