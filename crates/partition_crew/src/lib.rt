@@ -13,6 +13,7 @@ mod worked;
 mod working;
 
 pub use building::build_one;
+pub use meant::Meant;
 pub use one::{BuildFault, One};
 pub use worked::Worked;
 pub use working::work;

@@ -4,9 +4,9 @@ use partition_face::Partition;
 use std::marker::PhantomData;
 use tree_store::Folder;
 
-// The meaning of a build by partitions and folders of these types: that of the partitions. It is honest where they
-// are and the folders tell what they hold.
-pub(crate) struct Meant<P: Partition, F: Folder> {
+/// The meaning of a build by partitions and folders of these types: that of the partitions. It is honest where they
+/// are and the folders tell what they hold. No value of it is made.
+pub struct Meant<P: Partition, F: Folder> {
     partitions: PhantomData<P>,
     folders: PhantomData<F>,
 }

@@ -1,0 +1,6 @@
+pub mod Blame
+pub mod Chosen
+pub mod Elements
+pub mod Refusals
+pub mod Said
+pub mod Says

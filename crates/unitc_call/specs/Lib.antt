@@ -1,0 +1,5 @@
+pub mod Words
+pub mod Reading
+pub mod Compile
+pub mod Ends
+pub mod Laws
