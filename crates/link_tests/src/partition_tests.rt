@@ -141,9 +141,9 @@ fn what_is_left_over_is_no_later_verdict(rt: HostRuntime) -> Result<(), Fail> {
     for (pieces, lives) in cases {
         let mut partition = over(alloc, pieces, false, 0)?;
         assert!(rt; ran(alloc, &mut partition)?.is_ok());
-        if partition.counts().deaths == 0 {
-            assert!(rt; ran(alloc, &mut partition)?.is_ok() == lives);
-        }
+        let counts = partition.counts();
+        assert!(rt; counts.runs == 1 && counts.deaths == 0);
+        assert!(rt; ran(alloc, &mut partition)?.is_ok() == lives);
     }
     Ok(())
 }

@@ -23,12 +23,12 @@ module _ {A : Type 0} (f : A → Word) where
   first_words xs rest x e = sym (ap (map f) e)
 
   pub refused_no_words : (xs : List A) → length xs ≡ 0 → IsRefusedAt IsMeant (map f xs) 0
-  refused_no_words xs e = subst (λ (t : List Word). IsRefusedAt IsMeant t 0) (no_words f xs e) refused_empty
+  refused_no_words xs e = subst (λ (t : List Word). IsRefusedAt IsMeant t 0) (no_words xs e) refused_empty
 
   pub refused_first : (xs rest : List A) (x : A) → xs ≡ x ∷ rest → ((verb : Verb) → f x ≡ name_of verb → ⊥) → IsRefusedAt IsMeant (map f xs) 0
-  refused_first xs rest x e never = subst (λ (t : List Word). IsRefusedAt IsMeant t 0) (first_words f xs rest x e) (refused_unnamed (f x) (map f rest) never)
+  refused_first xs rest x e never = subst (λ (t : List Word). IsRefusedAt IsMeant t 0) (first_words xs rest x e) (refused_unnamed (f x) (map f rest) never)
 
   pub refused_behind_name : (verb : Verb) (xs rest : List A) (x : A) (at : ℕ) → xs ≡ x ∷ rest → f x ≡ name_of verb → IsRefusedAt (IsAsked verb) (map f rest) at
       → IsRefusedAt IsMeant (map f xs) (at + 1)
   refused_behind_name verb xs rest x at e named refused =
-      subst (λ (t : List Word). IsRefusedAt IsMeant t (at + 1)) (first_words f xs rest x e) (refused_later verb (f x) (map f rest) at named refused)
+      subst (λ (t : List Word). IsRefusedAt IsMeant t (at + 1)) (first_words xs rest x e) (refused_later verb (f x) (map f rest) at named refused)
