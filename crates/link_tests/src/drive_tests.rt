@@ -50,7 +50,7 @@ fn a_program_is_told_its_job_and_its_needs(rt: HostRuntime) -> Result<(), Fail> 
     let Ok(verdict) = drive(alloc, &mut spawner, &job) else {
         return Err(Fail::new("no verdict"));
     };
-    assert!(rt; verdict.status == 3 && verdict.text.as_slice() == b"no");
+    assert!(rt; verdict.status == 3 && verdict.text.as_slice() == b"no".as_slice());
     assert!(rt; matches!(drive(alloc, &mut spawner, &job), Err(SpawnFault::Failed)));
     let words = texts(
         alloc,

@@ -124,7 +124,7 @@ fn a_job_is_sent_and_its_verdict_comes_in_pieces(rt: HostRuntime) -> Result<(), 
         0,
     )?;
     assert!(rt; ran(alloc, &mut partition)?.is_ok());
-    assert!(rt; partition.into_link().sent() == &JOB);
+    assert!(rt; partition.into_link().sent() == JOB.as_slice());
     Ok(())
 }
 

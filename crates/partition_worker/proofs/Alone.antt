@@ -13,7 +13,7 @@ use Rattle.partition_worker.specs.Ends.Ends.{SaidBye, ClosedBetween, ClosedInsid
 use Rattle.partition_worker.specs.Jobs.{AreServed, Served}
 use Rattle.partition_worker.specs.Serving.{IsServed, Site, build_in}
 use Rattle.partition_worker.specs.Serving.IsServed.{Bare, Compiled, Driven}
-use Rattle.partition_worker.specs.Talking.{Course}
+use Rattle.partition_worker.specs.Talking.{Service}
 use Rattle.partition_worker.specs.Worked.{IsUnasked, OnlyAskedChange}
 
 abbrev slot_in : BuildKey → Site → Slot
@@ -34,7 +34,7 @@ all_alone q [] old new same others = ap (slot_in q) same
 all_alone q (one ∷ jobs) old new served others =
     all_alone q jobs served.0 new served.2 others.1 ∙ one_alone q one.job old served.0 one.verdict served.1 others.0
 
-last_alone : (q : BuildKey) (c : Course) (end : WorkerEnd) → Ends c end → IsUnasked q c → slot_in q c.ended ≡ slot_in q c.served
+last_alone : (q : BuildKey) (c : Service) (end : WorkerEnd) → Ends c end → IsUnasked q c → slot_in q c.ended ≡ slot_in q c.served
 last_alone q c end (SaidBye left stands even unclosed is) un = ap (slot_in q) even.still
 last_alone q c end (ClosedBetween none closed even is) un = ap (slot_in q) even.still
 last_alone q c end (ClosedInside some more closed even is) un = ap (slot_in q) even.still
@@ -45,5 +45,5 @@ last_alone q c end (MemoryOut cut unclosed is) un = ap (slot_in q) cut.still
 
 pub only_asked : OnlyAskedChange
 only_asked hello old new end worked q un =
-    ap (slot_in q) worked.last ∙ last_alone q worked.course end worked.ends un
-    ∙ all_alone q worked.course.jobs old.site worked.course.served worked.served un.jobs
+    ap (slot_in q) worked.last ∙ last_alone q worked.service end worked.ends un
+    ∙ all_alone q worked.service.jobs old.site worked.service.served worked.served un.jobs

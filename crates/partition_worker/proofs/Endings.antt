@@ -18,7 +18,7 @@ use Rattle.partition_worker.specs.Ends.Ends.{SaidBye, ClosedBetween, ClosedInsid
 use Rattle.partition_worker.specs.Ends.IsBad.{NoFrame, OfWorkers}
 use Rattle.partition_worker.specs.Rounds.{Desk, IsUnanswered, end_of}
 use Rattle.partition_worker.specs.Rounds.IsUnanswered.{Unserved, Last, Other}
-use Rattle.partition_worker.specs.Talking.{Course, SaysAll, words_of}
+use Rattle.partition_worker.specs.Talking.{Service, SaysAll, words_of}
 use Rattle.partition_worker.specs.Worked.{Counts, Scene, StoreCounted, Worked, scene_of}
 use Rattle.partition_worker.proofs.Serves.{IsCalmSite, broke_counts, calm_same, calm_twice, counts_later, still}
 use Rattle.partition_worker.proofs.Talks.{came_on, goes_further, only_heard, words_all}
@@ -34,7 +34,7 @@ pub record Ended (hello : Frame) (old new : Scene) (end : WorkerEnd) : Type 0 wh
   pub worked : Worked hello old new end
   pub counts : Counts old new end
 
-pub cut_off : (c : Course) → IsEven c → IsCutOff c
+pub cut_off : (c : Service) → IsEven c → IsCutOff c
 cut_off c even = record { said = (length (words_of c.hello c.jobs), even.said ∙ words_all c.hello c.jobs); still = even.still }
 
 -- the end tells of neither the store nor the spawner
@@ -57,8 +57,8 @@ heard_of came closed = record { sent = []; came = came; closed = closed }
 
 module _ (hello : Frame) (old : Scene) (mid new : Desk) (t : Talks hello old mid) (came : List ℕ) (closed : Bool)
     (told : new.channel.link.talk ≡ option_map (hears came closed) mid.channel.link.talk) where
-  abbrev course : Course
-  course = record {
+  abbrev service : Service
+  service = record {
     hello = hello;
     said = goes_on (heard_of came closed) t.said;
     jobs = t.jobs;
@@ -67,15 +67,15 @@ module _ (hello : Frame) (old : Scene) (mid new : Desk) (t : Talks hello old mid
     ended = new.site;
   }
 
-  says_all : SaysAll course
+  says_all : SaysAll service
   says_all = append-nil t.said.sent ∙ t.words
 
-  closed_is : course.said.closed ≡ closed
+  closed_is : service.said.closed ≡ closed
   closed_is = ap (λ (b : Bool). b || closed) t.unclosed
 
-  worked_by : (end : WorkerEnd) → Ends course end → Worked hello old (end_scene new) end
+  worked_by : (end : WorkerEnd) → Ends service end → Worked hello old (end_scene new) end
   worked_by end ends = record {
-    course = course;
+    service = service;
     speaks = refl;
     told = told ∙ only_heard mid.channel.link.talk came closed ∙ ap (λ told. option_map (goes_on (heard_of came closed)) told) t.told
         ∙ goes_further old.link.talk t.said (heard_of came closed);
@@ -86,13 +86,13 @@ module _ (hello : Frame) (old : Scene) (mid new : Desk) (t : Talks hello old mid
   }
 
 -- the peer closed, with so many bytes left
-ends_closed : (c : Course) (held : ℕ) (empty : Bool) → nat_eq held 0 ≡ empty → length c.rest ≡ held → NeedsMore c.rest → c.said.closed ≡ true → IsEven c
+ends_closed : (c : Service) (held : ℕ) (empty : Bool) → nat_eq held 0 ≡ empty → length c.rest ≡ held → NeedsMore c.rest → c.said.closed ≡ true → IsEven c
     → Ends c (if empty then Closed else BadFrame held)
 ends_closed c held true is long more closed even = ClosedBetween (nil_from_length c.rest (long ∙ eqb-true held 0 is)) closed even refl
 ends_closed c held false is long more closed even =
     ClosedInside (λ none. eqb-false held 0 is (sym long ∙ ap (λ (bytes : List ℕ). length bytes) none)) more closed even (ap BadFrame (sym long))
 
-ends_unheard : (c : Course) (fault : HearFault) (left : List ℕ) → IsHeard c.rest left (Err fault) → c.said.closed ≡ has_closed {T = Frame} (Err fault)
+ends_unheard : (c : Service) (fault : HearFault) (left : List ℕ) → IsHeard c.rest left (Err fault) → c.said.closed ≡ has_closed {T = Frame} (Err fault)
     → IsEven c → Ends c (end_of fault (length left))
 ends_unheard c hear.Failed left heard closed even = LinkFailed (cut_off c even) closed refl
 ends_unheard c hear.Closed left heard closed even =
@@ -125,7 +125,7 @@ pub unheard : (hello : Frame) (old : Scene) (mid new : Desk) → Talks hello old
     → new.site ≡ mid.site → Ended hello old (end_scene new) (end_of fault (length new.channel.held))
 unheard hello old mid new t fault h same =
     let closed = has_closed {T = Frame} (Err fault) in
-    let c = course hello old mid new t h.came closed h.told in
+    let c = service hello old mid new t h.came closed h.told in
     let even : IsEven c = record { said = says_all hello old mid new t h.came closed h.told; still = same } in
     let held = length new.channel.held in record {
       worked = worked_by hello old mid new t h.came closed h.told (end_of fault held)
@@ -141,16 +141,16 @@ pub unanswered : (hello : Frame) (old : Scene) (mid new : Desk) → Talks hello 
     → Hears mid.channel new.channel (Ok frame) → IsUnanswered frame mid.site new.site end → Ended hello old (end_scene new) end
 unanswered hello old mid new t frame end h u = record { worked = worked_by hello old mid new t h.came false h.told end (ends u); counts = counts u }
   where
-    says : SaysAll (course hello old mid new t h.came false h.told)
+    says : SaysAll (service hello old mid new t h.came false h.told)
     says = says_all hello old mid new t h.came false h.told
 
-    unclosed : IsOpen (course hello old mid new t h.came false h.told)
+    unclosed : IsOpen (service hello old mid new t h.came false h.told)
     unclosed = closed_is hello old mid new t h.came false h.told
 
     quiet : new.channel.link.faults ≡ old.link.faults
     quiet = h.cause.kept refl ∙ t.faults
 
-    ends : IsUnanswered frame mid.site new.site end → Ends (course hello old mid new t h.came false h.told) end
+    ends : IsUnanswered frame mid.site new.site end → Ends (service hello old mid new t h.came false h.told) end
     ends (Unserved un) = JobBrokeOff frame new.channel.held h.heard un says unclosed
     ends (Last bye same is) =
         SaidBye new.channel.held (subst (λ (f : Frame). Stands (mid.channel.held ++ h.came) f new.channel.held) bye h.heard)

@@ -12,7 +12,7 @@ use Rattle.partition_worker.specs.Ends.Ends.{LinkFailed, MemoryOut}
 use Rattle.partition_worker.specs.Jobs.{Served, answer_in}
 use Rattle.partition_worker.specs.Rounds.{Desk, IsAnswer, Round, Tells, end_of}
 use Rattle.partition_worker.specs.Rounds.Round.{Unheard, Unanswered, Answered}
-use Rattle.partition_worker.specs.Talking.{Course, words_of}
+use Rattle.partition_worker.specs.Talking.{Service, words_of}
 use Rattle.partition_worker.specs.Worked.{Scene, Worked, scene_of}
 use Rattle.partition_worker.proofs.Serves.{IsCalmSite, calm_same, calm_twice, served_calm, still}
 use Rattle.partition_worker.proofs.Talks.{came_more, came_on, goes_further, heard_then_sent, no_words, nothing_more, only_heard, only_sent, served_more, words_part}
@@ -29,8 +29,8 @@ module _ (hello : Frame) (old : Scene) (mid new : Desk) (t : Talks hello old mid
   abbrev part : Talk
   part = record { sent = take n (frame_text (answer_in last)); came = h.came; closed = false }
 
-  abbrev cut_course : Course
-  cut_course = record {
+  abbrev cut_service : Service
+  cut_service = record {
     hello = hello;
     said = goes_on part t.said;
     jobs = t.jobs ++ last ∷ [];
@@ -39,7 +39,7 @@ module _ (hello : Frame) (old : Scene) (mid new : Desk) (t : Talks hello old mid
     ended = new.site;
   }
 
-  cut_says : IsCutOff cut_course
+  cut_says : IsCutOff cut_service
   cut_says = record {
     said = (
       length (words_of hello t.jobs) + n,
@@ -48,10 +48,10 @@ module _ (hello : Frame) (old : Scene) (mid new : Desk) (t : Talks hello old mid
     still = refl;
   }
 
-  cut_worked : (end : WorkerEnd) → new.channel.link.talk ≡ option_map (goes_on part) mid.channel.link.talk → Ends cut_course end
+  cut_worked : (end : WorkerEnd) → new.channel.link.talk ≡ option_map (goes_on part) mid.channel.link.talk → Ends cut_service end
       → Worked hello old (end_scene new) end
   cut_worked end told ends = record {
-    course = cut_course;
+    service = cut_service;
     speaks = refl;
     told = told ∙ ap (λ told. option_map (goes_on part) told) t.told ∙ goes_further old.link.talk t.said part;
     came = came_more t.jobs last (mid.channel.held ++ h.came) new.channel.held (t.said.came ++ h.came)
@@ -61,7 +61,7 @@ module _ (hello : Frame) (old : Scene) (mid new : Desk) (t : Talks hello old mid
     ends = ends;
   }
 
-  cut_open : IsOpen cut_course
+  cut_open : IsOpen cut_service
   cut_open = ap (λ (b : Bool). b || false) t.unclosed
 
   cut_calm : IsCalmSite old.site new.site
@@ -113,16 +113,16 @@ module _ (hello : Frame) (old : Scene) (n : ℕ) where
   abbrev dumb : Talk
   dumb = record { sent = take n (frame_text hello); came = []; closed = false }
 
-  abbrev dumb_course : Course
-  dumb_course = record { hello = hello; said = dumb; jobs = []; rest = []; served = old.site; ended = old.site }
+  abbrev dumb_service : Service
+  dumb_service = record { hello = hello; said = dumb; jobs = []; rest = []; served = old.site; ended = old.site }
 
-  dumb_says : IsCutOff dumb_course
+  dumb_says : IsCutOff dumb_service
   dumb_says = record { said = (n, ap (λ (bytes : List ℕ). take n bytes) (sym (no_words hello))); still = refl }
 
-  dumb_worked : (link : LinkKnown) (end : WorkerEnd) → link.talk ≡ option_map (goes_on dumb) old.link.talk → Ends dumb_course end
+  dumb_worked : (link : LinkKnown) (end : WorkerEnd) → link.talk ≡ option_map (goes_on dumb) old.link.talk → Ends dumb_service end
       → Worked hello old (scene_of link old.site) end
   dumb_worked link end told ends = record {
-    course = dumb_course;
+    service = dumb_service;
     speaks = refl;
     told = told;
     came = record { each = tt; cut = refl };

@@ -19,7 +19,7 @@ use Rattle.partition_worker.specs.Ends.IsBad.{NoFrame, OfWorkers}
 use Rattle.partition_worker.specs.Jobs.{IsJobFrame, Served}
 use Rattle.partition_worker.specs.Serving.{BreaksOff, IsJob, Site}
 use Rattle.partition_worker.specs.Serving.BreaksOff.{StoreFailed, SpawnerFailed, MemoryOut as OutOfMemory, MemoryOutDriven}
-use Rattle.partition_worker.specs.Talking.{Course}
+use Rattle.partition_worker.specs.Talking.{Service}
 use Rattle.partition_worker.specs.Worked.{IsGoodEnd, IsWholeJob, WholeJobsAreGood}
 use Rattle.partition_worker.specs.Worked.IsGoodEnd.{Nothing, SaysBye}
 
@@ -116,7 +116,7 @@ broke_blames_none job old new end at (SpawnerFailed driven empties spawns is) ba
 broke_blames_none job old new end at (OutOfMemory calm same is) bad = cc
 broke_blames_none job old new end at (MemoryOutDriven driven empties spawns is) bad = cc
 
-good_end : (c : Course) (end : WorkerEnd) (at : ℕ) → IsGoodFront c.rest → Ends c end → end ≡ BadFrame at → ⊥
+good_end : (c : Service) (end : WorkerEnd) (at : ℕ) → IsGoodFront c.rest → Ends c end → end ≡ BadFrame at → ⊥
 good_end c end at front (SaidBye left stands even unclosed is) bad = cc
 good_end c end at front (ClosedBetween none closed even is) bad = cc
 good_end c end at front (ClosedInside some more closed even is) bad = good_not_part c.rest front some more
@@ -127,5 +127,5 @@ good_end c end at front (MemoryOut cut unclosed is) bad = cc
 
 pub whole_jobs_good : WholeJobsAreGood
 whole_jobs_good hello old new end worked sent tail whole cut good at bad =
-    let c = worked.course in
+    let c = worked.service in
     good_end c end at (behind c.jobs c.rest sent tail worked.came.each whole (sym worked.came.cut ∙ cut) good) worked.ends bad

@@ -8,7 +8,7 @@ use Rattle.partition_frames.specs.Reading.{IsRefused, NeedsMore}
 use Rattle.partition_worker.specs.declared.end.WorkerEnd.{WorkerEnd}
 use Rattle.partition_worker.specs.declared.end.WorkerEnd.TheVariants.{Closed, BadFrame, LinkFault, StoreFault, SpawnFault, NoMemory}
 use Rattle.partition_worker.specs.Serving.{IsUnserved}
-use Rattle.partition_worker.specs.Talking.{Course, SaysAll, SaysPart}
+use Rattle.partition_worker.specs.Talking.{Service, SaysAll, SaysPart}
 
 -- where a frame that is none for a worker is refused: at its kind
 abbrev pub at_kind : ℕ
@@ -21,17 +21,17 @@ IsOfWorkers (frames.Verdict number status text) = Unit {0}
 IsOfWorkers frame = ⊥
 
 -- each job that was asked for was served and answered, and nothing was done since
-pub record IsEven (c : Course) : Type 0 where
+pub record IsEven (c : Service) : Type 0 where
   pub said : SaysAll c
   pub still : c.ended ≡ c.served
 
 -- each job was served, of what there was to say a part may have been sent, and nothing was done since
-pub record IsCutOff (c : Course) : Type 0 where
+pub record IsCutOff (c : Service) : Type 0 where
   pub said : SaysPart c
   pub still : c.ended ≡ c.served
 
 -- the peer didn't close
-abbrev pub IsOpen : Course → Type 0
+abbrev pub IsOpen : Service → Type 0
 IsOpen c = c.said.closed ≡ false
 
 -- the bytes behind the jobs are refused, and where
@@ -41,7 +41,7 @@ pub data IsBad (rest : List ℕ) (at : ℕ) : Type 0 where
   -- they begin with a frame that workers send
   OfWorkers : (frame : Frame) (left : List ℕ) → Stands rest frame left → IsOfWorkers frame → at ≡ at_kind → IsBad rest at
 
-pub data Ends (c : Course) (end : WorkerEnd) : Type 0 where
+pub data Ends (c : Service) (end : WorkerEnd) : Type 0 where
   -- the peer said that nothing follows
   SaidBye : (left : List ℕ) → Stands c.rest frames.Bye left → IsEven c → IsOpen c → end ≡ Closed → Ends c end
   -- it closed between frames

@@ -9,7 +9,7 @@ use Rattle.partition_worker.specs.Jobs.{IsJobFrame, Served, answer_in}
 use Rattle.partition_worker.specs.Serving.{Site}
 
 -- what is said over a link, what is served, and what then stands
-pub record Course : Type 0 where
+pub record Service : Type 0 where
   -- who the worker says that it is
   pub hello : Frame
   pub said : Talk
@@ -30,9 +30,9 @@ abbrev pub words_of : Frame → List Served → List ℕ
 words_of hello jobs = frame_text hello ++ flat_map (λ one. frame_text (answer_in one)) jobs
 
 -- all of it was sent
-abbrev pub SaysAll : Course → Type 0
+abbrev pub SaysAll : Service → Type 0
 SaysAll c = c.said.sent ≡ words_of c.hello c.jobs
 
 -- a beginning of it was sent
-abbrev pub SaysPart : Course → Type 0
+abbrev pub SaysPart : Service → Type 0
 SaysPart c = (n : ℕ) × (c.said.sent ≡ take n (words_of c.hello c.jobs))

@@ -16,7 +16,7 @@ use Rattle.partition_worker.specs.declared.end.WorkerEnd.TheVariants.{BadFrame}
 use Rattle.partition_worker.specs.Ends.{Ends, is_link_fault, is_spawn_fault, is_store_fault}
 use Rattle.partition_worker.specs.Jobs.{AreServed}
 use Rattle.partition_worker.specs.Serving.{IsJob, Site, StoreRose, build_in}
-use Rattle.partition_worker.specs.Talking.{Came, Course}
+use Rattle.partition_worker.specs.Talking.{Came, Service}
 
 -- all that a worker works with
 pub record Scene : Type 0 where
@@ -32,13 +32,13 @@ hello_of cookie index = frames.Hello cookie index
 
 -- it said who it is, served one job after another, sent each verdict, and ended in one of the ways
 pub record Worked (hello : Frame) (old new : Scene) (end : WorkerEnd) : Type 0 where
-  pub course : Course
-  pub speaks : course.hello ≡ hello
-  pub told : new.link.talk ≡ option_map (goes_on course.said) old.link.talk
-  pub came : Came course.jobs course.rest course.said.came
-  pub served : AreServed course.jobs old.site course.served
-  pub last : new.site ≡ course.ended
-  pub ends : Ends course end
+  pub service : Service
+  pub speaks : service.hello ≡ hello
+  pub told : new.link.talk ≡ option_map (goes_on service.said) old.link.talk
+  pub came : Came service.jobs service.rest service.said.came
+  pub served : AreServed service.jobs old.site service.served
+  pub last : new.site ≡ service.ended
+  pub ends : Ends service end
 
 -- the store's counts rise where it failed, or a folder of it, and stand still elsewhere
 abbrev pub StoreCounted : Bool → Known → Known → Type 0
@@ -52,14 +52,14 @@ pub record Counts (old new : Scene) (end : WorkerEnd) : Type 0 where
   pub spawner : Counted old.site.spawner.faults new.site.spawner.faults (is_spawn_fault end)
 
 -- no job that came is of this build
-pub record IsUnasked (q : BuildKey) (c : Course) : Type 0 where
+pub record IsUnasked (q : BuildKey) (c : Service) : Type 0 where
   pub jobs : AllByRecursion (λ one. is_same_build (build_in one.job) q ≡ false) c.jobs
   pub next : (job : Frame) (left : List ℕ) → Stands c.rest job left → IsJob job → is_same_build (build_in job) q ≡ false
 
 -- a worker writes into the builds of the apps that it was asked for, and into no other
 abbrev pub OnlyAskedChange : Type 0
 OnlyAskedChange = (hello : Frame) (old new : Scene) (end : WorkerEnd) (worked : Worked hello old new end) (q : BuildKey)
-    → IsUnasked q worked.course → new.site.store.slot q ≡ old.site.store.slot q
+    → IsUnasked q worked.service → new.site.store.slot q ≡ old.site.store.slot q
 
 -- nothing more comes, or a frame that says so
 pub data IsGoodEnd (tail : List ℕ) : Type 0 where
@@ -74,4 +74,4 @@ IsWholeJob frame = IsJob frame × IsFrame frame
 abbrev pub WholeJobsAreGood : Type 0
 WholeJobsAreGood = (hello : Frame) (old new : Scene) (end : WorkerEnd) (worked : Worked hello old new end)
     → (sent : List Frame) (tail : List ℕ) → AllByRecursion IsWholeJob sent
-    → worked.course.said.came ≡ flat_map frame_text sent ++ tail → IsGoodEnd tail → (at : ℕ) → end ≡ BadFrame at → ⊥
+    → worked.service.said.came ≡ flat_map frame_text sent ++ tail → IsGoodEnd tail → (at : ℕ) → end ≡ BadFrame at → ⊥
