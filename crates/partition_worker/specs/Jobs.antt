@@ -3,7 +3,7 @@ use Rattle.std.specs.Prelude.{◌≡◌, List, [], ◌∷◌}
 use Rattle.compile_model.specs.declared.outcome.Verdict.{Verdict}
 use Rattle.partition_frames.specs.declared.frame.Frame.{Frame}
 use Rattle.partition_frames.specs.declared.frame.Frame.TheVariants as frames
-use Rattle.partition_frames.specs.Frame.{IsFrame, frame_text}
+use Rattle.partition_frames.specs.Frame.{IsFrame}
 use Rattle.partition_link.specs.Run.{number_in}
 use Rattle.partition_worker.specs.Serving.{IsJob, IsServed, Site}
 

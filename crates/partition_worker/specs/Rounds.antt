@@ -3,7 +3,6 @@ use Rattle.std.specs.Prelude.{◌≡◌, ℕ, true, nat_eq, List, length, take, 
 use Rattle.mx_base.specs.Causes.{Counted}
 use Rattle.compile_model.specs.declared.outcome.Verdict.{Verdict}
 use Rattle.partition_face.specs.Links.{LinkKnown, with_sent}
-use Rattle.partition_frames.specs.declared.error.FrameError.{FrameError}
 use Rattle.partition_frames.specs.declared.frame.Frame.{Frame}
 use Rattle.partition_frames.specs.declared.frame.Frame.TheVariants as frames
 use Rattle.partition_frames.specs.Frame.{frame_text}
@@ -13,7 +12,7 @@ use Rattle.partition_link.specs.Channel.{Channel, Hears, channel_of}
 use Rattle.partition_worker.specs.declared.end.WorkerEnd.{WorkerEnd}
 use Rattle.partition_worker.specs.declared.end.WorkerEnd.TheVariants.{Closed, BadFrame, LinkFault, NoMemory}
 use Rattle.partition_worker.specs.Ends.{IsOfWorkers, at_kind}
-use Rattle.partition_worker.specs.Jobs.{Served, answer_in}
+use Rattle.partition_worker.specs.Jobs.{answer_in}
 use Rattle.partition_worker.specs.Serving.{IsJob, IsServed, IsUnserved, Site}
 
 -- ---- a frame is sent

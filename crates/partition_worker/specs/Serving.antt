@@ -1,5 +1,5 @@
 -- What serving one job comes to: its verdict, and what then stands in the build of its app.
-use Rattle.std.specs.Prelude.{◌≡◌, ◌⊎◌, Bool, true, false, [], Ok, Err, IsFalse}
+use Rattle.std.specs.Prelude.{◌≡◌, ◌⊎◌, [], Ok, Err, IsFalse}
 use Rattle.mx_base.specs.Causes.{Rose}
 use Rattle.mx_base.specs.Layout.{is_in_build}
 use Rattle.compile_model.specs.declared.how.How.{How}

@@ -3,7 +3,6 @@ use Rattle.std.specs.Prelude.{◌≡◌, ℕ, List, ◌++◌, flat_map, take}
 use Rattle.std.specs.List.{AllByRecursion}
 use Rattle.partition_face.specs.Links.{Talk}
 use Rattle.partition_frames.specs.declared.frame.Frame.{Frame}
-use Rattle.partition_frames.specs.declared.frame.Frame.TheVariants as frames
 use Rattle.partition_frames.specs.Frame.{frame_text}
 use Rattle.partition_worker.specs.Jobs.{IsJobFrame, Served, answer_in}
 use Rattle.partition_worker.specs.Serving.{Site}
