@@ -1,4 +1,4 @@
-use Rattle.std.proofs.Common.{rules, ◌≡◌, inl, List, refl, ◌∙◌, ap, subst}
+use Rattle.std.proofs.Common.{rules, inl, List, refl, ◌∙◌, ap, subst}
 use Rattle.mx_base.specs.Blame.{is_outside}
 use Rattle.compile_model.specs.declared.outcome.Fate.{Fate}
 use Rattle.compile_model.specs.declared.seq.SeqFault.{SeqFault}

@@ -1,4 +1,4 @@
-use Rattle.std.proofs.Common.{◌≡◌, ℕ, List, get_or, slice_get, Option, Some, refl, sym, ◌∙◌, ap, subst}
+use Rattle.std.proofs.Common.{◌≡◌, ℕ, List, get_or, slice_get, Some, refl, sym, ◌∙◌, ap, subst}
 use Rattle.std.proofs.lemmas.Option.{slice_get_read}
 use Rattle.build_manifest.specs.MarkOf.{mark_of}
 use Rattle.build_manifest.specs.Text.{Spells}
@@ -7,7 +7,6 @@ use Rattle.compile_model.specs.declared.outcome.Fate.{Fate}
 use Rattle.compile_model.specs.declared.outcome.Fate.TheVariants.{Built}
 use Rattle.compile_model.specs.declared.outcome.Outcome.{Outcome}
 use Rattle.compile_model.specs.Seq.{outcomes_of}
-use Rattle.kept_tree.specs.Tree.{IsBuiltAt}
 use Rattle.partition_crew.proofs.Planning.{planned_differ}
 use Rattle.mix_plain.proofs.FillLemmas.{empty_before, never_built, tree_filled, tree_skips}
 use Rattle.mix_plain.proofs.PutLemmas.{fills_job}

@@ -1,5 +1,4 @@
-use Rattle.std.proofs.Common.{length, List, ℕ, sym, ◌∙◌, ap}
-use Rattle.compile_model.specs.declared.outcome.Outcome.{Outcome}
+use Rattle.std.proofs.Common.{length, sym, ◌∙◌, ap}
 use Rattle.compile_model.specs.Seq.{outcomes_of}
 use Rattle.compile_model.proofs.SeqLemmas.{one_outcome_each}
 use Rattle.mix_plain.proofs.fill.mark_text.Goals as goal
