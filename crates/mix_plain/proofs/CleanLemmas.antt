@@ -1,5 +1,5 @@
 -- How cleaning ends.
-use Rattle.std.proofs.Common.{◌≡◌, ℕ, List, Result, Err}
+use Rattle.std.proofs.Common.{◌≡◌, ℕ, List, Err}
 use Rattle.tree_store.specs.Known.{Known}
 use Rattle.kept_tree.specs.declared.fault.KeptFault.{KeptFault}
 use Rattle.kept_tree.specs.declared.fault.KeptFault.TheVariants.{Read, Tree, OutOfMemory}

@@ -1,5 +1,5 @@
 -- The tree of the first jobs, one job more.
-use Rattle.std.proofs.Common.{◌≡◌, ◌≢◌, ◌⊎◌, inl, inr, ℕ, zero, suc, ◌+◌, ◌<◌, ◌≤◌, Bool, true, false, cond, List, [], ◌∷◌, length, take, get_or, Option, Some, None, option_map, Result, Ok, Err, OnOk, slice_get, refl, sym, ◌∙◌, ap, subst, arith}
+use Rattle.std.proofs.Common.{◌≡◌, ◌⊎◌, inl, inr, ℕ, zero, suc, ◌+◌, ◌<◌, ◌≤◌, Bool, true, false, cond, List, [], ◌∷◌, length, take, Some, None, Result, Ok, Err, OnOk, slice_get, refl, sym, ◌∙◌, ap, subst, arith}
 use Rattle.std.proofs.lemmas.Bool.{cases_eq, cases_lt}
 use Rattle.std.proofs.lemmas.Option.{get_or_from_slice_get, slice_get_within}
 use Rattle.mx_base.specs.declared.file.File.{File}
@@ -20,7 +20,6 @@ use Rattle.tree_store.specs.Slot.{Slot, ChangesSlot, changed_slot, emptied_slot}
 use Rattle.tree_store.specs.Slot.Slot.{Here, Out}
 use Rattle.tree_store.proofs.OrderLemmas.{same_name, ties_itself}
 use Rattle.tree_store.proofs.StoreLemmas.{is_same, same_key}
-use Rattle.kept_tree.specs.Clearing.{is_in_env}
 use Rattle.kept_tree.specs.Tree.{HoldsApp, HoldsAppAt, HoldsOutcome, IsBuiltAt, IsTree}
 use Rattle.mix_plain.specs.Filling.{IsEmptyIn, first_of}
 

@@ -15,7 +15,7 @@ use Rattle.build_manifest.specs.Text.{Spells}
 use Rattle.tree_store.specs.declared.holding.Holding.{Holding}
 use Rattle.tree_store.specs.declared.key.BuildKey.{BuildKey}
 use Rattle.tree_store.specs.Holding.{only_files}
-use Rattle.tree_store.specs.Moment.{Part, leaves}
+use Rattle.tree_store.specs.Moment.{leaves}
 use Rattle.tree_store.specs.Moment.Write.{Mark}
 use Rattle.tree_store.specs.Slot.{Slot}
 use Rattle.tree_store.specs.Slot.Slot.{Here, Out}

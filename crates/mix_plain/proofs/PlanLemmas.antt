@@ -24,7 +24,7 @@ use Rattle.mix_answer.specs.Texts.{refusal_line}
 use Rattle.mix_plain.specs.Compile.{Compiles}
 use Rattle.mix_plain.specs.Compile.Compiles.{refused, unread, unplanned}
 use Rattle.mix_plain.specs.Site.{passage_of, site_of}
-use Rattle.mix_plain.specs.Tells.{IsUnread, Tells}
+use Rattle.mix_plain.specs.Tells.{Tells}
 use Rattle.mix_plain.specs.Tells.IsUnread.{store, folder}
 use Rattle.mix_plain.specs.Tells.Tells.{refused as untold, unread as unseen, no_memory as forgotten}
 

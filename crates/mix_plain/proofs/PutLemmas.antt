@@ -15,7 +15,7 @@ use Rattle.tree_store.specs.declared.store.StoreFault.{StoreFault}
 use Rattle.tree_store.specs.FolderKnown.{FolderKnown, IsBare, StopsIn, Writes}
 use Rattle.tree_store.specs.Holding.{marked, nothing, only_files, with_all}
 use Rattle.tree_store.specs.Key.{is_same_build}
-use Rattle.tree_store.specs.Moment.{Part, leaves}
+use Rattle.tree_store.specs.Moment.{leaves}
 use Rattle.tree_store.specs.Moment.Write.{Mark}
 use Rattle.tree_store.specs.Slot.{Slot, SetsSlot, emptied_slot}
 use Rattle.tree_store.specs.Slot.Slot.{Here, Out}

@@ -1,5 +1,5 @@
 -- From the plan to the tree.
-use Rattle.std.proofs.Common.{◌≡◌, ℕ, Bool, true, false, cond, List, [], length, Option, Some, None, Result, Err, refl, sym, ◌∙◌, ap, subst}
+use Rattle.std.proofs.Common.{◌≡◌, ℕ, Bool, cond, List, [], length, Some, None, Err, refl, sym, ◌∙◌, ap, subst}
 use Rattle.mx_base.specs.Causes.{Rose}
 use Rattle.compile_model.specs.declared.job.Plan.{Plan}
 use Rattle.compile_model.specs.declared.outcome.Fate.{Fate}
@@ -13,10 +13,9 @@ use Rattle.tree_store.specs.Slot.{Slot, emptied_slot}
 use Rattle.tree_store.specs.Slot.Slot.{Here, Out}
 use Rattle.kept_tree.specs.declared.fault.KeptFault.{KeptFault}
 use Rattle.kept_tree.specs.declared.fault.KeptFault.TheVariants.{Read, Tree, OutOfMemory}
-use Rattle.kept_tree.specs.Clearing.{Clears, ClearsPartly, is_apart, is_in_env}
+use Rattle.kept_tree.specs.Clearing.{Clears, is_apart}
 use Rattle.kept_tree.specs.Faults.{CountsWrites}
 use Rattle.kept_tree.specs.Tree.{IsTree}
-use Rattle.kept_tree.proofs.ClearLemmas.{same_partly}
 use Rattle.mix_report.specs.Report.{report}
 use Rattle.mix_answer.specs.declared.status.Status.{Status}
 use Rattle.mix_answer.specs.declared.stop.Stop.TheVariants.{Memory}
